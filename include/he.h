@@ -118,7 +118,7 @@ struct he_step {
     uint64_t tick;
     uint64_t pause_from;  /* where pause_until is not 0: write the line `pause FROM UNTIL` into the record */
     uint64_t pause_until;
-    uint8_t address[16];  /* of a start, the first byte first: 4 bytes of an IPv4 address, 16 of an IPv6 one */
+    uint8_t address[16];  /* of a start, the first byte first: 4 bytes of an IPv4 address, 16 of an IPv6 one; else 0 */
 };
 
 /* Tells what is due at tick `now` in the race that `record` has so far, of which `started` attempts were started.
@@ -139,7 +139,8 @@ struct he_step {
  * before `now`. A pause is told just where that attempt starts before `now`: from there to `now`. A tick past the
  * race's limit counts as the one behind it. And of races that are run by such steps, whatever answers, ends and pauses
  * are written down meanwhile, each after the last start: the attempts that were started are those of the transcript
- * that the ended record has. (Of records in which `rtt` and `used` lines, if any, stand from the beginning.)
+ * that the ended record has. With an answer lines `rtt` and `used` of its addresses may come, in the order of these,
+ * and lines `source` and `route` of its family, after those that are there.
  *
  * Answers HE_DONE; HE_FAULT, where the record, ended, has a fault, or cannot have the pause that it must have;
  * HE_NOT_ONE; or HE_NO_MEMORY. `told` has a fault's line and kind, and a length of 0.

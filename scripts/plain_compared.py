@@ -37,10 +37,10 @@ def ending(report):
 
 
 def spread(apart):
-    """The median (of the two middle ones their middle, rounded down) and the greatest of numbers in order."""
+    """The median (the least within which half of them lie) and the greatest of numbers in order."""
     if not apart:
         return "no race was won both ways"
-    middle = (apart[(len(apart) - 1) // 2] + apart[len(apart) // 2]) // 2
+    middle = next(time for time in apart if 2 * sum(other <= time for other in apart) >= len(apart))
     return f"difference where both won: median {middle} ms, greatest {apart[-1]} ms"
 
 

@@ -33,9 +33,9 @@ def answer_row(race, name, end):
     seen, usable = race.seen(reply.tick), f"{len(race.usable(name))} usable"
     delay_end = reply.tick + race.setting("resolution")
     if name == "a" and race.usable("a") and seen < delay_end and not race.is_seen("aaaa", seen):
-        # It waits for the AAAA answer: to its coming, or to the end of the Resolution Delay.
+        # It waits for the AAAA answer: to its coming, or to the end of the Resolution Delay or of the race.
         aaaa = race.answers.get("aaaa")
-        stop = delay_end if aaaa is None else min(race.seen(aaaa.tick), delay_end)
+        stop = min(delay_end, end) if aaaa is None else min(race.seen(aaaa.tick), delay_end, end)
         return Row(label, seen, stop, "answer", "wait", "wait", f"{seen}-{stop} ms wait, {usable}")
     return Row(label, seen, seen, "answer", "answer", "answer", f"{seen} ms, {usable}")
 

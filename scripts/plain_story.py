@@ -101,22 +101,30 @@ def first_cause(race, tick):
     return Cause("both answers are there", max(tick_of(race, "aaaa"), tick_of(race, "a")))
 
 
+def failure(race, line):
+    """The tick at which an attempt fails by itself, if it does by the limit."""
+    kind, duration = race.outcomes.get(line.address, (None, 0))
+    tick = line.start + duration
+    return tick if kind == "fail" and tick <= race.setting("limit") else None
+
+
 def later_cause(race, before, line):
-    """The cause of an attempt behind others: what came at its tick, and not earlier."""
+    """The cause of an attempt after others: what came last of all that it needed."""
     last, delay, floor = before[-1], race.setting("attempt"), race.setting("floor")
-    name = "aaaa" if line.address.family == 6 else "a"
-    answer = Cause(f"it came with the {NAMES[name]} answer", tick_of(race, name))
+    failures = [failure(race, other) for other in before]
+    # From these ticks on the last attempt has been waited for: for the delay, or for the floor where all have failed.
+    waited = [last.start + delay]
+    if floor is not None and None not in failures:
+        waited.append(max(last.start + floor, *failures))
+    if any(race.seen(tick) < line.start for tick in waited):
+        name = "aaaa" if line.address.family == 6 else "a"
+        return Cause(f"it came with the {NAMES[name]} answer", tick_of(race, name))
     if line.start >= last.start + delay:
-        if race.seen(last.start + delay) < line.start:
-            return answer
         return Cause(f"{delay} ms after the start of attempt {last.place + 1}", last.start + delay)
-    # Before that, since a floor is over and all that were made have failed.
-    failed, over = max(race.outcomes[other.address][1] + other.start for other in before), last.start + floor
-    if race.seen(max(failed, over)) < line.start:
-        return answer
-    if failed > over:
-        return Cause(f"all before have failed, the last one at {failed} ms", failed)
-    return Cause(f"all before have failed, and the floor of {floor} ms after attempt {last.place + 1} is over", over)
+    if max(failures) > last.start + floor:
+        return Cause("all before have failed", max(failures))
+    return Cause(f"all before have failed, and the floor of {floor} ms after attempt {last.place + 1} is over",
+                 last.start + floor)
 
 
 def listed(race, line):
@@ -178,7 +186,8 @@ def events(race, report):
     """All up to the race's end by tick, those of one tick in this order."""
     over = {"exhausted": "nothing is left to try", "limit": "the limit: the race is given up"}
     kind, _, tick = report.result
-    told = [(start, f"pause: the client sees and starts nothing until {end} ms") for start, end in race.pauses]
+    told = [(start, f"pause: the client sees and starts nothing until {end} ms") for start, end in race.pauses
+            if start < tick]
     told += answers(race) + waits(race) + ends(report, "failed")
     told += [(line.start, started(race, report.lines[:line.place], line)) for line in report.lines]
     told += ends(report, "won") if kind == "won" else [(tick, over[kind])]

@@ -17,7 +17,7 @@ from plain import counted, print_address
 MOST_TOLD = 10
 PERCENTS = {"median": 50, "p90": 90, "p99": 99, "greatest": 100}
 
-Summary = namedtuple("Summary", "races won kinds times attempts most waited lost tried")
+Summary = namedtuple("Summary", "races won kinds times attempts most waited failed silent tried")
 
 
 def percentile(times, percent):
@@ -25,14 +25,24 @@ def percentile(times, percent):
     return next(time for time in sorted(times) if 100 * sum(other <= time for other in times) >= percent * len(times))
 
 
-def is_lost(race, line):
-    """Whether an attempt failed, or was silent up to the race's end."""
-    return line.fate == "failed" or line.fate == "cancelled" and line.address not in race.outcomes
+def is_failed(_, line):
+    return line.fate == "failed"
+
+
+def is_silent(race, line):
+    """Whether an attempt was under way up to the race's end, for the Connection Attempt Delay or longer, to an address
+    that does nothing."""
+    return (line.fate == "cancelled" and line.address not in race.outcomes
+            and line.tick - line.start >= race.setting("attempt"))
 
 
 def has_waited(race, report):
-    """Whether its first attempt starts with no AAAA answer, at the end of the Resolution Delay (RFC 8305 section 3)."""
-    return bool(report.lines) and not race.is_seen("aaaa", report.lines[0].start)
+    """Whether its first attempt starts with no AAAA answer, after the A answer: it waited for the Resolution Delay
+    (RFC 8305 section 3)."""
+    if not report.lines:
+        return False
+    start = report.lines[0].start
+    return not race.is_seen("aaaa", start) and race.is_seen("a", start - 1)
 
 
 def summed(races, changes):
@@ -43,16 +53,14 @@ def summed(races, changes):
         len(made), Counter(report.lines[report.result.place].address.family for report in won),
         Counter(report.result.kind for _, report in made), [report.result.tick for report in won], len(lines),
         max((len(report.lines) for _, report in made), default=0), sum(has_waited(*one) for one in made),
-        Counter(line.address for race, line in lines if is_lost(race, line)),
+        *(Counter(line.address for race, line in lines if test(race, line)) for test in (is_failed, is_silent)),
         Counter(line.address for _, line in lines))
 
 
 def worst(summary):
     """The addresses to which most attempts failed or were silent, those with as many by their number as IPv6 addresses."""
-    def rank(address):
-        return -summary.lost[address], plain.mapped(address)
-
-    return sorted(summary.lost, key=rank)[:MOST_TOLD]
+    lost = summary.failed + summary.silent
+    return sorted(lost, key=lambda address: (-lost[address], plain.mapped(address)))[:MOST_TOLD]
 
 
 def percentiles(summary):
@@ -70,15 +78,16 @@ def as_text(summary):
         f"attempts: {summary.attempts}, at most {summary.most} in a race",
         f"the Resolution Delay was waited out in {counted(summary.waited, 'race')}",
     ]
-    lines += ["failed or silent most often:"] if summary.lost else []
-    lines += [f"  {summary.lost[address]} of {counted(summary.tried[address], 'attempt')} to {print_address(address)}"
-              for address in worst(summary)]
+    addresses = worst(summary)
+    lines += ["failed or silent most often:"] if addresses else []
+    lines += [f"  {summary.failed[address]} failed, {summary.silent[address]} silent of"
+              f" {counted(summary.tried[address], 'attempt')} to {print_address(address)}" for address in addresses]
     return "".join(f"{line}\n" for line in lines)
 
 
 def as_json(summary):
-    failing = [{"address": print_address(address), "failed": summary.lost[address],
-                "attempts": summary.tried[address]} for address in worst(summary)]
+    failing = [{"address": print_address(address), "failed": summary.failed[address],
+                "silent": summary.silent[address], "attempts": summary.tried[address]} for address in worst(summary)]
     return json.dumps({
         "races": summary.races, "won": {"ipv6": summary.won[6], "ipv4": summary.won[4]},
         "exhausted": summary.kinds["exhausted"], "limit": summary.kinds["limit"], "connect_ms": percentiles(summary),

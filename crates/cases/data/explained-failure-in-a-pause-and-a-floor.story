@@ -8,7 +8,7 @@ what happened:
    20 ms  attempt 1 to 2001:db8:1::1: the AAAA answer is there; number 1 of 2 known, IPv6 first
    70 ms  pause: the client sees and starts nothing until 100 ms
   100 ms  attempt 1 failed after 80 ms
-  100 ms  attempt 2 to 198.51.100.1: all before have failed, the last one at 80 ms, late because of a pause; number 2 of 2 known, IPv6 and IPv4 in turn
+  100 ms  attempt 2 to 198.51.100.1: all before have failed, late because of a pause; number 2 of 2 known, IPv6 and IPv4 in turn
   105 ms  attempt 2 failed after 5 ms
   105 ms  nothing is left to try
 80 ms passed between the A answer and the first attempt at one of its addresses

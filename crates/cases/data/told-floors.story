@@ -10,7 +10,7 @@ what happened:
    80 ms  attempt 1 failed after 60 ms
   120 ms  attempt 2 to 198.51.100.1: all before have failed, and the floor of 100 ms after attempt 1 is over; number 2 of 3 known, IPv6 and IPv4 in turn
   250 ms  attempt 2 failed after 130 ms
-  250 ms  attempt 3 to 198.51.100.2: all before have failed, the last one at 250 ms; number 3 of 3 known, IPv4 alone is left
+  250 ms  attempt 3 to 198.51.100.2: all before have failed; number 3 of 3 known, IPv4 alone is left
   280 ms  attempt 3 connected after 30 ms
 100 ms passed between the A answer and the first attempt at one of its addresses
 

@@ -11,8 +11,23 @@ he: line 3: warning: this race has no aaaa line, so it can't be exhausted: for a
 he: line 3: warning: this race has no a line, so it can't be exhausted: for an answer without an address write `a TICK none`
 ";
 
+const HALF_HOST: &[u8] = b"race 1
+set limit 300
+source 192.0.2.2/24 1
+aaaa 0 2001:db8:1::1
+a 10 198.51.100.1
+connect 198.51.100.1 fail 291
+end
+";
+
+const HALF_HOST_WARNED: &[u8] =
+    b"he: line 1: warning: the host of this race has an IPv4 source and no IPv4 route, so it reaches no IPv4 address: write a route, as `route 0.0.0.0/0 1`
+he: line 1: warning: the host of this race has no IPv6 source, so it reaches no address of the aaaa line: write its IPv6 addresses, or `aaaa TICK none`
+he: line 1: warning: an outcome of an IPv4 address of this race comes after its limit and is never seen: set a higher limit, or a shorter time
+";
+
 /// Those that check it.
-pub static CHECK_ROWS: [Row; 17] = [
+pub static CHECK_ROWS: [Row; 18] = [
     (
         &["he", "check"],
         TEXT,
@@ -28,6 +43,14 @@ pub static CHECK_ROWS: [Row; 17] = [
         0,
         b"2 races, 4 lines\n",
         TWO_RACES_WARNED,
+    ),
+    (
+        &["he", "check"],
+        HALF_HOST,
+        Streams::Whole,
+        0,
+        b"1 race, 7 lines\n",
+        HALF_HOST_WARNED,
     ),
     (
         &["he", "check"],

@@ -7,7 +7,7 @@ use futures::Future;
 use futures::task::{Context, Poll, Solo};
 use he_addr::{Family, Ip, Memory};
 use he_plan::{Transcript, transcript_of};
-use he_race::{AnswerSource, Known, RaceFault, Raced, ResolvingRace, Scripted, TickFault, Ticker};
+use he_race::{Answer, AnswerSource, Known, RaceFault, Raced, ResolvingRace, Scripted, TickFault, Ticker};
 use he_timeline::{Timeline, TimelineBuilder};
 use std::alloc::Global;
 use std::mem::drop;
@@ -144,7 +144,7 @@ impl AnswerSource for Replies {
 
     ghost hears = { λ _ _ _ _ _. ⊤ };
 
-    fn poll_answer(&mut self, family: Family, now: u64, cx: &mut Context<'_>) -> Poll<Vec<Known>> {
+    fn poll_answer(&mut self, family: Family, now: u64, cx: &mut Context<'_>) -> Poll<Answer> {
         match family {
             Family::V6 => tell(&mut self.six, now, cx),
             Family::V4 => tell(&mut self.four, now, cx),
@@ -153,12 +153,12 @@ impl AnswerSource for Replies {
 }
 
 // Tells the answer, where its tick has come.
-fn tell(reply: &mut Option<Reply>, now: u64, cx: &mut Context<'_>) -> Poll<Vec<Known>>
+fn tell(reply: &mut Option<Reply>, now: u64, cx: &mut Context<'_>) -> Poll<Answer>
     ensures waits { OnPending result (IsArmed cx.new) }
     ensures kept { Keeps cx.old cx.new }
 {
     match reply.take() {
-        Some(told) if told.tick <= now => Poll::Ready(told.addresses),
+        Some(told) if told.tick <= now => Poll::Ready(Answer::without_lines(told.addresses)),
         waits => {
             *reply = waits;
             cx.yield_now()

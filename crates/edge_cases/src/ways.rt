@@ -42,7 +42,10 @@ fn read_way(line: &[u8]) -> Option<Way> {
         return None;
     }
     let to = read_ip(field(line, 1)?)?;
-    Some(Way::new(to, read_ip(field(line, 2)?)))
+    Some(Way {
+        to,
+        from: read_ip(field(line, 2)?),
+    })
 }
 
 /// The lines of the machine, and after them a line `unsaid DESTINATION` for each destination for which the rules take

@@ -25,17 +25,24 @@ abbrev pub bytes_of : Ip → List ℕ
 bytes_of (families.V4 bits) = to_be_bytes w32 bits ++ replicate 12 0
 bytes_of (families.V6 bits) = to_be_bytes w128 bits
 
+abbrev pub no_address : List ℕ
+no_address = replicate 16 0
+
+-- an action that starts no attempt has neither family nor address
+abbrev pub StartsNone : StepNumbers → Type 0
+StartsNone step = (step.family ≡ 0) × (step.address ≡ no_address)
+
 -- the numbers of an action; what it has not is 0
 abbrev pub ActsAs : Action → StepNumbers → Type 0
 ActsAs (actions.Start place tick ip) step =
     (step.action ≡ START) × (step.place ≡ place) × (step.tick ≡ tick) × (step.family ≡ family_of ip)
     × (step.address ≡ bytes_of ip)
-ActsAs (actions.Wait tick) step = (step.action ≡ WAIT) × (step.place ≡ 0) × (step.tick ≡ tick) × (step.family ≡ 0)
+ActsAs (actions.Wait tick) step = (step.action ≡ WAIT) × (step.place ≡ 0) × (step.tick ≡ tick) × StartsNone step
 ActsAs (actions.Won place tick) step =
-    (step.action ≡ WON) × (step.place ≡ place) × (step.tick ≡ tick) × (step.family ≡ 0)
+    (step.action ≡ WON) × (step.place ≡ place) × (step.tick ≡ tick) × StartsNone step
 ActsAs (actions.Exhausted tick) step =
-    (step.action ≡ EXHAUSTED) × (step.place ≡ 0) × (step.tick ≡ tick) × (step.family ≡ 0)
-ActsAs (actions.Limit tick) step = (step.action ≡ LIMIT) × (step.place ≡ 0) × (step.tick ≡ tick) × (step.family ≡ 0)
+    (step.action ≡ EXHAUSTED) × (step.place ≡ 0) × (step.tick ≡ tick) × StartsNone step
+ActsAs (actions.Limit tick) step = (step.action ≡ LIMIT) × (step.place ≡ 0) × (step.tick ≡ tick) × StartsNone step
 
 -- the numbers of a pause; both are 0 where there is none
 abbrev pub PausesAs : Option Pause → StepNumbers → Type 0
@@ -51,7 +58,7 @@ no_step = record {
   tick = 0;
   pause_from = 0;
   pause_until = 0;
-  address = replicate 16 0;
+  address = no_address;
 }
 
 -- the numbers are those of the record's step

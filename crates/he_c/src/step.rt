@@ -1,7 +1,7 @@
 // A step of a race that is being run, by numbers.
 
 ghost use Rattle.std.specs.Prelude.{◌≡◌};
-ghost use Rattle.he_c.specs.Steps.{ActsAs, PausesAs, bytes_of, family_of};
+ghost use Rattle.he_c.specs.Steps.{ActsAs, PausesAs, StartsNone, bytes_of, family_of};
 
 use crate::codes::{EXHAUSTED, LIMIT, START, WAIT, WON};
 use he_addr::Ip;
@@ -22,7 +22,7 @@ pub struct StepNumbers {
     /// The pause that the record has from now on, or 0 and 0.
     pub pause_from: u64,
     pub pause_until: u64,
-    /// The address at which an attempt starts, its first byte first.
+    /// The address at which an attempt starts, its first byte first; else 0.
     pub address: [u8; 16],
 }
 
@@ -74,7 +74,7 @@ fn plain(action: u32, place: u64, tick: u64) -> StepNumbers
     ensures action { result.action ≡ action }
     ensures place { result.place ≡ place }
     ensures tick { result.tick ≡ tick }
-    ensures family { result.family ≡ 0 }
+    ensures none { StartsNone result }
     ensures from { result.pause_from ≡ 0 }
     ensures until { result.pause_until ≡ 0 }
 {

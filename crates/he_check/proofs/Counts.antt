@@ -1,33 +1,44 @@
--- One race more of an input that is checked, its warnings, and how its reading ends.
-use Rattle.std.proofs.Common.{ℕ, ◌≡◌, ◌+◌, ◌-◌, ◌≤◌, ◌==◌, ◌^◌, List, [], ◌∷◌, ◌++◌, length, map, take, drop, Bool, true, false, Some, Result, Ok, Err, sym, subst, subst₂, refl, ◌∙◌, ap, append_assoc, arith, inl, inr, length-append, length-take, length-drop, take-append-drop, take-take, vec_len}
-use Rattle.std.specs.List.{slice_range}
-use Rattle.std.specs.Prelude.{IfErr, IfOk, OnOk}
-use Rattle.std.proofs.lemmas.List.{append-nil, take-append-le, take_all}
+-- How far a check has come after a step: a race that was passed, a fault, or bytes in which no race begins.
+use Rattle.std.proofs.Common.{ℕ, ◌≡◌, ◌⊎◌, ◌+◌, ◌-◌, ◌<◌, ◌≤◌, Bool, true, false, List, [], ◌∷◌, ◌++◌, length, take, drop, Option, Some, None, IfSome, refl, sym, subst, subst₂, ◌∙◌, ap, append_assoc, append-nil, length-append, length-take, length-drop, take-append-drop, true≢false, eqb, arith, inl, inr}
+use Rattle.std.specs.List.{slice_get, slice_range}
+use Rattle.std.specs.Option.{option_or}
+use Rattle.std.proofs.lemmas.List.{drop-append-le, drop-drop, take-append-le, take_all}
 use Rattle.std.proofs.lemmas.List.Sums.{count_by-le-length}
 use Rattle.std.proofs.Math.Seq.{take-add}
 use Rattle.he_timeline.specs.Race.{Race}
-use Rattle.he_inputs.specs.Inputs.{AreTexts, HasRaces, IsFaultBehind, line_count}
 use Rattle.he_reading.specs.Text.{IsRaceText}
-use Rattle.he_inputs.specs.RaceReading.{EndsAt, IsReaderFault, IsWithin, MayFollow, PassesRace, ending_of}
-use Rattle.he_inputs.specs.declared.input_fault.InputFault.{InputFault}
-use Rattle.he_inputs.specs.declared.input_fault.InputFault.TheVariants as inputs
+use Rattle.he_reading.specs.Parts.{lines_of}
+use Rattle.he_inputs.specs.Inputs.{AreRaceTexts, HasRaces, IsFaultBehind, line_count}
+use Rattle.he_inputs.specs.RaceReading.{IsReaderFault, MayFollow, PassesRace}
+use Rattle.he_inputs.specs.declared.input_fault.InputFault.TheVariants.{Text}
 use Rattle.he_inputs.specs.declared.race_reader.Ending.{Ending}
 use Rattle.he_inputs.specs.declared.race_reader.Ending.TheVariants as endings
 use Rattle.he_inputs.specs.declared.race_reader.RaceReader.{RaceReader}
-use Rattle.he_inputs.specs.declared.race_reader.RaceReaderFault.{RaceReaderFault}
 use Rattle.he_inputs.specs.declared.race_reader.RaceReaderFault.TheVariants as readers
-use Rattle.he_inputs.specs.declared.stream_fault.StreamFault.{StreamFault}
-use Rattle.he_inputs.specs.declared.stream_fault.StreamFault.TheVariants as checks
-use Rattle.he_inputs.proofs.RaceReadingLaws.{ends_whole, has_none, line_count-append, none_passed, passes_on}
-use Rattle.he_check.specs.Checked.{IsRight, IsWrong}
-use Rattle.he_inputs.specs.StreamFaults.{fault_of_reader}
-use Rattle.he_check.specs.Slips.{AreWarned, HasWarnings, slip_if, warning_at, warnings_of}
-use Rattle.he_check.specs.Steps.{HasCounted, IsHeld, IsWrongIn, TakesChecked}
+use Rattle.he_inputs.proofs.RaceReadingLaws.{AreTexts-snoc, line_count-append}
+use Rattle.he_words.specs.declared.fault.TextFault.{TextFault}
+use Rattle.he_words.specs.declared.fault.TextKind.TheVariants as kinds
+use Rattle.he_check.specs.AllFaults.{AreFaults, AreFaultsBehind, AreSaid, BeginsRace, IsNextRace, fault_text, said_text}
+use Rattle.he_check.specs.Clauses.{hint_of, is_of_words}
+use Rattle.he_check.specs.Slips.{AreWarned, warnings_of}
+use Rattle.he_check.specs.Steps.{AddsFault, AreFaultsAfter, AreFaultsPast, AreLeft, AreWhole, HasTold, IsAt, IsClean, IsEnough, IsFirstIn, IsNew, IsOpen, IsSound, at_front, hint_in}
 use Rattle.he_check.specs.declared.counting.Counted.{Counted}
-use Rattle.he_check.specs.declared.input.Checked.{Checked}
-use Rattle.he_check.specs.declared.slips.Slip.TheVariants.{NoRace}
+use Rattle.he_check.specs.declared.limits.TheConstants.{MOST_TOLD}
+use Rattle.he_check.specs.declared.meant.Meant.{Meant}
+use Rattle.he_check.specs.declared.parts.RestOfInput.{RestOfInput}
 use Rattle.he_check.specs.declared.slips.Warning.{Warning}
-use Rattle.he_check.specs.declared.taking.Held.{Held}
+use Rattle.he_check.proofs.FaultParts.{after_found, fault_stands, past_fault, past_race}
+use Rattle.he_check.proofs.Hints.{FirstFaults, hint_there, words_behind}
+use Rattle.he_check.proofs.NextRaces.{after_more}
+use Rattle.he_check.proofs.WholeLines.{whole_append, whole_race}
+
+-- the bytes up to a place and those behind it
+pub parts_of : (before bytes : List ℕ) (end : ℕ) → (before ++ take end bytes) ++ drop end bytes ≡ before ++ bytes
+parts_of before bytes end = append_assoc before (take end bytes) (drop end bytes) ∙ ap (λ (b : List ℕ). before ++ b) (take-append-drop end bytes)
+
+some_as : {X : Type 0} (o : Option X) (P Q : X → Type 0) → ((x : X) → P x → Q x) → IfSome o P → IfSome o Q
+some_as None P Q each is = tt
+some_as (Some x) P Q each is = each x is
 
 -- one race more behind the others, with its warnings behind theirs
 warned_on : (lines : ℕ) (races : List Race) (text : List ℕ) (warnings : List Warning) → AreWarned lines races text warnings
@@ -55,200 +66,409 @@ warned_on lines (one ∷ races) text warnings (first, more, later, split, read, 
       warned_on (lines + line_count first) races more later rest race last is line behind,
     )
 
--- up to the end of a range: up to its start, and the range
-take_to : (input : List ℕ) (from end : ℕ) → from ≤ end → take end input ≡ take from input ++ slice_range input from end
-take_to input from end le =
-    let sum : end ≡ from + (end - from) = omega arith in
-    ap (λ (n : ℕ). take n input) sum ∙ take-add from (end - from) input
+-- one fault more is said
+said_on : (input : List ℕ) (faults : List TextFault) (text new : List ℕ) (fault : TextFault) (said : List ℕ) → AreSaid input faults text → new ≡ text ++ fault_text input fault said → AreSaid input (faults ++ fault ∷ []) new
+said_on input [] text new fault said none longer =
+    let told = fault_text input fault said in
+    (said, [], longer ∙ ap (λ (t : List ℕ). t ++ told) none ∙ sym (append-nil told), refl)
+said_on input (one ∷ faults) text new fault said (words, later, is, are) longer =
+    let told = fault_text input fault said in
+    (words, later ++ told, longer ∙ ap (λ (t : List ℕ). t ++ told) is ∙ append_assoc (fault_text input one words) later told, said_on input faults later (later ++ told) fault said are refl)
 
-pub one_more : (input : List ℕ) (old new : RaceReader) (warnings more : List Warning) (line : ℕ) (race : Race) → HasCounted input old warnings → line ≡ old.lines + 1
-    → IsWithin input new → PassesRace input old new race → more ≡ warnings ++ warnings_of line race → HasCounted input new more
-one_more input old new warnings more line race before at within passes longer =
-    let races = before.races ++ race ∷ [] in
-    let split : take new.end input ≡ take old.end input ++ slice_range input old.end new.end = take_to input old.end new.end (let past = passes.past in omega arith) in
-    let Warned : List ℕ → Type 0 = λ text. AreWarned 0 races text (warnings ++ warnings_of line race) in
-    let lined = before.passed.lined in
-    let warned = subst Warned (sym split)
-    (warned_on 0 before.races (take old.end input) warnings before.warned race (slice_range input old.end new.end) passes.read line (omega arith)) in
-    record {
-      races = races;
-      passed = passes_on input 0 0 before.races old new race before.passed passes;
-      few = within.few;
-      warned = subst (λ (w : List Warning). AreWarned 0 races (take new.end input) w) (sym longer) warned;
+-- the first of the faults are said, one more among them where it is one of the first
+first_said : (input : List ℕ) (faults : List TextFault) (fault : TextFault) (count : ℕ) (text new : List ℕ) (meant : Option Meant) → count ≡ length faults → meant ≡ hint_of input fault → AreSaid input (take MOST_TOLD faults) text
+    → ((count + 1 ≤ MOST_TOLD) × (said : List ℕ) × (new ≡ text ++ said_text fault said meant)) ⊎ ((MOST_TOLD ≤ count) × (new ≡ text)) → AreSaid input (take MOST_TOLD (faults ++ fault ∷ [])) new
+first_said input faults fault count text new meant counted hint said (inl (few, words, is)) =
+    let longer = length-append faults (fault ∷ []) in
+    let before : take MOST_TOLD faults ≡ faults = take_all MOST_TOLD faults (omega (arith, few, counted)) in
+    let after : take MOST_TOLD (faults ++ fault ∷ []) ≡ faults ++ fault ∷ [] = take_all MOST_TOLD (faults ++ fault ∷ []) (omega (arith, few, counted, longer)) in
+    let here : new ≡ text ++ fault_text input fault words = is ∙ ap (λ (m : Option Meant). text ++ said_text fault words m) hint in
+    subst (λ (f : List TextFault). AreSaid input f new) (sym after) (said_on input faults text new fault words (subst (λ (f : List TextFault). AreSaid input f text) before said) here)
+first_said input faults fault count text new meant counted hint said (inr (full, same)) =
+    let before : take MOST_TOLD (faults ++ fault ∷ []) ≡ take MOST_TOLD faults = take-append-le MOST_TOLD faults (fault ∷ []) (omega (arith, full, counted)) in
+    subst₂ (λ (f : List TextFault) (t : List ℕ). AreSaid input f t) (sym before) (sym same) said
+
+first_on : (faults : List TextFault) (fault : TextFault) → slice_get (faults ++ fault ∷ []) 0 ≡ option_or (slice_get faults 0) (Some fault)
+first_on [] fault = refl
+first_on (one ∷ faults) fault = refl
+
+added : (o : Option TextFault) (fault : TextFault) (P : TextFault → Type 0) → IfSome o P → (o ≡ None → P fault) → IfSome (option_or o (Some fault)) P
+added None fault P is own = own refl
+added (Some one) fault P is own = is
+
+pub never_none : (o : Option TextFault) (fault : TextFault) → option_or o (Some fault) ≡ None → ⊥
+never_none None fault is = cc
+never_none (Some one) fault is = cc
+
+-- the line of a fault of its words is one behind which another stands
+words_left : FirstFaults → (races lines : ℕ) (text : List ℕ) (fault : TextFault) → IsFaultBehind false races lines text (Some (Text fault)) → is_of_words fault.kind ≡ true
+    → fault.line - lines < length (lines_of text)
+words_left first races lines [] fault is words = cc
+words_left first races lines (byte ∷ rest) fault (inl (most, is)) words =
+    let here : fault ≡ record { line = lines + 1; kind = kinds.TooMany } = cc in
+    let wrong : true ≡ false = sym words ∙ ap (λ (f : TextFault). is_of_words f.kind) here in
+    cc
+words_left first races lines (byte ∷ rest) fault (inr (few, (line, kind), at, is)) words =
+    let here : fault ≡ record { line = lines + line; kind = kind } = cc in
+    let number : fault.line ≡ lines + line = ap (λ (f : TextFault). f.line) here in
+    let short = words_behind first (byte ∷ rest) line kind at (sym (ap (λ (f : TextFault). is_of_words f.kind) here) ∙ words) in
+    omega arith
+
+-- whole lines of which none ends are no bytes
+no_front : (front : List ℕ) → AreWhole front → line_count front ≡ 0 → front ≡ []
+no_front front (inl none) zero = none
+no_front front (inr (line, is)) zero =
+    let some : line_count front ≡ line_count line + 1 = ap line_count is ∙ line_count-append line (10 ∷ []) in
+    absurd (omega arith)
+
+-- the bytes before the reader are no matter of what is left
+behind_front : (seeking : Bool) (reader : RaceReader) (is_broken : Bool) (text : List ℕ) (others : List TextFault)
+    → AreLeft seeking (record { end = 0; races = reader.races; lines = reader.lines }) is_broken text others → AreLeft seeking reader is_broken text others
+behind_front true reader is_broken text others left = left
+behind_front false reader is_broken text others left = left
+
+nothing_follows : (ending : Ending) → (is_broken : Bool) × MayFollow ending [] is_broken
+nothing_follows endings.Open = (false, tt)
+nothing_follows endings.Whole = (false, (refl, refl))
+nothing_follows endings.Broken = (true, (refl, refl))
+
+module _ {A : Type 0} (counted : Counted A)
+  where
+    -- at the front of an input
+    pub start_at : (is_all : Bool) → IsNew is_all counted → (ending : Ending) (bytes : List ℕ) → IsAt ending [] bytes counted
+    start_at is_all new ending bytes =
+        let end : counted.reader.end ≡ 0 = ap (λ (r : RaceReader). r.end) new.reader in
+        let races : counted.reader.races ≡ 0 = ap (λ (r : RaceReader). r.races) new.reader in
+        let lines : counted.reader.lines ≡ 0 = ap (λ (r : RaceReader). r.lines) new.reader in
+        let front : take counted.reader.end bytes ≡ [] = ap (λ (n : ℕ). take n bytes) end in
+        let zero : line_count [] ≡ 0 = refl in
+        record {
+          lined = lines ∙ sym zero ∙ sym (ap line_count front);
+          whole = λ reads. inl front;
+          clean = λ none. record { races = []; whole = front; counted = races; warned = (front, new.warned) };
+          first = subst (λ (f : Option TextFault). IfSome f (IsFirstIn bytes ending)) (sym new.none) tt;
+          alone = λ one. subst (λ (f : Option TextFault). IfSome f (λ fault. counted.reader.lines + 1 ≤ fault.line)) (sym new.none) tt;
+          told = λ all. record {
+            faults = [];
+            first = new.none;
+            number = new.zero;
+            are = λ more is_broken others may left.
+                let Left : Bool → Type 0 = λ s. AreLeft s counted.reader is_broken (drop counted.reader.end bytes ++ more) others in
+                let past : AreFaultsPast is_broken counted.reader.races counted.reader.lines (drop counted.reader.end bytes ++ more) others = subst Left new.reads left in
+                subst (λ (n : ℕ). AreFaultsBehind is_broken 0 (drop n bytes ++ more) others) end (past [] [] 0 refl (sym races) (let same : counted.reader.lines ≡ 0 + line_count [] = omega arith in same));
+            said = λ more is_broken may. new.said;
+          };
+        }
+
+    pub start_sound : (is_all : Bool) → IsNew is_all counted → IsSound counted
+    start_sound is_all new =
+        let races : counted.reader.races ≡ 0 = ap (λ (r : RaceReader). r.races) new.reader in
+        let zero = new.zero in
+        record { few = omega arith; count = λ _. omega arith; zero = λ _. new.zero; reads = λ _. new.reads; seeks = λ is. absurd (true≢false (sym is ∙ new.reads)) }
+
+    -- each line of the bytes that were forgotten has a byte
+    pub lines_few : (ending : Ending) (before bytes : List ℕ) → counted.reader.end ≡ 0 → IsAt ending before bytes counted → counted.reader.lines ≤ length before
+    lines_few ending before bytes end at =
+        let none : before ++ take counted.reader.end bytes ≡ before = ap (λ (n : ℕ). before ++ take n bytes) end ∙ append-nil before in
+        let lined : counted.reader.lines ≡ line_count before = at.lined ∙ ap line_count none in
+        let few = count_by-le-length (λ b. eqb b 10) before in
+        omega arith
+
+    -- more bytes are there
+    pub more_at : (before bytes more : List ℕ) → counted.reader.end ≤ length bytes → IsAt endings.Open before bytes counted → IsAt endings.Open before (bytes ++ more) counted
+    more_at before bytes more inside at =
+        let end : ℕ = counted.reader.end in
+        let front : take end (bytes ++ more) ≡ take end bytes = take-append-le end bytes more inside in
+        record {
+          lined = at.lined ∙ ap (λ (t : List ℕ). line_count (before ++ t)) (sym front);
+          whole = λ reads. subst (λ (t : List ℕ). AreWhole (before ++ t)) (sym front) (at.whole reads);
+          clean = λ none. subst (λ (t : List ℕ). IsClean (before ++ t) counted.reader counted.warnings.items) (sym front) (at.clean none);
+          first = some_as counted.told.first (IsFirstIn (before ++ bytes) endings.Open) (IsFirstIn (before ++ (bytes ++ more)) endings.Open) first_more at.first;
+          alone = at.alone;
+          told = λ all.
+              let told = at.told all in
+              record {
+                faults = told.faults;
+                first = told.first;
+                number = told.number;
+                are = λ rest is_broken others may left.
+                    subst (λ (i : List ℕ). AreFaults i is_broken (told.faults ++ others)) (joined rest)
+                    (told.are (more ++ rest) is_broken others tt (subst (λ (l : List ℕ). AreLeft counted.is_seeking counted.reader is_broken l others) (behind rest) left));
+                said = λ rest is_broken may. subst (λ (i : List ℕ). AreSaid i (take MOST_TOLD told.faults) counted.told.text.items) (joined rest) (told.said (more ++ rest) is_broken tt);
+              };
+        }
+      where
+        joined : (rest : List ℕ) → (before ++ bytes) ++ (more ++ rest) ≡ (before ++ (bytes ++ more)) ++ rest
+        joined rest = sym (append_assoc (before ++ bytes) more rest) ∙ ap (λ (t : List ℕ). t ++ rest) (append_assoc before bytes more)
+
+        behind : (rest : List ℕ) → drop counted.reader.end (bytes ++ more) ++ rest ≡ drop counted.reader.end bytes ++ (more ++ rest)
+        behind rest = ap (λ (t : List ℕ). t ++ rest) (drop-append-le counted.reader.end bytes more inside) ∙ append_assoc (drop counted.reader.end bytes) more rest
+
+        first_more : (fault : TextFault) → IsFirstIn (before ++ bytes) endings.Open fault → IsFirstIn (before ++ (bytes ++ more)) endings.Open fault
+        first_more fault is rest is_broken may =
+            let has = is (more ++ rest) is_broken tt in
+            (has.0, subst (λ (i : List ℕ). HasRaces i is_broken has.0 (Some (Text fault))) (joined rest) has.1)
+
+    -- what follows is known
+    pub ending_at : (before bytes : List ℕ) (ending : Ending) → IsAt endings.Open before bytes counted → IsAt ending before bytes counted
+    ending_at before bytes ending at = record {
+      lined = at.lined;
+      whole = at.whole;
+      clean = at.clean;
+      first = some_as counted.told.first (IsFirstIn (before ++ bytes) endings.Open) (IsFirstIn (before ++ bytes) ending) (λ fault is rest is_broken may. is rest is_broken tt) at.first;
+      alone = at.alone;
+      told = λ all.
+          let told = at.told all in
+          record {
+            faults = told.faults;
+            first = told.first;
+            number = told.number;
+            are = λ rest is_broken others may left. told.are rest is_broken others tt left;
+            said = λ rest is_broken may. told.said rest is_broken tt;
+          };
     }
 
--- nothing is counted yet
-pub none_counted : HasCounted [] (record { end = 0; races = 0; lines = 0 }) []
-none_counted = record { races = []; passed = none_passed [] 0 0; few = omega arith; warned = (refl, refl) }
+    -- the bytes before the reader are there no more
+    pub front_at : (before bytes : List ℕ) (ending : Ending) → IsAt ending before bytes counted → IsAt ending (before ++ take counted.reader.end bytes) (drop counted.reader.end bytes) (at_front counted)
+    front_at before bytes ending at =
+        let front : List ℕ = before ++ take counted.reader.end bytes in
+        let all : before ++ bytes ≡ front ++ drop counted.reader.end bytes = sym (parts_of before bytes counted.reader.end) in
+        record {
+          lined = at.lined ∙ ap line_count (sym (append-nil front));
+          whole = λ reads. subst AreWhole (sym (append-nil front)) (at.whole reads);
+          clean = λ none.
+              let clean = at.clean none in
+              record {
+                races = clean.races;
+                whole = subst (AreRaceTexts clean.races) (sym (append-nil front)) clean.whole;
+                counted = clean.counted;
+                warned = subst (λ (t : List ℕ). AreWarned 0 clean.races t counted.warnings.items) (sym (append-nil front)) clean.warned;
+              };
+          first = subst (λ (i : List ℕ). IfSome counted.told.first (IsFirstIn i ending)) all at.first;
+          alone = at.alone;
+          told = λ is_all.
+              let told = at.told is_all in
+              record {
+                faults = told.faults;
+                first = told.first;
+                number = told.number;
+                are = λ rest is_broken others may left. subst (λ (i : List ℕ). AreFaults (i ++ rest) is_broken (told.faults ++ others)) all (told.are rest is_broken others may (behind_front counted.is_seeking counted.reader is_broken _ others left));
+                said = λ rest is_broken may. subst (λ (i : List ℕ). AreSaid (i ++ rest) (take MOST_TOLD told.faults) counted.told.text.items) all (told.said rest is_broken may);
+              };
+        }
 
--- the reader's fault, with what follows
-wrong_races : (bytes : List ℕ) (ending : Ending) (reader : RaceReader) (warnings : List Warning) (fault : InputFault) → (before : HasCounted bytes reader warnings) → IsReaderFault bytes ending reader (readers.Input fault)
-    → (more : List ℕ) (is_broken : Bool) → MayFollow ending more is_broken → HasRaces (bytes ++ more) is_broken before.races (Some fault)
-wrong_races bytes ending reader warnings fault before is more is_broken may =
-    let front = take reader.end bytes in
-    let rest = drop reader.end bytes in
-    let count : reader.races ≡ length before.races = let c = before.passed.counted in omega arith in
-    let lined : reader.lines ≡ line_count front = let l = before.passed.lined in omega arith in
-    let few = before.few in
-    let Count : ℕ → Type 0 = λ n. IsFaultBehind is_broken n reader.lines (rest ++ more) (Some fault) in
-    let Lines : ℕ → Type 0 = λ n. IsFaultBehind is_broken (length before.races) n (rest ++ more) (Some fault) in
-    record {
-      before = front;
-      rest = rest ++ more;
-      parts = ap (λ (t : List ℕ). t ++ more) (sym (take-append-drop reader.end bytes)) ∙ append_assoc front rest more;
-      whole = before.passed.whole;
-      few = omega (arith, few, count);
-      fault_is = subst Lines lined (subst Count count (is more is_broken may));
-    }
+module _ {A : Type 0} (ending : Ending) (before bytes : List ℕ) (old new : Counted A) (at : IsAt ending before bytes old)
+  where
+    abbrev front : List ℕ
+    front = before ++ take old.reader.end bytes
 
-nothing_follows : (is_broken : Bool) → MayFollow (ending_of is_broken) [] is_broken
-nothing_follows true = (refl, refl)
-nothing_follows false = (refl, refl)
+    abbrev left : List ℕ
+    left = drop old.reader.end bytes
 
--- the bytes are more than those that were counted
-pub still_counted : (bytes more : List ℕ) (reader : RaceReader) (warnings : List Warning) → HasCounted bytes reader warnings → HasCounted (bytes ++ more) reader warnings
-still_counted bytes more reader warnings before =
-    let place : reader.end ≤ length bytes = before.passed.within in
-    let front : take reader.end (bytes ++ more) ≡ take reader.end bytes = take-append-le reader.end bytes more place in
-    let longer = length-append bytes more in
-    record {
-      races = before.races;
-      passed = record {
-        within = omega arith;
-        whole = subst (AreTexts IsRaceText before.races) (sym front) before.passed.whole;
-        counted = before.passed.counted;
-        lined = before.passed.lined ∙ ap (λ (t : List ℕ). 0 + line_count t) (sym front);
-      };
-      few = before.few;
-      warned = subst (λ (t : List ℕ). AreWarned 0 before.races t warnings) (sym front) before.warned;
-    }
+    -- a race was passed
+    module _ (race : Race) (free : IsOpen old) (reads : old.is_seeking ≡ false) (passes : PassesRace bytes old.reader new.reader race)
+        (warned : old.told.first ≡ None → new.warnings.items ≡ old.warnings.items ++ warnings_of (old.reader.lines + 1) race)
+      where
+        abbrev own : List ℕ
+        own = slice_range bytes old.reader.end new.reader.end
 
--- more of the bytes are looked at
-pub counted_to : (items : List ℕ) (from to : ℕ) (reader : RaceReader) (warnings : List Warning) → from ≤ to → HasCounted (take from items) reader warnings → HasCounted (take to items) reader warnings
-counted_to items from to reader warnings le before =
-    let sum : to ≡ from + (to - from) = omega arith in
-    let split : take to items ≡ take from items ++ take (to - from) (drop from items) = ap (λ (n : ℕ). take n items) sum ∙ take-add from (to - from) items in
-    subst (λ (t : List ℕ). HasCounted t reader warnings) (sym split) (still_counted (take from items) (take (to - from) (drop from items)) reader warnings before)
+        sum : old.reader.end + (new.reader.end - old.reader.end) ≡ new.reader.end
+        sum = let past = passes.past in omega arith
 
--- the reader stands within bytes that can be counted
-pub counted_within : (bytes : List ℕ) (reader : RaceReader) (warnings : List Warning) → HasCounted bytes reader warnings → length bytes ≤ 2 ^ 63 → IsWithin bytes reader
-counted_within bytes reader warnings before few =
-    let place : reader.end ≤ length bytes = before.passed.within in
-    let lined : reader.lines ≡ line_count (take reader.end bytes) = let l = before.passed.lined in omega arith in
-    let lines : line_count (take reader.end bytes) ≤ length (take reader.end bytes) = count_by-le-length _ (take reader.end bytes) in
-    record {
-      place = place;
-      few = before.few;
-      room = omega (arith, lined, lines, few, place, length-take {A = ℕ}, length-drop {A = ℕ});
-    }
+        longer : front ++ own ≡ before ++ take new.reader.end bytes
+        longer =
+            append_assoc before (take old.reader.end bytes) own
+            ∙ ap (λ (t : List ℕ). before ++ t) (sym (take-add old.reader.end (new.reader.end - old.reader.end) bytes) ∙ ap (λ (n : ℕ). take n bytes) sum)
 
--- a fault of the reader is the first one of each input that goes on so
-pub wrong_in : (bytes : List ℕ) (ending : Ending) (reader : RaceReader) (warnings : List Warning) (fault : RaceReaderFault) → HasCounted bytes reader warnings → IsReaderFault bytes ending reader fault
-    → IsWrongIn bytes ending (fault_of_reader fault)
-wrong_in bytes ending reader warnings (readers.Input (inputs.Text fault)) before is = λ more is_broken may. (before.races, wrong_races bytes ending reader warnings (inputs.Text fault) before is more is_broken may)
-wrong_in bytes ending reader warnings (readers.Input inputs.Read) before is = λ more is_broken may. (before.races, wrong_races bytes ending reader warnings inputs.Read before is more is_broken may)
-wrong_in bytes ending reader warnings readers.Memory before is = tt
+        shorter : own ++ drop new.reader.end bytes ≡ left
+        shorter =
+            ap (λ (t : List ℕ). own ++ t) (ap (λ (n : ℕ). drop n bytes) (sym sum) ∙ sym (drop-drop (new.reader.end - old.reader.end) old.reader.end bytes))
+            ∙ take-append-drop (new.reader.end - old.reader.end) left
 
--- all bytes of an input are there
-pub wrong_whole : (bytes : List ℕ) (is_broken : Bool) (fault : StreamFault) → IsWrongIn bytes (ending_of is_broken) fault → IsWrong bytes is_broken fault
-wrong_whole bytes is_broken (checks.Text fault) wrong =
-    let has = wrong [] is_broken (nothing_follows is_broken) in
-    (has.0, subst (λ (t : List ℕ). HasRaces t is_broken has.0 (Some (inputs.Text fault))) (append-nil bytes) has.1)
-wrong_whole bytes is_broken checks.Read wrong =
-    let has = wrong [] is_broken (nothing_follows is_broken) in
-    (has.0, subst (λ (t : List ℕ). HasRaces t is_broken has.0 (Some inputs.Read)) (append-nil bytes) has.1)
-wrong_whole bytes is_broken checks.Write wrong = wrong
-wrong_whole bytes is_broken checks.Memory wrong = tt
+        clean_on : old.told.first ≡ None → IsClean (before ++ take new.reader.end bytes) new.reader new.warnings.items
+        clean_on none =
+            let clean = at.clean none in
+            let races = clean.races ++ race ∷ [] in
+            let lined = at.lined in
+            let one = passes.counted in
+            let counted = clean.counted in
+            let size = length-append clean.races (race ∷ []) in
+            record {
+              races = races;
+              whole = subst (AreRaceTexts races) longer (AreTexts-snoc IsRaceText clean.races front clean.whole race own passes.read);
+              counted = omega arith;
+              warned = subst₂ (λ (t : List ℕ) (w : List Warning). AreWarned 0 races t w) longer (sym (warned none))
+                  (warned_on 0 clean.races front old.warnings.items clean.warned race own passes.read (old.reader.lines + 1) (omega arith));
+            }
 
--- a fault of every input that begins with bytes is one of those that begin with more of them
-wrong_more : (bytes rest : List ℕ) (fault : StreamFault) → IsWrongIn bytes endings.Open fault → IsWrongIn (bytes ++ rest) endings.Open fault
-wrong_more bytes rest (checks.Text fault) wrong = λ more is_broken may.
-    (let has = wrong (rest ++ more) is_broken tt in
-    (has.0, subst (λ (t : List ℕ). HasRaces t is_broken has.0 (Some (inputs.Text fault))) (sym (append_assoc bytes rest more)) has.1))
-wrong_more bytes rest checks.Read wrong = λ more is_broken may.
-    (let has = wrong (rest ++ more) is_broken tt in
-    (has.0, subst (λ (t : List ℕ). HasRaces t is_broken has.0 (Some inputs.Read)) (sym (append_assoc bytes rest more)) has.1))
-wrong_more bytes rest checks.Write wrong = wrong
-wrong_more bytes rest checks.Memory wrong = tt
+        past : (is_broken : Bool) (more : List ℕ) (others : List TextFault) → AreLeft old.is_seeking new.reader is_broken (drop new.reader.end bytes ++ more) others
+            → AreLeft old.is_seeking old.reader is_broken (left ++ more) others
+        past is_broken more others are =
+            let rest : List ℕ = drop new.reader.end bytes ++ more in
+            let here : AreFaultsPast is_broken new.reader.races new.reader.lines rest others = subst (λ (s : Bool). AreLeft s new.reader is_broken rest others) reads are in
+            let next : AreFaultsPast is_broken (old.reader.races + 1) (old.reader.lines + line_count own) rest others =
+            subst₂ (λ (r l : ℕ). AreFaultsPast is_broken r l rest others) passes.counted passes.lined here in
+            let text : own ++ rest ≡ left ++ more = sym (append_assoc own (drop new.reader.end bytes) more) ∙ ap (λ (t : List ℕ). t ++ more) shorter in
+            let all : AreFaultsPast is_broken old.reader.races old.reader.lines (left ++ more) others =
+            subst (λ (t : List ℕ). AreFaultsPast is_broken old.reader.races old.reader.lines t others) text (past_race is_broken old.reader.races old.reader.lines own race rest others passes.read next) in
+            subst (λ (s : Bool). AreLeft s old.reader is_broken (left ++ more) others) (sym reads) all
 
-pub wrong_to : (items : List ℕ) (from to : ℕ) (fault : StreamFault) → from ≤ to → IsWrongIn (take from items) endings.Open fault → IsWrongIn (take to items) endings.Open fault
-wrong_to items from to fault le wrong =
-    let sum : to ≡ from + (to - from) = omega arith in
-    let split : take to items ≡ take from items ++ take (to - from) (drop from items) = ap (λ (n : ℕ). take n items) sum ∙ take-add from (to - from) items in
-    subst (λ (t : List ℕ). IsWrongIn t endings.Open fault) (sym split) (wrong_more (take from items) (take (to - from) (drop from items)) fault wrong)
+        pub race_at : IsAt ending before bytes (record old { reader = new.reader; warnings = new.warnings })
+        race_at = record {
+          lined = passes.lined ∙ ap (λ (n : ℕ). n + line_count own) at.lined ∙ sym (line_count-append front own) ∙ ap line_count longer;
+          whole = λ _. subst AreWhole longer (whole_append front own (at.whole reads) (whole_race own race passes.read));
+          clean = clean_on;
+          first = at.first;
+          alone = λ one. subst (λ (f : Option TextFault). IfSome f (λ fault. new.reader.lines + 1 ≤ fault.line)) (sym (free one)) tt;
+          told = λ all.
+              let told = at.told all in
+              record {
+                faults = told.faults;
+                first = told.first;
+                number = told.number;
+                are = λ more is_broken others may are. told.are more is_broken others may (past is_broken more others are);
+                said = told.said;
+              };
+        }
 
-pub wrong_result : (items : List ℕ) (from to : ℕ) (result : Result (Unit {0}) StreamFault) → from ≤ to → IfErr result (IsWrongIn (take from items) endings.Open) → IfErr result (IsWrongIn (take to items) endings.Open)
-wrong_result items from to (Ok done) le wrong = tt
-wrong_result items from to (Err fault) le wrong = wrong_to items from to fault le wrong
+    -- a fault was found
+    module _ (first : FirstFaults) (fault : TextFault) (part : RestOfInput) (inside : old.reader.end ≤ length bytes) (sound : IsSound old) (enough : IsEnough ending bytes old) (reads : old.is_seeking ≡ false)
+        (seeks : new.is_seeking ≡ new.told.is_all) (same : new.reader ≡ old.reader) (wrong : IsReaderFault bytes ending old.reader (readers.Input (Text fault)))
+        (adds : AddsFault part fault old.told new.told) (text : part.text.now ≡ left) (lines : part.lines ≡ old.reader.lines)
+      where
+        stands : old.reader.lines + 1 ≤ fault.line
+        stands =
+            let nothing = nothing_follows ending in
+            fault_stands first nothing.0 old.reader.races old.reader.lines (left ++ []) fault (wrong [] nothing.0 nothing.1)
 
--- bytes that may go on have no broken end
-not_read : (rest : List ℕ) (races lines : ℕ) → IsFaultBehind false races lines rest (Some inputs.Read) → ⊥
-not_read [] races lines is = cc
-not_read (byte ∷ rest) races lines (inl (most, is)) = cc
-not_read (byte ∷ rest) races lines (inr (few, (line, kind), at, is)) = cc
+        hint : (more : List ℕ) (is_broken : Bool) → MayFollow ending more is_broken → old.told.is_all ≡ true → hint_in part.lines part.text.now fault ≡ hint_of ((before ++ bytes) ++ more) fault
+        hint more is_broken may all =
+            ap (λ (n : ℕ). hint_in n part.text.now fault) lines ∙ ap (λ (t : List ℕ). hint_in old.reader.lines t fault) text
+            ∙ hint_there front left more old.reader.lines fault (at.whole reads) at.lined stands (long ending may enough) (short ending may wrong)
+            ∙ ap (λ (t : List ℕ). hint_of t fault) (sym (append_assoc front left more) ∙ ap (λ (t : List ℕ). t ++ more) (parts_of before bytes old.reader.end))
+          where
+            long : (e : Ending) → MayFollow e more is_broken → IsEnough e bytes old → fault.line ≡ 1 → (more ≡ []) ⊎ (6 ≤ length left)
+            long endings.Whole follows bytes_enough one = inl follows.0
+            long endings.Broken follows bytes_enough one = inl follows.0
+            long endings.Open follows bytes_enough one =
+                let lined = at.lined in
+                let behind = stands in
+                let none : front ≡ [] = no_front front (at.whole reads) (omega arith) in
+                let size : length before + length (take old.reader.end bytes) ≡ 0 = sym (length-append before (take old.reader.end bytes)) ∙ ap length none in
+                let enough_bytes : 6 ≤ length bytes = bytes_enough all refl in
+                inr (omega (arith, size, inside, enough_bytes, length-take {A = ℕ}, length-drop {A = ℕ}))
 
-pub sure_of : (bytes : List ℕ) (fault : StreamFault) (Given : List ℕ → Bool → Type 0) (Taken : List ℕ → Type 0) (warnings : List Warning) → Taken bytes → IsWrongIn bytes endings.Open fault
-    → TakesChecked Given Taken bytes warnings (Err fault)
-sure_of bytes (checks.Text fault) Given Taken warnings taken wrong = inr (taken, λ more is_broken. wrong more is_broken tt)
-sure_of bytes checks.Read Given Taken warnings taken wrong =
-    let has = (wrong [] false tt).1 in
-    absurd (not_read has.rest (length (wrong [] false tt).0) (line_count has.before) has.fault_is)
-sure_of bytes checks.Write Given Taken warnings taken wrong = wrong
-sure_of bytes checks.Memory Given Taken warnings taken wrong = tt
+            short : (e : Ending) → MayFollow e more is_broken → IsReaderFault bytes e old.reader (readers.Input (Text fault)) → is_of_words fault.kind ≡ true
+                → (more ≡ []) ⊎ (fault.line - old.reader.lines < length (lines_of left))
+            short endings.Whole follows is words = inl follows.0
+            short endings.Broken follows is words = inl follows.0
+            short endings.Open follows is words =
+                let Rest : List ℕ → Type 0 = λ t. IsFaultBehind false old.reader.races old.reader.lines t (Some (Text fault)) in
+                inr (words_left first old.reader.races old.reader.lines left fault (subst Rest (append-nil left) (is [] false tt)) words)
 
--- the input was taken to its end
-pub taken_right : (bytes : List ℕ) (is_broken : Bool) (Given : List ℕ → Bool → Type 0) (Taken : List ℕ → Type 0) (warnings : List Warning) (result : Result Checked StreamFault) → Given bytes is_broken
-    → IfOk result (IsRight bytes is_broken) → OnOk result (HasWarnings bytes warnings) → IfErr result (IsWrong bytes is_broken) → TakesChecked Given Taken bytes warnings result
-taken_right bytes is_broken Given Taken warnings (Ok checked) given right warned wrong = (is_broken, given, right, warned)
-taken_right bytes is_broken Given Taken warnings (Err (checks.Text fault)) given right warned wrong = inl (is_broken, given, wrong)
-taken_right bytes is_broken Given Taken warnings (Err checks.Read) given right warned wrong = (is_broken, given, wrong)
-taken_right bytes is_broken Given Taken warnings (Err checks.Write) given right warned wrong = wrong
-taken_right bytes is_broken Given Taken warnings (Err checks.Memory) given right warned wrong = tt
+        own_first : old.told.first ≡ None → IsFirstIn (before ++ bytes) ending fault
+        own_first none more is_broken may =
+            let clean = at.clean none in
+            let Count : ℕ → Type 0 = λ n. IsFaultBehind is_broken n old.reader.lines (left ++ more) (Some (Text fault)) in
+            let Lines : ℕ → Type 0 = λ n. IsFaultBehind is_broken (length clean.races) n (left ++ more) (Some (Text fault)) in
+            let few = sound.few in
+            let counted = clean.counted in (
+              clean.races,
+              record {
+                before = front;
+                rest = left ++ more;
+                parts = ap (λ (t : List ℕ). t ++ more) (sym (parts_of before bytes old.reader.end)) ∙ append_assoc front left more;
+                whole = clean.whole;
+                few = omega arith;
+                fault_is = subst Lines at.lined (subst Count clean.counted (wrong more is_broken may));
+              },
+            )
 
--- no race follows: all of the input is passed
-passed_all : (input : List ℕ) (is_broken : Bool) (reader : RaceReader) (warnings : List Warning) → HasCounted input reader warnings → EndsAt (ending_of is_broken) (drop reader.end input)
-    → take reader.end input ≡ input
-passed_all input is_broken reader warnings before ends =
-    let end = ends_whole input reader.end is_broken before.passed.within ends in
-    take_all reader.end input (omega (arith, end))
+        told_on : old.told.is_all ≡ true → new.told.is_all ≡ true → HasTold ending (before ++ bytes) (drop new.reader.end bytes) new
+        told_on all all_on =
+            let told = at.told all in
+            let number = told.number in
+            let one = adds.count in
+            let size = length-append told.faults (fault ∷ []) in
+            record {
+              faults = told.faults ++ fault ∷ [];
+              first = adds.first ∙ ap (λ (o : Option TextFault). option_or o (Some fault)) told.first ∙ sym (first_on told.faults fault);
+              number = omega arith;
+              are = λ more is_broken others may are.
+                  let Left : Bool → Type 0 = λ s. AreLeft s new.reader is_broken (drop new.reader.end bytes ++ more) others in
+                  let here : AreFaultsAfter is_broken new.reader.lines (drop new.reader.end bytes ++ more) others = subst Left (seeks ∙ all_on) are in
+                  let after : AreFaultsAfter is_broken old.reader.lines (left ++ more) others = subst (λ (r : RaceReader). AreFaultsAfter is_broken r.lines (drop r.end bytes ++ more) others) same here in
+                  let past : AreFaultsPast is_broken old.reader.races old.reader.lines (left ++ more) (fault ∷ others) =
+                  past_fault first is_broken old.reader.races old.reader.lines (left ++ more) fault others sound.few (wrong more is_broken may) after in
+                  let Before : Bool → Type 0 = λ s. AreLeft s old.reader is_broken (left ++ more) (fault ∷ others) in
+                  subst (AreFaults ((before ++ bytes) ++ more) is_broken) (sym (append_assoc told.faults (fault ∷ []) others)) (told.are more is_broken (fault ∷ others) may (subst Before (sym reads) past));
+              said = λ more is_broken may.
+                  first_said ((before ++ bytes) ++ more) told.faults fault old.told.count old.told.text.items new.told.text.items (hint_in part.lines part.text.now fault) told.number (hint more is_broken may all)
+                  (told.said more is_broken may) (adds.said all);
+            }
 
-pub end_right : (input : List ℕ) (is_broken : Bool) (reader : RaceReader) (warnings : List Warning) → HasCounted input reader warnings
-    → EndsAt (ending_of is_broken) (drop reader.end input) → IsRight input is_broken (record { races = reader.races; lines = reader.lines })
-end_right input is_broken reader warnings before ends =
-    let whole = passed_all input is_broken reader warnings before ends in
-    let counted = before.passed.counted in
-    let lined = before.passed.lined in
-    let lines : reader.lines ≡ line_count (take reader.end input) = omega arith in (
-      before.races,
-      has_none input is_broken before.races reader before.passed before.few ends,
-      (let same : reader.races ≡ length before.races = omega arith in same),
-      lines ∙ ap line_count whole,
-    )
+        pub fault_at : IsAt ending before bytes new
+        fault_at = record {
+          lined = subst (λ (r : RaceReader). r.lines ≡ line_count (before ++ take r.end bytes)) (sym same) at.lined;
+          whole = λ _. subst (λ (r : RaceReader). AreWhole (before ++ take r.end bytes)) (sym same) (at.whole reads);
+          clean = λ none. absurd (never_none old.told.first fault (sym adds.first ∙ none));
+          first = subst (λ (f : Option TextFault). IfSome f (IsFirstIn (before ++ bytes) ending)) (sym adds.first) (added old.told.first fault (IsFirstIn (before ++ bytes) ending) at.first own_first);
+          alone = λ one.
+              let Behind : TextFault → Type 0 = λ f. old.reader.lines + 1 ≤ f.line in
+              let here = added old.told.first fault Behind (at.alone (sym adds.all ∙ one)) (λ none. stands) in
+              subst (λ (r : RaceReader). IfSome new.told.first (λ f. r.lines + 1 ≤ f.line)) (sym same) (subst (λ (f : Option TextFault). IfSome f Behind) (sym adds.first) here);
+          told = λ all. told_on (sym adds.all ∙ all) all;
+        }
 
-pub end_warned : (input : List ℕ) (is_broken : Bool) (reader : RaceReader) (warnings more : List Warning) → HasCounted input reader warnings
-    → EndsAt (ending_of is_broken) (drop reader.end input) → more ≡ warnings ++ map (warning_at 1) (slip_if (reader.races == 0) NoRace) → HasWarnings input more
-end_warned input is_broken reader warnings more before ends longer =
-    let counted = before.passed.counted in
-    let Warned : List ℕ → Type 0 = λ text. AreWarned 0 before.races text warnings in
-    let races : reader.races ≡ length before.races = omega arith in (
-      before.races,
-      warnings,
-      subst Warned (passed_all input is_broken reader warnings before ends) before.warned,
-      longer ∙ ap (λ (n : ℕ). warnings ++ map (warning_at 1) (slip_if (n == 0) NoRace)) races,
-    )
+    -- bytes were passed in a search for the next race
+    module _ (reader : RaceReader) (n : ℕ) (sound : IsSound old) (seeks : old.is_seeking ≡ true) (inside : n ≤ length left) (ends : reader.end ≡ old.reader.end + n)
+        (lines : reader.lines ≡ old.reader.lines + line_count (take n left))
+      where
+        further : before ++ take reader.end bytes ≡ front ++ take n left
+        further =
+            ap (λ (m : ℕ). before ++ take m bytes) ends ∙ ap (λ (t : List ℕ). before ++ t) (take-add old.reader.end n bytes) ∙ sym (append_assoc before (take old.reader.end bytes) (take n left))
 
--- a step made room behind the bytes, and left them
-pub still_held : {A : Type 0} (held next : Held A) → next.filled ≡ held.filled → next.ready ≡ held.ready → next.counted ≡ held.counted → next.filled ≤ vec_len next.bytes
-    → take held.filled next.bytes.items ≡ take held.filled held.bytes.items → IsHeld held → IsHeld next
-still_held held next filled ready counted within front before =
-    let less : held.ready ≤ held.filled = before.ready in
-    let same : take next.ready next.bytes.items ≡ take held.ready held.bytes.items =
-    ap (λ (n : ℕ). take n next.bytes.items) ready
-    ∙ sym (take-take held.ready held.filled next.bytes.items less)
-    ∙ ap (take held.ready) front
-    ∙ take-take held.ready held.filled held.bytes.items less in
-    record {
-      within = within;
-      ready = omega (arith, filled, ready, less);
-      counted = subst₂ (λ (t : List ℕ) (c : Counted _). HasCounted t c.reader c.warnings.items) (sym same) (sym counted) before.counted;
-    }
+        behind : (more : List ℕ) → drop reader.end bytes ++ more ≡ drop n (left ++ more)
+        behind more = ap (λ (m : ℕ). drop m bytes ++ more) ends ∙ ap (λ (t : List ℕ). t ++ more) (sym (drop-drop n old.reader.end bytes)) ∙ sym (drop-append-le n left more inside)
+
+        counted : (more : List ℕ) → reader.lines ≡ old.reader.lines + line_count (take n (left ++ more))
+        counted more = lines ∙ ap (λ (t : List ℕ). old.reader.lines + line_count t) (sym (take-append-le n left more inside))
+
+        sought_at : (goes_on : Bool) → (goes_on ≡ false → AreWhole (before ++ take reader.end bytes))
+            → ((is_broken : Bool) (more : List ℕ) (others : List TextFault) → AreLeft goes_on reader is_broken (drop reader.end bytes ++ more) others
+            → AreFaultsAfter is_broken old.reader.lines (left ++ more) others) → IsAt ending before bytes (record old { reader = reader; is_seeking = goes_on })
+        sought_at goes_on whole after = record {
+          lined = lines ∙ ap (λ (m : ℕ). m + line_count (take n left)) at.lined ∙ sym (line_count-append front (take n left)) ∙ sym (ap line_count further);
+          whole = whole;
+          clean = λ none. absurd (true≢false (sym seeks ∙ sound.reads none));
+          first = at.first;
+          alone = λ one. absurd (true≢false (sym (sound.seeks seeks) ∙ one));
+          told = λ all.
+              let told = at.told all in
+              record {
+                faults = told.faults;
+                first = told.first;
+                number = told.number;
+                are = λ more is_broken others may are.
+                    told.are more is_broken others may (subst (λ (s : Bool). AreLeft s old.reader is_broken (left ++ more) others) (sym seeks) (after is_broken more others are));
+                said = told.said;
+              };
+        }
+
+        -- no race begins in them
+        pub passed_at : ((more : List ℕ) (other : ℕ) → BeginsRace (left ++ more) other → n + 1 ≤ other) → IsAt ending before bytes (record old { reader = reader })
+        passed_at none =
+            subst (λ (s : Bool). IsAt ending before bytes (record old { reader = reader; is_seeking = s })) (sym seeks)
+            (sought_at true (λ reads. absurd (true≢false reads))
+            (λ is_broken more others are.
+            let size = length-append left more in
+            after_more is_broken old.reader.lines (left ++ more) n others (omega arith) (none more)
+            (subst₂ (λ (m : ℕ) (t : List ℕ). AreFaultsAfter is_broken m t others) (counted more) (behind more) are)))
+
+        -- the next race begins behind them
+        pub found_at : reader.races ≡ 0 → AreWhole (front ++ take n left) → ((more : List ℕ) → IsNextRace (left ++ more) n) → IsAt ending before bytes (record old { reader = reader; is_seeking = false })
+        found_at races whole next =
+            sought_at false (λ _. subst AreWhole (sym further) whole)
+            (λ is_broken more others are.
+            after_found is_broken old.reader.lines reader.lines (left ++ more) n others (next more) (counted more)
+            (subst₂ (λ (r : ℕ) (t : List ℕ). AreFaultsPast is_broken r reader.lines t others) races (behind more) are))

@@ -1,5 +1,5 @@
 -- What an input gave when a call ends.
-use Rattle.std.proofs.Common.{ℕ, ◌≡◌, ◌+◌, ◌<◌, ◌≤◌, ◌++◌, ◌∙◌, List, take, drop, true, false, Option, Result, Ok, Err, ap, sym, subst, inl, inr, take-take}
+use Rattle.std.proofs.Common.{ℕ, ◌≡◌, ◌+◌, ◌<◌, ◌≤◌, ◌++◌, ◌∙◌, List, take, drop, true, false, Option, Result, Ok, Err, ap, append_assoc, sym, subst, inl, inr, take-take}
 use Rattle.std.proofs.KnownBytes.{Consumes-kept, Consumes-nil, Consumes-trans}
 use Rattle.std.proofs.Math.Seq.{take-add}
 use Rattle.std.specs.Io.KnownBytes.{Consumes, IsAtEnd, Keeps}
@@ -42,18 +42,18 @@ module _ {S : Type 0} (remaining : S → Option (List ℕ)) (takes : S → Taken
       told = inr (record { steps = steps; all = all; before = before });
     }
 
--- a step gave more bytes
-pub piece_taken : (a b c : Option (List ℕ)) (old new : List ℕ) (filled count size : ℕ) → take filled new ≡ take filled old → count ≤ size → Consumes a b (take filled old)
-    → Consumes b c (take count (take size (drop filled new))) → Consumes a c (take (filled + count) new)
-piece_taken a b c old new filled count size same small before took =
+-- a step gave more bytes, behind others that are there no more
+pub piece_taken : (a b c : Option (List ℕ)) (first old new : List ℕ) (filled count size : ℕ) → take filled new ≡ take filled old → count ≤ size → Consumes a b (first ++ take filled old)
+    → Consumes b c (take count (take size (drop filled new))) → Consumes a c (first ++ take (filled + count) new)
+piece_taken a b c first old new filled count size same small before took =
     let piece = take count (drop filled new) in
     let here : Consumes b c piece = subst (Consumes b c) (take-take count size (drop filled new) small) took in
     let all : take (filled + count) new ≡ take filled old ++ piece = take-add filled count new ∙ ap (λ (l : List ℕ). l ++ piece) same in
-    subst (Consumes a c) (sym all) (Consumes-trans a b c _ _ before here)
+    subst (Consumes a c) (append_assoc first (take filled old) piece ∙ ap (λ (l : List ℕ). first ++ l) (sym all)) (Consumes-trans a b c _ _ before here)
 
 -- a step gave none
-pub none_taken : (a b c : Option (List ℕ)) (old new : List ℕ) (filled : ℕ) → take filled new ≡ take filled old → Consumes a b (take filled old) → Keeps b c → Consumes a c (take filled new)
-none_taken a b c old new filled same before kept = subst (Consumes a c) (sym same) (Consumes-kept a b c _ before kept)
+pub none_taken : (a b c : Option (List ℕ)) (first old new : List ℕ) (filled : ℕ) → take filled new ≡ take filled old → Consumes a b (first ++ take filled old) → Keeps b c → Consumes a c (first ++ take filled new)
+none_taken a b c first old new filled same before kept = subst (Consumes a c) (ap (λ (l : List ℕ). first ++ l) (sym same)) (Consumes-kept a b c _ before kept)
 
 -- no step was made yet
 pub nothing_taken : (a : Option (List ℕ)) (bytes : List ℕ) (filled : ℕ) → filled ≡ 0 → Consumes a a (take filled bytes)

@@ -2,5 +2,8 @@ mod Checks
 mod Counts
 mod FaultParts
 mod Given
+mod Hints
+mod Holding
 mod NextRaces
+mod Stepping
 mod WholeLines

@@ -1,32 +1,23 @@
--- The search for the next race: line by line, up to the first one that begins a race.
-use Rattle.std.proofs.Common.{ℕ, ◌≡◌, ◌⊎◌, ◌+◌, ◌-◌, ◌<◌, ◌≤◌, ◌^◌, Bool, true, false, ◌||◌, cond, eqb, List, [], ◌∷◌, ◌++◌, length, get_or, take, drop, Some, None, sym, subst, refl, true≢false, suc, ◌∙◌, ap, append_assoc, arith, codes, drop_at, inl, inr}
+-- The search for the next race: no race begins before the next line end.
+use Rattle.std.proofs.Common.{ℕ, ◌≡◌, ◌⊎◌, ◌+◌, ◌-◌, ◌<◌, ◌≤◌, Bool, true, false, ◌||◌, cond, eqb, List, [], ◌∷◌, ◌++◌, length, get_or, take, drop, Some, sym, subst₂, refl, true≢false, suc, ◌∙◌, ap, append_assoc, arith, codes, drop_at, take-append-drop, inl, inr}
 use Rattle.std.proofs.lemmas.Bool.{eqb-true}
 use Rattle.std.proofs.lemmas.Bool.Decides.{Decides-eqb}
-use Rattle.std.proofs.lemmas.List.{drop-drop, get_or-drop, get_or-take, length-append, length-drop, length-take-le, take_more}
-use Rattle.std.proofs.lemmas.List.Sums.{count_by-le-length, sum_by-cons}
+use Rattle.std.proofs.lemmas.List.{drop-append-le, drop-drop, get_or-take, get_or_append_left, length-append, length-drop, length-take-le, take_at}
+use Rattle.std.proofs.lemmas.List.Sums.{sum_by-cons}
 use Rattle.std.proofs.lemmas.Slice.Eq.{starts_is}
 use Rattle.std.proofs.Math.Nat.{lt_of_not-le}
 use Rattle.std.proofs.Math.Seq.{get_or-append_seam, split_at, take-add}
 use Rattle.memchr.specs.Find.{IsFirstByte, is_byte}
 use Rattle.he_inputs.specs.Inputs.{line_count}
 use Rattle.he_words.specs.Words.{header_of}
+use Rattle.he_words.specs.declared.fault.TextFault.{TextFault}
 use Rattle.he_words.specs.declared.words.Version.{Version}
 use Rattle.he_words.specs.declared.words.Version.TheVariants.{One, Two}
 use Rattle.he_inputs.proofs.RaceReadingLaws.{line_count-append}
-use Rattle.he_check.specs.AllFaults.{BeginsRace, IsLastRace}
+use Rattle.he_check.specs.AllFaults.{AreFaultsBehind, BeginsRace, IsLastRace, IsNextRace}
 use Rattle.he_check.specs.Meant.{begins}
-use Rattle.he_check.specs.Steps.{HasSearched, IsNextPart, begins_race}
-use Rattle.he_check.specs.declared.parts.RestOfInput.{RestOfInput}
-
--- nothing is searched yet
-pub none_searched : (part : RestOfInput) → HasSearched part part.lines part.text.now
-none_searched part = record {
-  at = 0;
-  left = refl;
-  within = omega arith;
-  counted = omega arith;
-  none = λ other is. let place = is.4 in omega arith;
-}
+use Rattle.he_check.specs.Steps.{AreFaultsAfter, begins_race}
+use Rattle.he_check.proofs.Hints.{begins_more}
 
 no_line : (text : List ℕ) → ((k : ℕ) → k < length text → eqb (get_or text k 0) 10 ≡ true → ⊥) → line_count text ≡ 0
 no_line [] none = refl
@@ -39,48 +30,28 @@ no_line (byte ∷ text) none =
     here true never = absurd (never refl)
     here false never = refl
 
--- no race begins up to the first line end
-early : (rest : List ℕ) (text : List ℕ) (at end other : ℕ) → rest ≡ drop at text → ((k : ℕ) → 0 ≤ k → k < end → eqb (get_or rest k 0) 10 ≡ true → ⊥)
-    → BeginsRace text other → at + 1 ≤ other → other ≤ at + end → ⊥
-early rest text at end other is none (front, version, more, split, place) past less =
-    let k = length front - at in
-    let sum : at + k ≡ length front = omega arith in
-    let race : List ℕ = header_of version ++ (10 ∷ more) in
-    let byte : get_or rest k 0 ≡ 10 =
-    ap (λ (r : List ℕ). get_or r k 0) is ∙ get_or-drop at text k 0 ∙ ap (λ (n : ℕ). get_or text n 0) sum ∙ ap (λ (t : List ℕ). get_or t (length front) 0) split
-    ∙ get_or-append_seam front 10 race 0 in
-    none k (omega arith) (omega arith) (ap (λ b. eqb b 10) byte)
+-- no line ends in so many of the bytes
+abbrev pub HasNoEnd : List ℕ → ℕ → Type 0
+HasNoEnd text n = (k : ℕ) → 0 ≤ k → k < n → eqb (get_or text k 0) 10 ≡ true → ⊥
 
--- one line more of the text, behind these bytes of it
-record IsLine (text : List ℕ) (at end : ℕ) : Type 0 where
-  within : at + end + 1 ≤ length text
-  cut : text ≡ take (at + end) text ++ (10 ∷ drop (at + end + 1) text)
-  one : line_count (take (at + end + 1) text) ≡ line_count (take at text) + 1
-  left : drop (end + 1) (drop at text) ≡ drop (at + end + 1) text
-  later : (other : ℕ) → BeginsRace text other → at + 1 ≤ other → at + end + 1 ≤ other
+pub no_lines : (text : List ℕ) (n : ℕ) → n ≤ length text → HasNoEnd text n → line_count (take n text) ≡ 0
+no_lines text n inside none =
+    let size : length (take n text) ≡ n = length-take-le n text inside in
+    no_line (take n text) (λ k lt is. none k (omega arith) (omega arith) (ap (λ b. eqb b 10) (sym (get_or-take n text k 0 (omega arith))) ∙ is))
 
-is_line : (text : List ℕ) (at end : ℕ) → at ≤ length text → IsFirstByte (is_byte 10) (drop at text) (Some end) → IsLine text at end
-is_line text at end inside (first, is) =
-    let rest = drop at text in
-    let n = at + end in
-    let size : length rest ≡ length text - at = length-drop at text in
-    let short : end < length rest = first.high in
-    let here : get_or rest end 0 ≡ 10 = eqb-true (get_or rest end 0) 10 is in
-    let byte : get_or text n 0 ≡ 10 = sym (get_or-drop at text end 0) ∙ here in
-    let next : suc n ≡ n + 1 = omega arith in
-    let sum : n + 1 ≡ at + (end + 1) = omega arith in
-    let front : length (take end rest) ≡ end = length-take-le end rest (omega arith) in
-    let before : line_count (take end rest) ≡ 0 =
-    no_line (take end rest) (λ k lt mark. first.before k (omega arith) (omega arith) (ap (λ b. eqb b 10) (sym (get_or-take end rest k 0 (omega arith))) ∙ mark)) in
-    let line : take (end + 1) rest ≡ take end rest ++ 10 ∷ [] = take_more rest end 0 short ∙ ap (λ (b : ℕ). take end rest ++ b ∷ []) here in
-    let counted : line_count (take (end + 1) rest) ≡ 1 = ap line_count line ∙ line_count-append (take end rest) (10 ∷ []) ∙ ap (λ c. c + 1) before in
-    record {
-      within = omega arith;
-      cut = split_at text n 0 (omega arith) ∙ ap (λ (b : ℕ). take n text ++ (b ∷ drop (suc n) text)) byte ∙ ap (λ (m : ℕ). take n text ++ (10 ∷ drop m text)) next;
-      one = ap (λ (m : ℕ). line_count (take m text)) sum ∙ ap line_count (take-add at (end + 1) text) ∙ line_count-append (take at text) (take (end + 1) rest) ∙ ap (λ c. line_count (take at text) + c) counted;
-      left = drop-drop (end + 1) at text ∙ ap (λ (m : ℕ). drop m text) (sym sum);
-      later = λ other is' past. let far : n < other = lt_of_not-le (λ le. early rest text at end other refl first.before is' past le) in omega arith;
-    }
+-- no race begins up to there, whatever follows
+pub no_race : (text more : List ℕ) (n other : ℕ) → n ≤ length text → HasNoEnd text n → BeginsRace (text ++ more) other → n + 1 ≤ other
+no_race text more n other inside none (front, version, rest, split, place) =
+    let past : n < other = lt_of_not-le (λ le. early le) in
+    omega arith
+  where
+    early : other ≤ n → ⊥
+    early le =
+        let k : ℕ = length front in
+        let race : List ℕ = header_of version ++ (10 ∷ rest) in
+        let byte : get_or text k 0 ≡ 10 =
+        sym (get_or_append_left text more 0 k (omega arith)) ∙ ap (λ (t : List ℕ). get_or t k 0) split ∙ get_or-append_seam front 10 race 0 in
+        none k (omega arith) (omega arith) (ap (λ b. eqb b 10) byte)
 
 -- the first line of a text is a race's
 starts : (text : List ℕ) → begins_race text ≡ true → (version : Version) × (more : List ℕ) × (text ≡ header_of version ++ (10 ∷ more))
@@ -102,6 +73,11 @@ is_start text Two more is =
     or_true true = refl
     or_true false = refl
 
+start_more : (text more : List ℕ) → 7 ≤ length text → begins_race (text ++ more) ≡ begins_race text
+start_more text more long =
+    ap (λ b. b || begins (codes "race 2" ++ 10 ∷ []) (text ++ more)) (begins_more (codes "race 1" ++ 10 ∷ []) text more long)
+    ∙ ap (λ b. begins (codes "race 1" ++ 10 ∷ []) text || b) (begins_more (codes "race 2" ++ 10 ∷ []) text more long)
+
 -- what stands at the place where a race begins
 race_there : (text : List ℕ) (at : ℕ) → BeginsRace text at → begins_race (drop at text) ≡ true
 race_there text at (front, version, more, split, place) =
@@ -112,75 +88,108 @@ race_there text at (front, version, more, split, place) =
     let parts : text ≡ before ++ race = split ∙ sym joined in
     is_start (drop at text) version more (ap (λ (t : List ℕ). drop at t) parts ∙ drop_at before race at long)
 
--- one line more is searched
-pub one_searched : (part : RestOfInput) (lines : ℕ) (rest next : List ℕ) (end : ℕ) → HasSearched part lines rest → IsFirstByte (is_byte 10) rest (Some end)
-    → next ≡ drop (end + 1) rest → begins_race next ≡ false → HasSearched part (lines + 1) next
-one_searched part lines rest next end before found next_is other_line =
-    let text = part.text.now in
-    let First : List ℕ → Type 0 = λ r. IsFirstByte (is_byte 10) r (Some end) in
-    let line = is_line text before.at end before.within (subst First before.left found) in
-    let left : next ≡ drop (before.at + end + 1) text = next_is ∙ ap (drop (end + 1)) before.left ∙ line.left in
-    let one = line.one in
-    let counted = before.counted in
-    let not_there : (other : ℕ) → BeginsRace text other → other ≤ before.at + end + 1 → ⊥ = λ other is le.
-    let far = line.later other is (before.none other is) in
-    let same : other ≡ before.at + end + 1 = omega arith in
-    let race : begins_race next ≡ true = ap begins_race (left ∙ ap (λ n. drop n text) (sym same)) ∙ race_there text other is in
-    true≢false (sym race ∙ other_line) in
+-- a race needs more bytes than these
+pub too_short : (text : List ℕ) → length text ≤ 7 → IsLastRace text
+too_short text short at (front, version, more, split, place) =
+    let size : length text ≡ length front + length (10 ∷ (header_of version ++ (10 ∷ more))) = ap length split ∙ length-append front (10 ∷ (header_of version ++ (10 ∷ more))) in
+    let inner : length (header_of version ++ (10 ∷ more)) ≡ length (header_of version) + length (10 ∷ more) = length-append (header_of version) (10 ∷ more) in
+    let six : length (header_of version) ≡ 6 = header_size version in
+    absurd (omega arith)
+  where
+    header_size : (version : Version) → length (header_of version) ≡ 6
+    header_size One = refl
+    header_size Two = refl
+
+-- the line end at this place of a text, and what stands behind it
+pub record IsLine (text : List ℕ) (at : ℕ) (next : List ℕ) : Type 0 where
+  pub none : HasNoEnd text at
+  pub inside : at + 1 ≤ length text
+  pub cut : text ≡ take at text ++ (10 ∷ next)
+  pub line : take (at + 1) text ≡ take at text ++ 10 ∷ []
+  pub one : line_count (take (at + 1) text) ≡ 1
+  pub left : drop (at + 1) text ≡ next
+
+pub is_line : (text : List ℕ) (at : ℕ) (next : List ℕ) → IsFirstByte (is_byte 10) text (Some at) → next ≡ drop (at + 1) text → IsLine text at next
+is_line text at next (first, is) next_is =
+    let short : at < length text = first.high in
+    let byte : get_or text at 0 ≡ 10 = eqb-true (get_or text at 0) 10 is in
+    let more : suc at ≡ at + 1 = omega arith in
+    let cut : text ≡ take at text ++ (10 ∷ next) =
+    split_at text at 0 short ∙ ap (λ (b : ℕ). take at text ++ (b ∷ drop (suc at) text)) byte ∙ ap (λ (m : ℕ). take at text ++ (10 ∷ drop m text)) more ∙ ap (λ (t : List ℕ). take at text ++ (10 ∷ t)) (sym next_is) in
+    let front : List ℕ = take at text ++ 10 ∷ [] in
+    let long : length front ≡ at + 1 = let size = length-take-le at text (omega arith) in length-append (take at text) (10 ∷ []) ∙ ap (λ n. n + 1) size in
+    let line : take (at + 1) text ≡ front =
+    ap (take (at + 1)) (cut ∙ sym (append_assoc (take at text) (10 ∷ []) next)) ∙ take_front front next (at + 1) long in
+    let before : line_count (take at text) ≡ 0 = no_lines text at (omega arith) first.before in
     record {
-      at = before.at + end + 1;
-      left = left;
-      within = line.within;
-      counted = omega arith;
-      none = λ other is.
-          let past : before.at + end + 1 < other = lt_of_not-le (λ le. not_there other is le) in
-          omega arith;
+      none = first.before;
+      inside = omega arith;
+      cut = cut;
+      line = line;
+      one = ap line_count line ∙ line_count-append (take at text) (10 ∷ []) ∙ ap (λ c. c + 1) before;
+      left = sym next_is;
     }
+  where
+    take_front : (front next : List ℕ) (n : ℕ) → length front ≡ n → take n (front ++ next) ≡ front
+    take_front front next n long = take_at front next n long
 
--- the line begins the next race
-pub next_found : (part next : RestOfInput) (lines : ℕ) (rest : List ℕ) (end : ℕ) → HasSearched part lines rest → IsFirstByte (is_byte 10) rest (Some end)
-    → next.text.now ≡ drop (end + 1) rest → next.lines ≡ lines + 1 → begins_race next.text.now ≡ true → part.lines + length part.text.now ≤ 2 ^ 63 → IsNextPart part next
-next_found part next lines rest end before found next_is lined race room =
-    let text = part.text.now in
-    let First : List ℕ → Type 0 = λ r. IsFirstByte (is_byte 10) r (Some end) in
-    let line = is_line text before.at end before.within (subst First before.left found) in
-    let n = before.at + end in
-    let within = line.within in
-    let left : next.text.now ≡ drop (n + 1) text = next_is ∙ ap (drop (end + 1)) before.left ∙ line.left in
-    let start = starts next.text.now race in
-    let one = line.one in
-    let counted = before.counted in
-    let few : line_count (take (n + 1) text) ≤ length (take (n + 1) text) = count_by-le-length (λ b. eqb b 10) (take (n + 1) text) in
-    let front : length (take (n + 1) text) ≡ n + 1 = length-take-le (n + 1) text (omega arith) in
-    let rest_size : length next.text.now ≡ length text - (n + 1) = ap length left ∙ length-drop (n + 1) text in
-    let place : length (take n text) ≡ n = length-take-le n text (omega arith) in
-    record {
-      at = n + 1;
-      is = record {
-        begins = (take n text, start.0, start.1, line.cut ∙ ap (λ (t : List ℕ). take n text ++ (10 ∷ t)) (sym left ∙ start.2), ap (λ m. m + 1) (sym place));
-        first = λ other is. line.later other is (before.none other is);
-      };
-      text = left;
-      lines = omega arith;
-      room = omega arith;
-    }
+module _ (text more next : List ℕ) (at : ℕ) (line : IsLine text at next) (long : 7 ≤ length next)
+  where
+    behind : drop (at + 1) (text ++ more) ≡ next ++ more
+    behind = drop-append-le (at + 1) text more line.inside ∙ ap (λ (t : List ℕ). t ++ more) line.left
 
--- no line is left
-pub none_left : (part : RestOfInput) (lines : ℕ) (rest : List ℕ) → HasSearched part lines rest → IsFirstByte (is_byte 10) rest None → IsLastRace part.text.now
-none_left part lines rest before none at (front, version, more, split, place) =
-    let text = part.text.now in
-    let is : BeginsRace text at = (front, version, more, split, place) in
-    let race : List ℕ = header_of version ++ (10 ∷ more) in
-    let long : length text ≡ length front + length (10 ∷ race) = ap length split ∙ length-append front (10 ∷ race) in
-    let size : length rest ≡ length text - before.at = ap length before.left ∙ length-drop before.at text in
-    early rest text before.at (length rest) at before.left none is (before.none at is) (omega arith)
+    -- no race begins behind the line end
+    pub no_race_there : begins_race next ≡ false → (other : ℕ) → BeginsRace (text ++ more) other → at + 1 + 1 ≤ other
+    no_race_there other_line other is =
+        let inside = line.inside in
+        let past : at + 1 ≤ other = no_race text more at other (omega arith) line.none is in
+        let far : at + 1 < other = lt_of_not-le (λ le. here le past) in
+        omega arith
+      where
+        here : other ≤ at + 1 → at + 1 ≤ other → ⊥
+        here le past =
+            let same : other ≡ at + 1 = omega arith in
+            let race : begins_race next ≡ true = sym (start_more next more long) ∙ ap begins_race (sym behind ∙ ap (λ n. drop n (text ++ more)) (sym same)) ∙ race_there (text ++ more) other is in
+            true≢false (sym race ∙ other_line)
 
--- a line more can be counted
-pub counts_more : (part : RestOfInput) (lines : ℕ) (rest : List ℕ) → HasSearched part lines rest → part.lines + length part.text.now ≤ 2 ^ 63 → lines ≤ 2 ^ 63
-counts_more part lines rest before room =
-    let text = part.text.now in
-    let few : line_count (take before.at text) ≤ length (take before.at text) = count_by-le-length (λ b. eqb b 10) (take before.at text) in
-    let front : length (take before.at text) ≡ before.at = length-take-le before.at text before.within in
-    let counted = before.counted in
-    let within = before.within in
-    omega arith
+    -- the next race begins there
+    pub race_next : begins_race next ≡ true → IsNextRace (text ++ more) (at + 1)
+    race_next race =
+        let start = starts next race in
+        let inside = line.inside in
+        let front : List ℕ = take at text in
+        let rest : List ℕ = start.1 ++ more in
+        let header : next ++ more ≡ header_of start.0 ++ (10 ∷ rest) = ap (λ (t : List ℕ). t ++ more) start.2 ∙ append_assoc (header_of start.0) (10 ∷ start.1) more in
+        let split : text ++ more ≡ front ++ (10 ∷ (header_of start.0 ++ (10 ∷ rest))) =
+        ap (λ (t : List ℕ). t ++ more) line.cut ∙ append_assoc front (10 ∷ next) more ∙ ap (λ (t : List ℕ). front ++ (10 ∷ t)) header in
+        let size : length front ≡ at = length-take-le at text (omega arith) in
+        record { begins = (front, start.0, rest, split, ap (λ n. n + 1) (sym size)); first = λ other is. no_race text more at other (omega arith) line.none is }
+
+-- the faults from the next race on are those behind bytes in which none begins
+pub after_more : (is_broken : Bool) (lines : ℕ) (text : List ℕ) (n : ℕ) (faults : List TextFault) → n ≤ length text → ((other : ℕ) → BeginsRace text other → n + 1 ≤ other)
+    → AreFaultsAfter is_broken (lines + line_count (take n text)) (drop n text) faults → AreFaultsAfter is_broken lines text faults
+after_more is_broken lines text n faults inside none after = elim after [
+  | inl (last, end) ↦ inl (λ at is. last (at - n) (less at (none at is) is), end)
+  | inr (at, next, are) ↦
+      let one = line_count-append (take n text) (take at (drop n text)) in
+      let joined : take (n + at) text ≡ take n text ++ take at (drop n text) = take-add n at text in
+      let whole : line_count (take (n + at) text) ≡ line_count (take n text) + line_count (take at (drop n text)) = ap line_count joined ∙ one in
+      let lined : lines + line_count (take n text) + line_count (take at (drop n text)) ≡ lines + line_count (take (n + at) text) = omega arith in
+      inr (
+        n + at,
+        record { begins = more at next.begins; first = λ other is. let past = none other is in let first = next.first (other - n) (less other past is) in omega arith },
+        subst₂ (λ (m : ℕ) (t : List ℕ). AreFaultsBehind is_broken m t faults) lined (drop-drop at n text) are,
+      )
+]
+  where
+    less : (other : ℕ) → n + 1 ≤ other → BeginsRace text other → BeginsRace (drop n text) (other - n)
+    less other past (front, version, rest, split, place) =
+        let size : length (drop n front) ≡ length front - n = length-drop n front in
+        (drop n front, version, rest, ap (drop n) split ∙ drop-append-le n front (10 ∷ (header_of version ++ (10 ∷ rest))) (omega arith), omega arith)
+
+    more : (at : ℕ) → BeginsRace (drop n text) at → BeginsRace text (n + at)
+    more at (front, version, rest, split, place) =
+        let race : List ℕ = 10 ∷ (header_of version ++ (10 ∷ rest)) in
+        let size : length (take n text ++ front) ≡ length (take n text) + length front = length-append (take n text) front in
+        let first : length (take n text) ≡ n = length-take-le n text inside in
+        (take n text ++ front, version, rest, sym (take-append-drop n text) ∙ ap (λ (t : List ℕ). take n text ++ t) split ∙ sym (append_assoc (take n text) front race), omega arith)

@@ -1,5 +1,5 @@
--- Whole lines before a part of a text: the texts of races are such, and a line behind them is one of the part.
-use Rattle.std.proofs.Common.{ℕ, ◌≡◌, ◌+◌, ◌-◌, ◌<◌, ◌≤◌, ◌^◌, Bool, true, false, cond, eqb, List, [], ◌∷◌, ◌++◌, length, get_or, take, refl, sym, subst, ◌∙◌, ap, append_assoc, append-nil, get_or-append-add, take_at, length-append, take-append-drop, arith, codes, inl, inr}
+-- Whole lines at the front of a text: the texts of races are such, and each line behind them is one of the rest.
+use Rattle.std.proofs.Common.{ℕ, zero, suc, ◌≡◌, ◌+◌, ◌-◌, ◌<◌, ◌≤◌, Bool, true, false, cond, eqb, List, [], ◌∷◌, ◌++◌, length, get_or, refl, sym, subst, ◌∙◌, ap, append_assoc, append-nil, get_or-append-add, arith, codes, inl, inr}
 use Rattle.std.specs.List.{join_with_byte, onto_first}
 use Rattle.std.proofs.lemmas.List.Splits.{join_with_byte-slice_split, length-slice_split, slice_split-cons_yes}
 use Rattle.std.proofs.lemmas.Option.{unwrap_or-slice_get}
@@ -9,12 +9,10 @@ use Rattle.he_reading.specs.Parts.{lines_of}
 use Rattle.he_reading.specs.Text.{IsRaceText}
 use Rattle.he_words.specs.Words.{header_of}
 use Rattle.he_inputs.proofs.RaceReadingLaws.{line_count-append}
-use Rattle.he_check.specs.AllFaults.{BeginsRace}
 use Rattle.he_check.specs.Clauses.{line_at}
-use Rattle.he_check.specs.Steps.{AreWhole, EndsText, IsNextPart}
-use Rattle.he_check.specs.declared.parts.RestOfInput.{RestOfInput}
+use Rattle.he_check.specs.Steps.{AreWhole}
 
-whole_append : (first more : List ℕ) → AreWhole first → AreWhole more → AreWhole (first ++ more)
+pub whole_append : (first more : List ℕ) → AreWhole first → AreWhole more → AreWhole (first ++ more)
 whole_append first more are (inl none) = subst AreWhole (sym (ap (λ (r : List ℕ). first ++ r) none ∙ append-nil first)) are
 whole_append first more are (inr (front, is)) = inr (first ++ front, ap (λ (r : List ℕ). first ++ r) is ∙ sym (append_assoc first front (10 ∷ [])))
 
@@ -23,7 +21,7 @@ join_last : (line : List ℕ) (lines : List (List ℕ)) → join_with_byte 10 (l
 join_last line [] = refl
 join_last line (next ∷ lines) = ap (λ (r : List ℕ). line ++ 10 ∷ r) (join_last next lines) ∙ sym (append_assoc line (10 ∷ join_with_byte 10 (next ∷ lines)) (10 ∷ []))
 
-whole_race : (text : List ℕ) (race : Race) → IsRaceText text race → AreWhole text
+pub whole_race : (text : List ℕ) (race : Race) → IsRaceText text race → AreWhole text
 whole_race text race is =
     let header = header_of is.version in
     let lines : List (List ℕ) = is.lines ++ codes "end" ∷ [] in
@@ -59,62 +57,31 @@ lines_behind before rest (inr (front, is)) =
       counted ∙ sym (ap line_count is ∙ line_count-append front (10 ∷ [])),
     )
 
--- a line of the part is that of the text
-pub line_there : (text : List ℕ) (part : RestOfInput) (line : ℕ) → EndsText text 0 part → part.lines + 1 ≤ line → line_at (line - part.lines) part.text.now ≡ line_at line text
-line_there text part line ends behind =
-    let rest = part.text.now in
-    let lines = lines_behind ends.before rest ends.whole in
-    let counted = ends.counted in
-    let same : length lines.0 ≡ part.lines = lines.2 ∙ (let is : line_count ends.before ≡ part.lines = omega arith in is) in
-    let at : ℕ = line - part.lines - 1 in
+-- a line of what stands behind whole lines is one of all
+pub line_there : (before rest : List ℕ) (line : ℕ) → AreWhole before → line_count before + 1 ≤ line → line_at (line - line_count before) rest ≡ line_at line (before ++ rest)
+line_there before rest line whole behind =
+    let lines = lines_behind before rest whole in
+    let same : length lines.0 ≡ line_count before = lines.2 in
+    let at : ℕ = line - line_count before - 1 in
     let place : line - 1 ≡ length lines.0 + at = omega arith in
-    let there : line_at line text ≡ _ = unwrap_or-slice_get (lines_of text) (line - 1) [] in
     unwrap_or-slice_get (lines_of rest) at []
     ∙ sym (get_or-append-add lines.0 (lines_of rest) at [])
     ∙ ap (λ (n : ℕ). get_or (lines.0 ++ lines_of rest) n []) (sym place)
-    ∙ ap (λ (l : List (List ℕ)). get_or l (line - 1) []) (sym (ap lines_of ends.split ∙ lines.1))
-    ∙ sym there
+    ∙ ap (λ (l : List (List ℕ)). get_or l (line - 1) []) (sym lines.1)
+    ∙ sym (unwrap_or-slice_get (lines_of (before ++ rest)) (line - 1) [])
 
--- all of a text ends it
-pub ends_whole_text : (text : List ℕ) (part : RestOfInput) → part.text.now ≡ text → part.lines ≡ 0 → length text ≤ 2 ^ 62 → EndsText text 0 part
-ends_whole_text text part is none room = record {
-  before = [];
-  split = sym is;
-  whole = inl refl;
-  counted = none;
-  room = let size = ap length is in omega arith;
-}
-
--- what ends the end of a text ends the text
-pub ends_behind : (text : List ℕ) (part last : RestOfInput) → EndsText text 0 part → EndsText part.text.now part.lines last → EndsText text 0 last
-ends_behind text part last first second =
-    let counted = first.counted in
-    let more = second.counted in
-    let all : line_count (first.before ++ second.before) ≡ line_count first.before + line_count second.before = line_count-append first.before second.before in
-    record {
-      before = first.before ++ second.before;
-      split = first.split ∙ ap (λ (r : List ℕ). first.before ++ r) second.split ∙ sym (append_assoc first.before second.before last.text.now);
-      whole = whole_append first.before second.before first.whole second.whole;
-      counted = omega arith;
-      room = second.room;
-    }
-
--- what is left from the next race on ends a part
-pub next_ends : (part next : RestOfInput) → IsNextPart part next → EndsText part.text.now part.lines next
-next_ends part next is = ends is.is.begins
+-- a line behind which another one stands stays, whatever follows the text
+pub line_stays : (text more : List ℕ) (at : ℕ) → at + 1 < length (lines_of text) → get_or (lines_of (text ++ more)) at [] ≡ get_or (lines_of text) at []
+line_stays [] more at short = let one : length (lines_of []) ≡ 1 = refl in absurd (omega arith)
+line_stays (byte ∷ text) more at short =
+    by_mark (eqb byte 10) (lines_of text) (lines_of (text ++ more)) at (let counted = length-slice_split (λ b. eqb b 10) text in omega arith)
+    (let counted = length-slice_split (λ b. eqb b 10) (text ++ more) in omega arith) (line_stays text more) short
   where
-    ends : BeginsRace part.text.now is.at → EndsText part.text.now part.lines next
-    ends (front, version, more, split, place) =
-        let text = part.text.now in
-        let race : List ℕ = header_of version ++ (10 ∷ more) in
-        let before : List ℕ = front ++ 10 ∷ [] in
-        let joined : before ++ race ≡ front ++ (10 ∷ race) = append_assoc front (10 ∷ []) race in
-        let parts : text ≡ before ++ race = split ∙ sym joined in
-        let long : length before ≡ is.at = length-append front (10 ∷ []) ∙ sym place in
-        record {
-          before = take is.at text;
-          split = sym (take-append-drop is.at text) ∙ ap (λ (r : List ℕ). take is.at text ++ r) (sym is.text);
-          whole = inr (front, ap (take is.at) parts ∙ take_at before race is.at long);
-          counted = is.lines;
-          room = is.room;
-        }
+    by_mark : (mark : Bool) (lines longer : List (List ℕ)) (at : ℕ) → 0 < length lines → 0 < length longer → ((n : ℕ) → n + 1 < length lines → get_or longer n [] ≡ get_or lines n [])
+        → at + 1 < length (cond mark ([] ∷ lines) (onto_first byte lines)) → get_or (cond mark ([] ∷ longer) (onto_first byte longer)) at [] ≡ get_or (cond mark ([] ∷ lines) (onto_first byte lines)) at []
+    by_mark true lines longer zero some others same short = refl
+    by_mark true lines longer (suc at) some others same short = same at (omega arith)
+    by_mark false [] longer at some others same short = absurd (omega arith)
+    by_mark false (line ∷ lines) [] at some others same short = absurd (omega arith)
+    by_mark false (line ∷ lines) (other ∷ longer) zero some others same short = ap (λ (l : List ℕ). byte ∷ l) (same zero (omega arith))
+    by_mark false (line ∷ lines) (other ∷ longer) (suc at) some others same short = same (suc at) (omega arith)

@@ -1,6 +1,6 @@
 -- Which faults of an input are told where a check goes on after a faulty race: the first one of each part of it. A
 -- part begins with the input, or with the next race after a faulty one.
-use Rattle.std.specs.Prelude.{ℕ, ◌≡◌, ◌⊎◌, ◌≤◌, ◌+◌, ◌-◌, ◌==◌, Bool, true, false, List, [], ◌∷◌, ◌++◌, length, take, drop, codes, decimal, if◌then◌else◌, Some}
+use Rattle.std.specs.Prelude.{ℕ, ◌≡◌, ◌⊎◌, ◌≤◌, ◌+◌, ◌-◌, ◌==◌, Bool, true, false, List, [], ◌∷◌, ◌++◌, length, take, drop, codes, decimal, if◌then◌else◌, Option, Some}
 use Rattle.he_timeline.specs.Race.{Race}
 use Rattle.he_inputs.specs.Inputs.{HasRaces, fault_at_end, line_count}
 use Rattle.he_words.specs.Ranges.{line_end}
@@ -12,6 +12,7 @@ use Rattle.he_check.specs.Clauses.{hint_of}
 use Rattle.he_check.specs.Kinds.{kind_text}
 use Rattle.he_check.specs.Sentences.{clause_text}
 use Rattle.he_check.specs.declared.limits.TheConstants.{MOST_TOLD}
+use Rattle.he_check.specs.declared.meant.Meant.{Meant}
 
 -- the line that begins at this place is `race 1` or `race 2`, and another one ends before it
 abbrev pub BeginsRace : List ℕ → ℕ → Type 0
@@ -47,11 +48,14 @@ AreFaultsBehind is_broken lines text (fault ∷ faults) =
 abbrev pub AreFaults : List ℕ → Bool → List TextFault → Type 0
 AreFaults input is_broken faults = AreFaultsBehind is_broken 0 input faults
 
--- he: line N: KIND, and what is said of the fault, which ends in its clause
-abbrev pub fault_text : List ℕ → TextFault → List ℕ → List ℕ
-fault_text input fault said =
+-- he: line N: KIND, and what is said of the fault, which ends in the clause of what was meant
+abbrev pub said_text : TextFault → List ℕ → Option Meant → List ℕ
+said_text fault said meant =
     codes "he: line " ++ (decimal fault.line ++ (codes ": " ++ (kind_text fault.kind
-    ++ (10 ∷ (said ++ clause_text (hint_of input fault))))))
+    ++ (10 ∷ (said ++ clause_text meant)))))
+
+abbrev pub fault_text : List ℕ → TextFault → List ℕ → List ℕ
+fault_text input fault said = said_text fault said (hint_of input fault)
 
 -- the text tells these faults of the input, one after the other
 abbrev pub AreSaid : List ℕ → List TextFault → List ℕ → Type 0

@@ -4,7 +4,7 @@ use Rattle.he_addr.specs.declared.ip.Family.TheVariants as families
 use Rattle.he_check.specs.declared.meant.Meant.{Meant}
 use Rattle.he_check.specs.declared.meant.Meant.TheVariants.{Comment, Tab, Capitals, Zone, Brackets, Comma, Name, DefaultRoute, IpOutput, Device, Unit, Sign, Packed, Wide, Capture, Json}
 use Rattle.he_check.specs.declared.slips.Slip.{Slip}
-use Rattle.he_check.specs.declared.slips.Slip.TheVariants.{NoRace, NoSource, IdleFloor, NoAnswer, LateAnswer, UnusableAnswer}
+use Rattle.he_check.specs.declared.slips.Slip.TheVariants.{NoRace, NoSource, IdleFloor, NoRoute, NoAnswer, LateAnswer, UnusableAnswer, NoSourceOf, LateOutcome}
 use Rattle.he_check.specs.declared.slips.Warning.{Warning}
 
 abbrev pub sentence_of : Slip → List ℕ
@@ -12,6 +12,8 @@ sentence_of NoRace = codes "the input has no race: a race begins with the line `
 sentence_of NoSource = codes "this race has no source line, so its host reaches no address: write its addresses, as `he host` does for this machine"
 sentence_of IdleFloor =
     codes "the floor of this race is its attempt delay, so it changes nothing: set a lower one, or none"
+sentence_of (NoRoute families.V6) = codes "the host of this race has an IPv6 source and no IPv6 route, so it reaches no IPv6 address: write a route, as `route ::/0 1`"
+sentence_of (NoRoute families.V4) = codes "the host of this race has an IPv4 source and no IPv4 route, so it reaches no IPv4 address: write a route, as `route 0.0.0.0/0 1`"
 sentence_of (NoAnswer families.V6) = codes "this race has no aaaa line, so it can't be exhausted: for an answer without an address write `aaaa TICK none`"
 sentence_of (NoAnswer families.V4) =
     codes "this race has no a line, so it can't be exhausted: for an answer without an address write `a TICK none`"
@@ -21,6 +23,10 @@ sentence_of (LateAnswer families.V4) =
 sentence_of (UnusableAnswer families.V6) = codes "no address of this race's aaaa line may be tried, as each is unspecified, multicast or in ::ffff:0:0/96: write others, or `none`"
 sentence_of (UnusableAnswer families.V4) =
     codes "no address of this race's a line may be tried, as each is unspecified or multicast: write others, or `none`"
+sentence_of (NoSourceOf families.V6) = codes "the host of this race has no IPv6 source, so it reaches no address of the aaaa line: write its IPv6 addresses, or `aaaa TICK none`"
+sentence_of (NoSourceOf families.V4) = codes "the host of this race has no IPv4 source, so it reaches no address of the a line: write its IPv4 addresses, or `a TICK none`"
+sentence_of (LateOutcome families.V6) = codes "an outcome of an IPv6 address of this race comes after its limit and is never seen: set a higher limit, or a shorter time"
+sentence_of (LateOutcome families.V4) = codes "an outcome of an IPv4 address of this race comes after its limit and is never seen: set a higher limit, or a shorter time"
 
 -- he: line N: warning: SENTENCE
 abbrev pub warning_text : Warning → List ℕ

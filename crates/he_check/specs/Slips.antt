@@ -1,17 +1,23 @@
 -- What is allowed in a race and surely not meant, and where a check of an input warns of it.
-use Rattle.std.specs.Prelude.{ℕ, ◌≡◌, ◌+◌, ◌==◌, ◌++◌, Bool, false, not, List, [], ◌∷◌, length, map, nat_lt, if◌then◌else◌, Option, Some, None}
+use Rattle.std.specs.Prelude.{ℕ, ◌≡◌, ◌+◌, ◌-◌, ◌==◌, ◌++◌, ◌&&◌, Bool, false, not, List, [], ◌∷◌, length, map, nat_lt, if◌then◌else◌, Option, Some, None}
 use Rattle.std.specs.List.{list_any}
 use Rattle.std.specs.Option.{option_map_or}
-use Rattle.he_addr.specs.Ip.{is_usable}
+use Rattle.he_addr.specs.Ip.{is_of, is_usable}
+use Rattle.he_addr.specs.Prefix.{PrefixBits, is_inside_mapped}
 use Rattle.he_addr.specs.declared.ip.Family.{Family}
 use Rattle.he_addr.specs.declared.ip.Family.TheVariants as families
 use Rattle.he_addr.specs.declared.ip.Ip.{Ip}
 use Rattle.he_timeline.specs.Race.{Race, Reply}
 use Rattle.he_timeline.specs.Settings.{SettingValues}
+use Rattle.he_timeline.specs.Timeline.{duration_of}
+use Rattle.he_timeline.specs.declared.outcome.Outcome.{Outcome}
+use Rattle.he_select.specs.Hosts.{HostLists}
+use Rattle.he_select.specs.declared.host.Route.{Route}
+use Rattle.he_select.specs.declared.host.Source.{Source}
 use Rattle.he_inputs.specs.Inputs.{line_count}
 use Rattle.he_reading.specs.Text.{IsRaceText}
 use Rattle.he_check.specs.declared.slips.Slip.{Slip}
-use Rattle.he_check.specs.declared.slips.Slip.TheVariants.{NoRace, NoSource, IdleFloor, NoAnswer, LateAnswer, UnusableAnswer}
+use Rattle.he_check.specs.declared.slips.Slip.TheVariants.{NoRace, NoSource, IdleFloor, NoRoute, NoAnswer, LateAnswer, UnusableAnswer, NoSourceOf, LateOutcome}
 use Rattle.he_check.specs.declared.slips.Warning.{Warning}
 
 abbrev pub slip_if : Bool → Slip → List Slip
@@ -26,19 +32,56 @@ abbrev pub are_unusable : List Ip → Bool
 are_unusable [] = false
 are_unusable (ip ∷ ips) = not (list_any is_usable (ip ∷ ips))
 
--- a family without an answer; an answer after the limit; one whose addresses are none
-abbrev pub answer_slips : Family → ℕ → Option Reply → List Slip
-answer_slips family limit None = NoAnswer family ∷ []
-answer_slips family limit (Some reply) =
-    slip_if (nat_lt limit reply.tick) (LateAnswer family)
-    ++ slip_if (are_unusable reply.addresses) (UnusableAnswer family)
+abbrev pub has_source : List Source → Family → Bool
+has_source sources family = list_any (λ source. is_of family source.ip) sources
+
+-- a route inside ::ffff:0:0/96 serves IPv4 destinations alone, any other route IPv6 destinations alone
+abbrev pub serves : PrefixBits → Family → Bool
+serves prefix families.V6 = not (is_inside_mapped prefix)
+serves prefix families.V4 = is_inside_mapped prefix
+
+abbrev pub has_route : List Route → Family → Bool
+has_route routes family = list_any (λ route. serves route.prefix family) routes
+
+-- a destination is reached by a route of its family and a source of its family (RFC 6724 sections 4 and 5): there is a
+-- source, and no route
+abbrev pub lacks_route : HostLists → Family → Bool
+lacks_route host family = has_source host.sources family && not (has_route host.routes family)
+
+-- there are sources, none of them of the family, and an address of the family that may be tried
+abbrev pub lacks_source : HostLists → Family → List Ip → Bool
+lacks_source host family ips =
+    not (length host.sources == 0) && (not (has_source host.sources family) && list_any is_usable ips)
+
+-- an attempt at an address of the family takes longer
+abbrev pub is_longer : Family → ℕ → Ip × Outcome → Bool
+is_longer family ticks told = is_of family told.0 && nat_lt ticks (duration_of told.1)
+
+-- the answer comes by the limit, and an attempt of the family takes longer than what is left then: none starts before
+-- its answer (RFC 8305 section 3)
+abbrev pub has_late_outcome : Race → Family → ℕ → Bool
+has_late_outcome race family tick =
+    not (nat_lt race.settings.limit tick)
+    && list_any (is_longer family (race.settings.limit - tick)) race.outcomes
+
+-- a family without an answer; an answer after the limit; one whose addresses are none; one whose addresses the host
+-- doesn't reach; an outcome after the limit
+abbrev pub answer_slips : Race → Family → Option Reply → List Slip
+answer_slips race family None = NoAnswer family ∷ []
+answer_slips race family (Some reply) =
+    slip_if (nat_lt race.settings.limit reply.tick) (LateAnswer family)
+    ++ (slip_if (are_unusable reply.addresses) (UnusableAnswer family)
+    ++ (slip_if (lacks_source race.host family reply.addresses) (NoSourceOf family)
+    ++ slip_if (has_late_outcome race family reply.tick) (LateOutcome family)))
 
 -- a race without a source stands first; the others in the order of its lines
 abbrev pub slips_of : Race → List Slip
 slips_of race =
     slip_if (length race.host.sources == 0) NoSource
     ++ (slip_if (is_floor_idle race.settings) IdleFloor
-    ++ (answer_slips families.V6 race.settings.limit race.aaaa ++ answer_slips families.V4 race.settings.limit race.a))
+    ++ (slip_if (lacks_route race.host families.V6) (NoRoute families.V6)
+    ++ (slip_if (lacks_route race.host families.V4) (NoRoute families.V4)
+    ++ (answer_slips race families.V6 race.aaaa ++ answer_slips race families.V4 race.a))))
 
 -- a warning names the line with which its race begins
 abbrev pub warning_at : ℕ → Slip → Warning

@@ -1,151 +1,242 @@
--- Mirrors the code: how far the reader of an input has come whose races are counted, and their warnings; and what is
--- left of an input whose faults are told. What a check tells stands in `Checked`, `Slips` and `AllFaults`.
-use Rattle.std.specs.Prelude.{ℕ, ◌≡◌, ◌⊎◌, ◌≤◌, ◌+◌, ◌^◌, Bool, List, [], ◌∷◌, ◌++◌, ◌||◌, length, take, drop, codes, Option, Some, None, Result, Ok, Err, vec_len}
-use Rattle.std.specs.List.{flat_map}
+-- Mirrors the code: how far a check has come in an input of which it holds the bytes behind the last race that it
+-- passed. What a check tells stands in `Checked`, `Slips` and `AllFaults`.
+use Rattle.std.specs.Prelude.{ℕ, ◌≡◌, ◌⊎◌, ◌<◌, ◌≤◌, ◌+◌, ◌-◌, ◌*◌, ◌==◌, Bool, true, false, List, [], ◌∷◌, ◌++◌, ◌||◌, length, map, take, drop, codes, if◌then◌else◌, Option, Some, None, IfSome, Result, Ok, Err}
+use Rattle.std.specs.List.{flat_map, slice_get}
+use Rattle.std.specs.Option.{option_or}
 use Rattle.he_timeline.specs.Race.{Race}
-use Rattle.he_inputs.specs.Inputs.{HasRaces, line_count}
-use Rattle.he_words.specs.Ranges.{line_end}
-use Rattle.he_inputs.specs.RaceReading.{HasPassed, MayFollow}
-use Rattle.he_inputs.specs.declared.input_fault.InputFault.{InputFault}
+use Rattle.he_inputs.specs.Inputs.{AreRaceTexts, HasRaces, line_count}
+use Rattle.he_inputs.specs.RaceReading.{EndsAt, IsReaderFault, IsWithin, MayFollow, ending_of}
 use Rattle.he_inputs.specs.declared.input_fault.InputFault.TheVariants.{Text, Read}
-use Rattle.he_words.specs.declared.fault.TextFault.{TextFault}
 use Rattle.he_inputs.specs.declared.race_reader.Ending.{Ending}
+use Rattle.he_inputs.specs.declared.race_reader.Ending.TheVariants as endings
 use Rattle.he_inputs.specs.declared.race_reader.RaceReader.{RaceReader}
-use Rattle.he_words.specs.Ranges.{most_races}
-use Rattle.he_check.specs.declared.limits.TheConstants.{MOST_TOLD}
-use Rattle.he_check.specs.AllFaults.{AreFaults, AreFaultsBehind, AreSaid, AreTold, BeginsRace, IsNextRace, behind, fault_text}
-use Rattle.he_check.specs.Clauses.{EndsInClause}
-use Rattle.he_check.specs.Checked.{IsRight, IsSure, IsWrong}
-use Rattle.he_check.specs.Meant.{begins}
-use Rattle.he_check.specs.Sentences.{warning_text}
-use Rattle.he_check.specs.Slips.{AreWarned, HasWarnings}
-use Rattle.he_check.specs.Stream.{report_text}
-use Rattle.he_check.specs.declared.input.Checked.{Checked}
+use Rattle.he_inputs.specs.declared.race_reader.RaceReaderFault.TheVariants as readers
 use Rattle.he_inputs.specs.declared.stream_fault.StreamFault.{StreamFault}
 use Rattle.he_inputs.specs.declared.stream_fault.StreamFault.TheVariants as checks
+use Rattle.he_words.specs.Ranges.{line_end, most_races}
+use Rattle.he_words.specs.declared.fault.TextFault.{TextFault}
+use Rattle.he_check.specs.AllFaults.{AreFaults, AreFaultsBehind, AreSaid, IsLastRace, IsNextRace, end_text, more_text, said_text}
+use Rattle.he_check.specs.Checked.{IsRight}
+use Rattle.he_check.specs.Clauses.{is_of_words, line_at, line_meant}
+use Rattle.he_check.specs.Meant.{begins, input_meant}
+use Rattle.he_check.specs.Sentences.{clause_text, warning_text}
+use Rattle.he_check.specs.Slips.{AreWarned, HasWarnings, slip_if, warning_at}
+use Rattle.he_check.specs.Stream.{Checks, Explains, report_text}
+use Rattle.he_check.specs.declared.all_faults.Told.{Told}
+use Rattle.he_check.specs.declared.counting.Counted.{Counted}
+use Rattle.he_check.specs.declared.input.Checked.{Checked}
+use Rattle.he_check.specs.declared.limits.TheConstants.{FIRST_BYTES, MOST_TOLD}
+use Rattle.he_check.specs.declared.meant.Meant.{Meant}
 use Rattle.he_check.specs.declared.parts.RestOfInput.{RestOfInput}
-use Rattle.he_check.specs.declared.taking.Held.{Held}
+use Rattle.he_check.specs.declared.slips.Slip.TheVariants.{NoRace}
 use Rattle.he_check.specs.declared.slips.Warning.{Warning}
+use Rattle.he_check.specs.declared.taking.Held.{Held}
 
--- the reader has passed races of the bytes, and these are their warnings
-pub record HasCounted (bytes : List ℕ) (reader : RaceReader) (warnings : List Warning) : Type 0 where
-  pub races : List Race
-  pub passed : HasPassed bytes 0 0 races reader
-  pub few : reader.races ≤ most_races
-  pub warned : AreWarned 0 races (take reader.end bytes) warnings
-
--- the first fault of every input that begins with the bytes, and goes on as it may; or memory was refused
-abbrev pub IsWrongIn : List ℕ → Ending → StreamFault → Type 0
-IsWrongIn bytes ending (checks.Text fault) =
+-- the first fault of every input that begins with the bytes, and goes on as it may
+abbrev pub IsFirstIn : List ℕ → Ending → TextFault → Type 0
+IsFirstIn bytes ending fault =
     (more : List ℕ) (is_broken : Bool) → MayFollow ending more is_broken
     → (races : List Race) × HasRaces (bytes ++ more) is_broken races (Some (Text fault))
-IsWrongIn bytes ending checks.Read =
-    (more : List ℕ) (is_broken : Bool) → MayFollow ending more is_broken
-    → (races : List Race) × HasRaces (bytes ++ more) is_broken races (Some Read)
-IsWrongIn bytes ending checks.Write = ⊥
-IsWrongIn bytes ending checks.Memory = Unit {0}
 
 -- whole lines
 abbrev pub AreWhole : List ℕ → Type 0
 AreWhole lines = (lines ≡ []) ⊎ ((front : List ℕ) × (lines ≡ front ++ line_end ∷ []))
 
--- the part ends a text, and stands behind so many whole lines of it; the lines can be counted
-pub record EndsText (text : List ℕ) (lines : ℕ) (part : RestOfInput) : Type 0 where
-  pub before : List ℕ
-  pub split : text ≡ before ++ part.text.now
-  pub whole : AreWhole before
-  pub counted : part.lines ≡ lines + line_count before
-  pub room : part.lines + length part.text.now ≤ 2 ^ 63
-
--- a fault of a part, its line counted over the whole input
-abbrev pub fault_over : ℕ → InputFault → InputFault
-fault_over lines Read = Read
-fault_over lines (Text fault) = Text (behind lines fault)
-
--- the line of a fault stands behind so many lines
-abbrev pub StandsBehind : ℕ → InputFault → Type 0
-StandsBehind lines Read = Unit {0}
-StandsBehind lines (Text fault) = lines + 1 ≤ fault.line
-
--- the first fault of the part, and what is left from its race on
-pub record IsFirst (is_broken : Bool) (part faulty : RestOfInput) (fault : InputFault) : Type 0 where
-  pub races : List Race
-  pub found : InputFault
-  pub has : HasRaces part.text.now is_broken races (Some found)
-  pub told : fault ≡ fault_over part.lines found
-  pub stands : StandsBehind faulty.lines fault
-  pub rest : faulty.text.now ≡ has.rest
-  pub lines : faulty.lines ≡ part.lines + line_count has.before
-
 -- the first line of the text is `race 1` or `race 2`
 abbrev pub begins_race : List ℕ → Bool
 begins_race text = begins (codes "race 1" ++ 10 ∷ []) text || begins (codes "race 2" ++ 10 ∷ []) text
 
--- behind so many lines of the part this is left, and no race begins up to there
-pub record HasSearched (part : RestOfInput) (lines : ℕ) (rest : List ℕ) : Type 0 where
-  pub at : ℕ
-  pub left : rest ≡ drop at part.text.now
-  pub within : at ≤ length part.text.now
-  pub counted : lines ≡ part.lines + line_count (take at part.text.now)
-  pub none : (other : ℕ) → BeginsRace part.text.now other → at + 1 ≤ other
+-- what was meant by a fault whose line stands in this rest of an input, behind so many lines
+abbrev pub hint_in : ℕ → List ℕ → TextFault → Option Meant
+hint_in lines rest fault =
+    option_or (if fault.line == 1 then input_meant rest else None)
+    (if is_of_words fault.kind then line_meant (line_at (fault.line - lines) rest) else None)
 
--- what is left of the part from the next race on
-pub record IsNextPart (part next : RestOfInput) : Type 0 where
-  pub at : ℕ
-  pub is : IsNextRace part.text.now at
-  pub text : next.text.now ≡ drop at part.text.now
-  pub lines : next.lines ≡ part.lines + line_count (take at part.text.now)
-  pub room : next.lines + length next.text.now ≤ 2 ^ 63
+-- what is said of it ends in the clause of that
+abbrev pub EndsIn : ℕ → List ℕ → TextFault → List ℕ → Type 0
+EndsIn lines rest fault text = (said : List ℕ) × (text ≡ said ++ clause_text (hint_in lines rest fault))
 
-abbrev pub FindsFirst : Bool → RestOfInput → Option (RestOfInput × InputFault) → Type 0
-FindsFirst is_broken part None = (races : List Race) × HasRaces part.text.now is_broken races None
-FindsFirst is_broken part (Some (faulty, fault)) =
-    IsFirst is_broken part faulty fault × EndsText part.text.now part.lines faulty
+-- no race is faulty yet: these are the races, and their warnings
+pub record IsClean (front : List ℕ) (reader : RaceReader) (warnings : List Warning) : Type 0 where
+  pub races : List Race
+  pub whole : AreRaceTexts races front
+  pub counted : reader.races ≡ length races
+  pub warned : AreWarned 0 races front warnings
 
--- the faults of what is left
-abbrev pub AreLeft : Bool → Option RestOfInput → List TextFault → Type 0
-AreLeft is_broken None faults = faults ≡ []
-AreLeft is_broken (Some part) faults = AreFaultsBehind is_broken part.lines part.text.now faults
+-- the faults of a text that stands behind so many races of its part and so many lines of its input
+abbrev pub AreFaultsPast : Bool → ℕ → ℕ → List ℕ → List TextFault → Type 0
+AreFaultsPast is_broken races lines text faults =
+    (passed : List Race) (front : List ℕ) (start : ℕ) → AreRaceTexts passed front → length passed ≡ races
+    → lines ≡ start + line_count front → AreFaultsBehind is_broken start (front ++ text) faults
 
--- one fault is said
-abbrev pub IsSaid : List ℕ → TextFault → List ℕ → List ℕ → Type 0
-IsSaid input fault old new = (said : List ℕ) × (new ≡ old ++ fault_text input fault said)
+-- the faults of a text that stands behind so many lines, from the next race on
+abbrev pub AreFaultsAfter : Bool → ℕ → List ℕ → List TextFault → Type 0
+AreFaultsAfter is_broken lines text faults =
+    (IsLastRace text × (faults ≡ []))
+    ⊎ ((at : ℕ) × IsNextRace text at
+    × AreFaultsBehind is_broken (lines + line_count (take at text)) (drop at text) faults)
 
--- so many faults were found, the first of them are told, and the others are those of what is left
-pub record HasTold (input : List ℕ) (is_broken : Bool) (left : Option RestOfInput) (count : ℕ)
-    (text : List ℕ) : Type 0 where
+-- the faults of a text before which the reader stands
+abbrev pub AreLeft : Bool → RaceReader → Bool → List ℕ → List TextFault → Type 0
+AreLeft true reader is_broken text faults = AreFaultsAfter is_broken reader.lines text faults
+AreLeft false reader is_broken text faults = AreFaultsPast is_broken reader.races reader.lines text faults
+
+-- the faults so far are told, and those of what is left of the input are the others
+pub record HasTold {A : Type 0} (ending : Ending) (input left : List ℕ) (counted : Counted A) : Type 0 where
   pub faults : List TextFault
-  pub are : (more : List TextFault) → AreLeft is_broken left more → AreFaults input is_broken (faults ++ more)
-  pub counted : count ≡ length faults
-  pub said : AreSaid input (take MOST_TOLD faults) text
+  pub first : counted.told.first ≡ slice_get faults 0
+  pub number : counted.told.count ≡ length faults
+  pub are : (more : List ℕ) (is_broken : Bool) (others : List TextFault) → MayFollow ending more is_broken
+      → AreLeft counted.is_seeking counted.reader is_broken (left ++ more) others
+      → AreFaults (input ++ more) is_broken (faults ++ others)
+  pub said : (more : List ℕ) (is_broken : Bool) → MayFollow ending more is_broken
+      → AreSaid (input ++ more) (take MOST_TOLD faults) counted.told.text.items
 
--- all faults are told
-pub record SaysFaults (input : List ℕ) (is_broken : Bool) (old new : List ℕ) : Type 0 where
-  pub faults : List TextFault
-  pub are : AreFaults input is_broken faults
-  pub text : List ℕ
-  pub said : AreTold input is_broken faults text
-  pub longer : new ≡ old ++ text
+-- how far a check has come in an input of these bytes, which may go on, behind others that are there no more
+pub record IsAt {A : Type 0} (ending : Ending) (before bytes : List ℕ) (counted : Counted A) : Type 0 where
+  pub lined : counted.reader.lines ≡ line_count (before ++ take counted.reader.end bytes)
+  pub whole : counted.is_seeking ≡ false → AreWhole (before ++ take counted.reader.end bytes)
+  pub clean : counted.told.first ≡ None
+      → IsClean (before ++ take counted.reader.end bytes) counted.reader counted.warnings.items
+  pub first : IfSome counted.told.first (IsFirstIn (before ++ bytes) ending)
+  pub alone : counted.told.is_all ≡ false
+      → IfSome counted.told.first (λ fault. counted.reader.lines + 1 ≤ fault.line)
+  pub told : counted.told.is_all ≡ true → HasTold ending (before ++ bytes) (drop counted.reader.end bytes) counted
 
--- the bytes that were taken are filled, and the races of their first part are counted
+-- the numbers of a check: each fault has a line of its own, and the next race is sought behind a fault
+pub record IsSound {A : Type 0} (counted : Counted A) : Type 0 where
+  pub few : counted.reader.races ≤ most_races
+  pub count : counted.told.is_all ≡ true
+      → counted.told.count ≤ counted.reader.lines + (if counted.is_seeking then 1 else 0)
+  pub zero : counted.told.first ≡ None → counted.told.count ≡ 0
+  pub reads : counted.told.first ≡ None → counted.is_seeking ≡ false
+  pub seeks : counted.is_seeking ≡ true → counted.told.is_all ≡ true
+
+-- it may go on: where the first fault alone is asked for, none is found
+abbrev pub IsOpen : {A : Type 0} → Counted A → Type 0
+IsOpen counted = counted.told.is_all ≡ false → counted.told.first ≡ None
+
+-- where all faults are told, the first bytes tell what the input is
+abbrev pub IsEnough : {A : Type 0} → Ending → List ℕ → Counted A → Type 0
+IsEnough ending bytes counted = counted.told.is_all ≡ true → ending ≡ endings.Open → FIRST_BYTES ≤ length bytes
+
+-- what a check needs to go on in the bytes
+pub record MayGo {A : Type 0} (ending : Ending) (bytes : List ℕ) (counted : Counted A) : Type 0 where
+  pub within : IsWithin bytes counted.reader
+  pub sound : IsSound counted
+  pub enough : IsEnough ending bytes counted
+
+-- it went on in the bytes
+pub record HasGone {A : Type 0} (ending : Ending) (bytes : List ℕ) (old new : Counted A) : Type 0 where
+  pub may : MayGo ending bytes new
+  pub all : new.told.is_all ≡ old.told.is_all
+  pub on : (before : List ℕ) → IsAt ending before bytes old → IsAt ending before bytes new
+
+-- it goes no further in the bytes: nothing is wrong with what is left, where nothing follows
+pub record HasStopped {A : Type 0} (ending : Ending) (bytes : List ℕ) (counted : Counted A) : Type 0 where
+  pub ends : counted.told.first ≡ None
+      → EndsAt ending (drop counted.reader.end bytes)
+      ⊎ IsReaderFault bytes ending counted.reader (readers.Input Read)
+  pub none : counted.told.is_all ≡ true → (is_broken : Bool) → ending ≡ ending_of is_broken
+      → AreLeft counted.is_seeking counted.reader is_broken (drop counted.reader.end bytes) []
+
+-- how much is left to do
+abbrev pub steps_left : {A : Type 0} → List ℕ → Counted A → ℕ
+steps_left bytes counted = 2 * (length bytes - counted.reader.end) + (if counted.is_seeking then 0 else 1)
+
+-- one step more was made
+pub record HasStepped {A : Type 0} (ending : Ending) (bytes : List ℕ) (old new : Counted A)
+    (goes_on : Bool) : Type 0 where
+  pub gone : HasGone ending bytes old new
+  pub more : goes_on ≡ true → IsOpen new
+  pub less : goes_on ≡ true → steps_left bytes new < steps_left bytes old
+  pub stopped : goes_on ≡ false → HasStopped ending bytes new
+
+-- nothing is counted yet
+pub record IsNew {A : Type 0} (is_all : Bool) (counted : Counted A) : Type 0 where
+  pub reader : counted.reader ≡ record { end = 0; races = 0; lines = 0 }
+  pub reads : counted.is_seeking ≡ false
+  pub all : counted.told.is_all ≡ is_all
+  pub none : counted.told.first ≡ None
+  pub zero : counted.told.count ≡ 0
+  pub warned : counted.warnings.items ≡ []
+  pub said : counted.told.text.items ≡ []
+
+-- one fault more is counted, and said if it is one of the first
+pub record AddsFault {A : Type 0} (part : RestOfInput) (fault : TextFault) (old new : Told A) : Type 0 where
+  pub all : new.is_all ≡ old.is_all
+  pub first : new.first ≡ option_or old.first (Some fault)
+  pub count : new.count ≡ old.count + 1
+  pub said : old.is_all ≡ true
+      → ((old.count + 1 ≤ MOST_TOLD) × (said : List ℕ)
+      × (new.text.items ≡ old.text.items ++ said_text fault said (hint_in part.lines part.text.now fault)))
+      ⊎ ((MOST_TOLD ≤ old.count) × (new.text.items ≡ old.text.items))
+
+-- what is wrong with an input of which all was looked at
+abbrev pub fault_found : Option TextFault → Bool → Option StreamFault
+fault_found (Some fault) is_broken = Some (checks.Text fault)
+fault_found None true = Some checks.Read
+fault_found None false = None
+
+-- the races and lines, and the warnings
+abbrev pub IsCounted : {A : Type 0} → Counted A → Checked → List Warning → Type 0
+IsCounted counted checked warnings =
+    (checked ≡ record { races = counted.reader.races; lines = counted.reader.lines })
+    × (warnings ≡ counted.warnings.items ++ map (warning_at 1) (slip_if (counted.reader.races == 0) NoRace))
+
+-- what is said of the faults, all or the first one
+pub record IsSaidOf {A : Type 0} (bytes : List ℕ) (is_broken : Bool) (counted : Counted A) (text : List ℕ) : Type 0 where
+  pub all : counted.told.is_all ≡ true → text
+      ≡ counted.told.text.items ++ (more_text (counted.told.count - MOST_TOLD) ++ end_text is_broken)
+  pub none : counted.told.is_all ≡ false → counted.told.first ≡ None → text ≡ []
+  pub first : counted.told.is_all ≡ false
+      → IfSome counted.told.first
+      (λ fault. EndsIn counted.reader.lines (drop counted.reader.end bytes) fault text)
+
+-- a check ends with this fault, and what is said of it is told; or memory was refused
+abbrev pub EndsWith : {A : Type 0} → List ℕ → Bool → Counted A → List ℕ → List ℕ → StreamFault → Type 0
+EndsWith bytes is_broken counted old new fault =
+    ((fault ≡ checks.Memory) × (new ≡ old))
+    ⊎ ((fault_found counted.told.first is_broken ≡ Some fault)
+    × (text : List ℕ) × IsSaidOf bytes is_broken counted text × (new ≡ old ++ text))
+
+-- what is held of an input begins where the reader stands
 pub record IsHeld {A : Type 0} (held : Held A) : Type 0 where
-  pub within : held.filled ≤ vec_len held.bytes
-  pub ready : held.ready ≤ held.filled
-  pub counted : HasCounted (take held.ready held.bytes.items) held.counted.reader held.counted.warnings.items
+  pub within : held.filled ≤ length held.bytes.items
+  pub tried : held.tried ≤ held.filled
+  pub front : held.counted.reader.end ≡ 0
+  pub sound : IsSound held.counted
 
--- An input was taken: whole or up to where it broke off, and it has races and lines, with these warnings, or a fault;
--- or up to a fault that every input has which begins so.
-abbrev pub TakesChecked : (List ℕ → Bool → Type 0) → (List ℕ → Type 0) → List ℕ → List Warning
-    → Result Checked StreamFault → Type 0
-TakesChecked Given Taken bytes warnings (Ok checked) =
-    (is_broken : Bool) × Given bytes is_broken × IsRight bytes is_broken checked × HasWarnings bytes warnings
-TakesChecked Given Taken bytes warnings (Err (checks.Text fault)) =
-    ((is_broken : Bool) × Given bytes is_broken × IsWrong bytes is_broken (checks.Text fault))
-    ⊎ (Taken bytes × IsSure bytes fault)
-TakesChecked Given Taken bytes warnings (Err checks.Read) =
-    (is_broken : Bool) × Given bytes is_broken × IsWrong bytes is_broken checks.Read
-TakesChecked Given Taken bytes warnings (Err checks.Write) = ⊥
-TakesChecked Given Taken bytes warnings (Err checks.Memory) = Unit {0}
+-- the bytes before the reader are there no more
+abbrev pub at_front : {A : Type 0} → Counted A → Counted A
+at_front counted = record counted { reader = record counted.reader { end = 0 } }
+
+-- the bytes that are held, and those of them that were looked at
+abbrev pub held_bytes : {A : Type 0} → Held A → List ℕ
+held_bytes held = take held.filled held.bytes.items
+
+abbrev pub tried_bytes : {A : Type 0} → Held A → List ℕ
+tried_bytes held = take held.tried held.bytes.items
+
+-- of these bytes a first part was forgotten, and the others are held
+abbrev pub HoldsOn : {A : Type 0} → List ℕ → Held A → Held A → Type 0
+HoldsOn bytes old new =
+    (before : List ℕ) → IsAt endings.Open before (tried_bytes old) old.counted
+    → (front : List ℕ) × (before ++ bytes ≡ front ++ held_bytes new)
+    × IsAt endings.Open front (tried_bytes new) new.counted
+
+-- an input was given, whole or up to where it broke off; it has races and lines, with these warnings
+pub record TakesRight (Given : List ℕ → Bool → Type 0) (checked : Checked) (warnings : List Warning) : Type 0 where
+  pub input : List ℕ
+  pub is_broken : Bool
+  pub given : Given input is_broken
+  pub right : IsRight input is_broken checked
+  pub warned : HasWarnings input warnings
+
+-- a check of an input ends with this fault, before anything is put into an output
+abbrev pub TakesWrong : Bool → (List ℕ → Bool → Type 0) → (List ℕ → Type 0) → List ℕ → List ℕ → StreamFault → Type 0
+TakesWrong is_all Given Taken old new fault =
+    Checks Given Taken (λ text. ⊥) (λ text. ⊥) (Unit {0}) (Err fault) × Explains is_all Given Taken old new (Err fault)
 
 -- the warnings of a right input are told, and what it has is written, or a first part of that; or nothing was done
 abbrev pub TellsRight : (List ℕ → Type 0) → (List ℕ → Type 0) → Type 0 → Checked → List Warning → List ℕ → List ℕ
@@ -156,19 +247,3 @@ TellsRight Whole Part Kept checked warnings old new (Err checks.Write) =
     Part (report_text checked) × (new ≡ old ++ flat_map warning_text warnings)
 TellsRight Whole Part Kept checked warnings old new (Err checks.Memory) = Kept × (new ≡ old)
 TellsRight Whole Part Kept checked warnings old new (Err fault) = ⊥
-
--- what is said of a fault of the text
-abbrev pub SaysFirst : List ℕ → StreamFault → List ℕ → List ℕ → Type 0
-SaysFirst input (checks.Text fault) old new = EndsInClause input fault old new
-SaysFirst input fault old new = new ≡ old
-
--- what is said of an input with this first fault
-abbrev pub SaysParts : List ℕ → Bool → StreamFault → List ℕ → List ℕ → Type 0
-SaysParts input is_broken (checks.Text fault) old new = SaysFaults input is_broken old new
-SaysParts input is_broken checks.Read old new = SaysFaults input is_broken old new
-SaysParts input is_broken fault old new = new ≡ old
-
--- one fault more is counted, and said if it is one of the first
-abbrev pub CountsFault : List ℕ → TextFault → ℕ → List ℕ → ℕ → List ℕ → Type 0
-CountsFault input fault count old more new =
-    (more ≡ count + 1) × (((count + 1 ≤ MOST_TOLD) × IsSaid input fault old new) ⊎ ((MOST_TOLD ≤ count) × (new ≡ old)))

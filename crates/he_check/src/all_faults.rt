@@ -1,9 +1,8 @@
-// What is said of the faults of all parts of an input.
+// What is told of the faults of an input.
 
-ghost use Rattle.std.specs.Prelude.{◌≡◌, ◌<◌, ◌≤◌, ◌+◌, ◌-◌, ◌++◌, ◌^◌, ℕ, [], length, None, Some, IfOk, IfSome, OnErr, OnOk};
-ghost use Rattle.std.specs.Io.{StartsWith};
-ghost use Rattle.he_check.specs.AllFaults.{end_text, more_text};
-ghost use Rattle.he_check.specs.Steps.{CountsFault, EndsText, HasTold, IsSaid, SaysFaults};
+ghost use Rattle.std.specs.Prelude.{◌≡◌, ◌≤◌, ◌+◌, ◌-◌, ◌++◌, ◌^◌, [], ℕ, List, None, IfOk, OnOk};
+ghost use Rattle.he_check.specs.AllFaults.{end_text, more_text, said_text};
+ghost use Rattle.he_check.specs.Steps.{AddsFault, hint_in};
 ghost use Rattle.he_check.specs.declared.limits.TheConstants.{MOST_TOLD};
 
 use crate::explaining::explanation_of;
@@ -11,115 +10,65 @@ use crate::kind::append_kind;
 use crate::limits::MOST_TOLD;
 use crate::parts::RestOfInput;
 use he_addr::{Memory, write_number};
-use he_inputs::InputFault;
 use he_words::TextFault;
 use std::alloc::Allocator;
 
-// What is said of the first faults of an input, and how many faults were found.
+// The faults of an input.
 #[derive(Drop)]
-struct Told<A: Allocator> {
-    text: Vec<u8, A>,
-    count: u64,
+pub(crate) struct Told<A: Allocator> {
+    // Whether all of them are told, or none is.
+    pub(crate) is_all: bool,
+    // The first one.
+    pub(crate) first: Option<TextFault>,
+    // How many were found.
+    pub(crate) count: u64,
+    // What is said of the first ones, as many as are told.
+    pub(crate) text: Vec<u8, A>,
 }
 
-// Appends what is said of the first fault of each part of the input, which broke off behind its bytes or not. Where
-// memory was refused the vector is as it was.
-pub(crate) fn explain_all<A: Allocator + Copy>(
-    alloc: A,
-    input: &[u8],
-    is_broken: bool,
-    explanation: &mut Vec<u8, A>,
-) -> Result<(), Memory>
-    ensures ok { OnOk result (SaysFaults input.now is_broken explanation.old.items explanation.new.items) }
-    ensures err { OnErr result (explanation.new.items ≡ explanation.old.items) }
-    ensures stays { StartsWith explanation.new.items explanation.old.items }
-{
-    let mut told = tell_parts(alloc, input, is_broken)?;
-    append_end(told.count, is_broken, &mut told.text)?;
-    explanation.extend_from_slice(told.text.as_slice())?;
-    Ok(())
-}
-
-// What is said of the first faults of the input, part by part.
-fn tell_parts<A: Allocator + Copy>(
-    alloc: A,
-    input: &[u8],
-    is_broken: bool,
-) -> Result<Told<A>, Memory>
-    ensures { IfOk result (λ told. HasTold input.now is_broken None told.count told.text.items) }
-{
-    let mut told = Told {
-        text: Vec::new(alloc),
-        count: 0,
-    };
-    let mut left = Some(RestOfInput::whole(input));
-    while let Some(part) = left {
-        left = tell_first(alloc, input, part, is_broken, &mut told)?;
-    }
-    Ok(told)
-}
-
-// Tells the part's first fault, and answers what is left from the next race on.
-fn tell_first<'t, A: Allocator + Copy>(
-    alloc: A,
-    input: &[u8],
-    part: RestOfInput<'t>,
-    is_broken: bool,
-    told: &mut Told<A>,
-) -> Result<Option<RestOfInput<'t>>, Memory>
-    requires ends { EndsText input.now 0 part }
-    requires few { told.old.count + length part.text.now ≤ 2 ^ 63 }
-    ensures told { IfOk result (λ left. HasTold input.now is_broken (Some part.entry) told.old.count
-        told.old.text.items → HasTold input.now is_broken left told.new.count told.new.text.items) }
-    ensures left { IfOk result (λ left. IfSome left (EndsText input.now 0)) }
-    ensures shorter { IfOk result (λ left. IfSome left (λ next. told.new.count + length next.text.now
-        ≤ told.old.count + length part.entry.text.now)) }
-    ensures less { IfOk result (λ left. IfSome left (λ next. length next.text.now < length part.entry.text.now)) }
-{
-    match part.first_fault(alloc, is_broken)? {
-        Some((faulty, InputFault::Text(fault))) => {
-            tell_fault(alloc, input, faulty, fault, told)?;
-            Ok(faulty.next_race())
+impl<A: Allocator + Copy> Told<A> {
+    // None yet.
+    pub(crate) fn new(alloc: A, is_all: bool) -> Told<A>
+        ensures all { result.is_all ≡ is_all }
+        ensures none { (result.first ≡ None) × (result.count ≡ 0) × (result.text.items ≡ []) }
+    {
+        Told {
+            is_all,
+            first: None,
+            count: 0,
+            text: Vec::new(alloc),
         }
-        Some((_, InputFault::Read)) => Ok(None),
-        None => Ok(None),
     }
-}
 
-// Counts a fault, and tells it if it is one of the first.
-fn tell_fault<A: Allocator + Copy>(
-    alloc: A,
-    input: &[u8],
-    faulty: RestOfInput<'_>,
-    fault: TextFault,
-    told: &mut Told<A>,
-) -> Result<(), Memory>
-    requires within { EndsText input.now 0 faulty }
-    requires behind { faulty.lines + 1 ≤ fault.line }
-    requires few { told.old.count ≤ 2 ^ 63 }
-    ensures { OnOk result (CountsFault input.now fault told.old.count told.old.text.items told.new.count
-        told.new.text.items) }
-{
-    told.count += 1;
-    if told.count > MOST_TOLD {
-        return Ok(());
+    // Counts a fault, and says what it is if it is one of those that are told. Its race begins with this part.
+    pub(crate) fn add(
+        &mut self,
+        alloc: A,
+        part: RestOfInput<'_>,
+        fault: TextFault,
+    ) -> Result<(), Memory>
+        requires { self.old.count ≤ 2 ^ 63 }
+        ensures { OnOk result (AddsFault part.entry fault self.old self.new) }
+    {
+        self.first = self.first.or(Some(fault));
+        self.count += 1;
+        if self.is_all && self.count <= MOST_TOLD {
+            return append_fault(alloc, part, fault, &mut self.text);
+        }
+        Ok(())
     }
-    append_fault(alloc, input, faulty, fault, &mut told.text)
-}
 
-// Appends how many more faults there are than those that are told, and that the input broke off.
-fn append_end<A: Allocator + Copy>(
-    count: u64,
-    is_broken: bool,
-    text: &mut Vec<u8, A>,
-) -> Result<(), Memory>
-    ensures { OnOk result (text.new.items ≡ text.old.items ++ (more_text (count - MOST_TOLD) ++ end_text is_broken)) }
-{
-    append_more(count.saturating_sub(MOST_TOLD), text)?;
-    if is_broken {
-        text.extend_from_slice(b"he: cannot read the input\n")?;
+    // What is said of all of them: of the first ones, how many more there are, and that the input broke off.
+    pub(crate) fn whole_text(&self, alloc: A, is_broken: bool) -> Result<Vec<u8, A>, Memory>
+        ensures { IfOk result (λ text. text.items
+            ≡ self.now.text.items ++ (more_text (self.now.count - MOST_TOLD) ++ end_text is_broken)) }
+    {
+        let mut text = Vec::new(alloc);
+        text.extend_from_slice(self.text.as_slice())?;
+        append_more(self.count.saturating_sub(MOST_TOLD), &mut text)?;
+        append_end(is_broken, &mut text)?;
+        Ok(text)
     }
-    Ok(())
 }
 
 // Appends how many more faults there are, where there are any.
@@ -141,19 +90,27 @@ fn append_more<A: Allocator + Copy>(more: u64, text: &mut Vec<u8, A>) -> Result<
     Ok(())
 }
 
-// Appends the line of a fault of the input and what is said of it. Its race begins with this part.
+// Appends that the input broke off, where it did.
+fn append_end<A: Allocator + Copy>(is_broken: bool, text: &mut Vec<u8, A>) -> Result<(), Memory>
+    ensures { OnOk result (text.new.items ≡ text.old.items ++ end_text is_broken) }
+{
+    if is_broken {
+        text.extend_from_slice(b"he: cannot read the input\n")?;
+    }
+    Ok(())
+}
+
+// Appends the line of a fault and what is said of it. Its race begins with this part.
 fn append_fault<A: Allocator + Copy>(
     alloc: A,
-    input: &[u8],
-    faulty: RestOfInput<'_>,
+    part: RestOfInput<'_>,
     fault: TextFault,
     text: &mut Vec<u8, A>,
 ) -> Result<(), Memory>
-    requires within { EndsText input.now 0 faulty }
-    requires behind { faulty.lines + 1 ≤ fault.line }
-    ensures { OnOk result (IsSaid input.now fault text.old.items text.new.items) }
+    ensures { OnOk result ((said : List ℕ) × (text.new.items
+        ≡ text.old.items ++ said_text fault said (hint_in part.entry.lines part.entry.text.now fault))) }
 {
-    let said = explanation_of(alloc, input, faulty, fault)?;
+    let said = explanation_of(alloc, part, fault)?;
     text.extend_from_slice(b"he: line ")?;
     write_number(fault.line, text)?;
     text.extend_from_slice(b": ")?;

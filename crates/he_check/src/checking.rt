@@ -1,28 +1,25 @@
 //! The check of an input, and what is written of it to an output.
-ghost use Rattle.std.specs.Prelude.{◌≡◌, ◌++◌, IfOk, OnErr, OnOk, false, true};
+ghost use Rattle.std.specs.Prelude.{◌≡◌, ◌++◌, IfOk, OnOk};
 ghost use Rattle.std.specs.Io.{StartsWith};
 ghost use Rattle.he_stream.specs.Input.{Gives, GivesSoFar};
 ghost use Rattle.he_stream.specs.Output.{PutsPart, PutsWhole};
-ghost use Rattle.he_check.specs.Steps.{SaysFirst, SaysParts, TellsRight};
+ghost use Rattle.he_check.specs.Steps.{TellsRight};
 ghost use Rattle.he_check.specs.Stream.{Checks, Explains, counted, report_text};
 
-use crate::all_faults::explain_all;
-use crate::explaining::explain_fault;
-use crate::input::{Checked, check_input};
+use crate::input::Checked;
 use crate::slips::Warning;
-use crate::taking::{Held, take_checked};
+use crate::taking::take_checked;
 use crate::telling::tell_warnings;
 use he_addr::{Memory, write_number};
 use he_inputs::StreamFault;
-use he_inputs::inputs::one_input;
-use he_stream::{InputStream, OutputStream, take_input, write_whole};
+use he_stream::{InputStream, OutputStream, write_whole};
 use std::alloc::Allocator;
 
 /// Reads an input of timelines and checks it: where nothing is wrong it writes how many races and lines the input has,
 /// as `3 races, 27 lines`, and flushes the output. It reads the input to its end, or up to its first fault.
 ///
-/// With `is_all` it reads the input to its end before it checks it, goes on after a faulty race, and reports the first
-/// fault of each part of the input. A part begins with the input, or with the next line `race 1` or `race 2` after the
+/// With `is_all` it reads the input to its end, goes on after a faulty race, and reports the first fault of each part
+/// of the input. A part begins with the input, or with the next line `race 1` or `race 2` after the
 /// first line of a faulty race: where `end` was forgotten, that is the faulty line itself. Each part is checked as an
 /// input of its own, and so may have 4,096 races, but its lines are counted over the whole input. It explains the first
 /// [`MOST_TOLD`](crate::limits::MOST_TOLD) faults, and says how many more there are.
@@ -61,103 +58,8 @@ pub fn check<A: Allocator + Copy, I: InputStream, O: OutputStream>(
     ensures quiet { Explains is_all (Gives I.remaining I.takes input.old input.new)
         (GivesSoFar I.remaining I.takes input.old input.new) explanation.old.items explanation.new.items result }
 {
-    if is_all {
-        check_all(alloc, input, output, explanation)
-    } else {
-        check_first(alloc, input, output, explanation)
-    }
-}
-
-// Checks an input up to its first fault.
-fn check_first<A: Allocator + Copy, I: InputStream, O: OutputStream>(
-    alloc: A,
-    input: &mut I,
-    output: &mut O,
-    explanation: &mut Vec<u8, A>,
-) -> Result<(), StreamFault>
-    ensures done { Checks (Gives I.remaining I.takes input.old input.new)
-        (GivesSoFar I.remaining I.takes input.old input.new)
-        (PutsWhole O.contents O.puts O.flushes output.old output.new)
-        (PutsPart O.contents O.puts O.flushes output.old output.new) (output.new ≡ output.old) result }
-    ensures stays { StartsWith explanation.new.items explanation.old.items }
-    ensures quiet { Explains false (Gives I.remaining I.takes input.old input.new)
-        (GivesSoFar I.remaining I.takes input.old input.new) explanation.old.items explanation.new.items result }
-{
-    let mut held = Held::new(alloc);
-    match take_checked(alloc, input, &mut held) {
-        Ok(checked) => tell_right(alloc, checked, &held.counted.warnings, output, explanation),
-        Err(fault) => {
-            explain_first(alloc, &held.bytes[..held.filled], fault, explanation)?;
-            Err(fault)
-        }
-    }
-}
-
-// Explains the fault, if it is one of the text.
-fn explain_first<A: Allocator + Copy>(
-    alloc: A,
-    input: &[u8],
-    fault: StreamFault,
-    explanation: &mut Vec<u8, A>,
-) -> Result<(), Memory>
-    ensures ok { OnOk result (SaysFirst input.now fault explanation.old.items explanation.new.items) }
-    ensures err { OnErr result (explanation.new.items ≡ explanation.old.items) }
-    ensures stays { StartsWith explanation.new.items explanation.old.items }
-{
-    match fault {
-        StreamFault::Text(found) => Ok(explain_fault(alloc, input, found, explanation)?),
-        StreamFault::Read | StreamFault::Write | StreamFault::Memory => Ok(()),
-    }
-}
-
-// Checks all parts of an input.
-fn check_all<A: Allocator + Copy, I: InputStream, O: OutputStream>(
-    alloc: A,
-    input: &mut I,
-    output: &mut O,
-    explanation: &mut Vec<u8, A>,
-) -> Result<(), StreamFault>
-    ensures done { Checks (Gives I.remaining I.takes input.old input.new)
-        (GivesSoFar I.remaining I.takes input.old input.new)
-        (PutsWhole O.contents O.puts O.flushes output.old output.new)
-        (PutsPart O.contents O.puts O.flushes output.old output.new) (output.new ≡ output.old) result }
-    ensures stays { StartsWith explanation.new.items explanation.old.items }
-    ensures quiet { Explains true (Gives I.remaining I.takes input.old input.new)
-        (GivesSoFar I.remaining I.takes input.old input.new) explanation.old.items explanation.new.items result }
-{
-    one_input();
-    let given = take_input(alloc, input)?;
-    let (bytes, is_broken) = (given.bytes.as_slice(), given.is_broken);
-    match check_input(alloc, bytes, is_broken) {
-        Ok((checked, warnings)) => tell_right(alloc, checked, &warnings, output, explanation),
-        Err(fault) => {
-            explain_parts(alloc, bytes, is_broken, fault, explanation)?;
-            Err(fault)
-        }
-    }
-}
-
-// Explains the faults of all parts of an input with this first fault, if the input is what is at fault.
-fn explain_parts<A: Allocator + Copy>(
-    alloc: A,
-    input: &[u8],
-    is_broken: bool,
-    fault: StreamFault,
-    explanation: &mut Vec<u8, A>,
-) -> Result<(), Memory>
-    ensures ok { OnOk result (SaysParts input.now is_broken fault explanation.old.items explanation.new.items) }
-    ensures err { OnErr result (explanation.new.items ≡ explanation.old.items) }
-    ensures stays { StartsWith explanation.new.items explanation.old.items }
-{
-    match fault {
-        StreamFault::Text(_) | StreamFault::Read => explain_all(
-            alloc,
-            input,
-            is_broken,
-            explanation,
-        ),
-        StreamFault::Write | StreamFault::Memory => Ok(()),
-    }
+    let (checked, warnings) = take_checked(alloc, is_all, input, explanation)?;
+    tell_right(alloc, checked, &warnings, output, explanation)
 }
 
 // Tells the warnings of an input with which nothing is wrong, and writes what it has.

@@ -1,11 +1,12 @@
 // What is said behind the sentence of a fault: what was likely meant.
 
-ghost use Rattle.std.specs.Prelude.{◌≡◌, ◌-◌, ◌++◌, OnOk};
+ghost use Rattle.std.specs.Prelude.{◌≡◌, ◌++◌, OnOk};
 ghost use Rattle.std.specs.List.{slice_get};
 ghost use Rattle.std.specs.Option.{option_copied};
 ghost use Rattle.he_reading.specs.Parts.{lines_of};
-ghost use Rattle.he_check.specs.Clauses.{hint_of, is_of_words, line_at, line_meant};
+ghost use Rattle.he_check.specs.Clauses.{is_of_words, line_at, line_meant};
 ghost use Rattle.he_check.specs.Sentences.{clause_text, meaning_of};
+ghost use Rattle.he_check.specs.Steps.{hint_in};
 
 use crate::meant::{Meant, input_meant, meant_of};
 use crate::parts::RestOfInput;
@@ -27,14 +28,13 @@ pub(crate) fn append_clause<A: Allocator>(
     Ok(())
 }
 
-// What was likely meant where the input has this fault: by its first bytes, or by the words of the faulty line, which
-// stands in the part.
-pub(crate) fn hint_of(input: &[u8], part: RestOfInput<'_>, fault: TextFault) -> Option<Meant>
-    requires { line_at (fault.line - part.lines) part.text.now ≡ line_at fault.line input.now }
-    ensures { result ≡ hint_of input.now fault }
+// What was likely meant where the input has this fault: by its first bytes, or by the words of the faulty line. The
+// line stands in the part, which is all of the input where that is the first line.
+pub(crate) fn hint_in(part: RestOfInput<'_>, fault: TextFault) -> Option<Meant>
+    ensures { result ≡ hint_in part.entry.lines part.entry.text.now fault }
 {
     if fault.line == 1
-        && let Some(meant) = input_meant(input)
+        && let Some(meant) = input_meant(part.text)
     {
         return Some(meant);
     }

@@ -1,77 +1,178 @@
-// How far the races of an input are counted, and what is wrong with it behind them.
-ghost use Rattle.std.specs.Prelude.{[], drop, IfErr, IfOk, OnOk};
-ghost use Rattle.he_inputs.specs.RaceReading.{EndsAt};
-ghost use Rattle.he_check.specs.Checked.{IsRight, IsWrong};
-ghost use Rattle.he_check.specs.Slips.{HasWarnings};
-ghost use Rattle.he_check.specs.Steps.{HasCounted, IsWrongIn};
+// How far a check of an input has come: race by race, and behind a faulty one from the next race on.
+ghost use Rattle.std.specs.Prelude.{◌≡◌, ◌++◌, ◌^◌, ◌≤◌, ◌+◌, length, false, true, IfOk, IsSome, OnOk};
+ghost use Rattle.he_inputs.specs.RaceReading.{IsWithin};
+ghost use Rattle.he_inputs.specs.declared.race_reader.Ending.{Ending};
+ghost use Rattle.he_check.specs.Slips.{warnings_of};
+ghost use Rattle.he_check.specs.Steps.{HasGone, HasStepped, HasStopped, IsCounted, IsNew, IsOpen, MayGo, fault_found};
 
+use crate::all_faults::Told;
 use crate::input::Checked;
+use crate::parts::{RACE_LINE, RestOfInput, begins_race};
 use crate::slips::{Slip, Warning, add_if, add_warnings};
-use he_inputs::{Ending, RaceReader, StreamFault};
-use std::alloc::Allocator;
+use he_addr::Memory;
+use he_inputs::laws::first_faults;
+use he_inputs::{Ending, InputFault, RaceReader, RaceReaderFault, StreamFault};
+use he_timeline::Timeline;
+use he_words::LINE_END;
+use memchr::memchr;
+use std::alloc::{AllocError, Allocator};
 use std::mem::drop;
 
-// The races at the front of an input, and their warnings.
+// How far a check has come in the bytes that are there of an input, and what it found before that.
 #[derive(Drop)]
 pub(crate) struct Counted<A: Allocator> {
     pub(crate) reader: RaceReader,
+    // Whether the next race is sought: the reader stands behind the beginning of a faulty one.
+    pub(crate) is_seeking: bool,
+    // Those of the races before the first faulty one.
     pub(crate) warnings: Vec<Warning, A>,
+    pub(crate) told: Told<A>,
 }
 
 impl<A: Allocator + Copy> Counted<A> {
-    // None yet.
-    pub(crate) fn new(alloc: A) -> Counted<A>
-        ensures { HasCounted [] result.reader result.warnings.items }
+    // At the front of an input, of whose faults all are asked for, or the first one alone.
+    pub(crate) fn new(alloc: A, is_all: bool) -> Counted<A>
+        ensures { IsNew is_all result }
     {
         Counted {
             reader: RaceReader::START,
+            is_seeking: false,
             warnings: Vec::new(alloc),
+            told: Told::new(alloc, is_all),
         }
     }
 
-    // Counts the races that follow in the bytes, which are those of the calls before, or more of them: up to where it
-    // depends on what follows the bytes.
-    pub(crate) fn go_on(
-        &mut self,
-        alloc: A,
-        bytes: &[u8],
-        ending: Ending,
-    ) -> Result<(), StreamFault>
-        requires { HasCounted bytes.now self.old.reader self.old.warnings.items }
-        ensures counted { OnOk result (HasCounted bytes.now self.new.reader self.new.warnings.items) }
-        ensures ends { OnOk result (EndsAt ending (drop self.new.reader.end bytes.now)) }
-        ensures wrong { IfErr result (IsWrongIn bytes.now ending) }
+    // Goes on in the bytes, up to where it depends on what follows them, or, where the first fault alone is asked for,
+    // up to that.
+    pub(crate) fn go_on(&mut self, alloc: A, bytes: &[u8], ending: Ending) -> Result<(), Memory>
+        requires may { MayGo ending bytes.now self.old }
+        requires more { IsOpen self.old }
+        ensures gone { OnOk result (HasGone ending bytes.now self.old self.new) }
+        ensures stopped { OnOk result (HasStopped ending bytes.now self.new) }
     {
         loop {
-            let line = self.reader.lines + 1;
-            let Some(race) = self.reader.next(alloc, bytes, ending)? else {
+            if !self.step(alloc, bytes, ending)? {
                 return Ok(());
-            };
-            let added = add_warnings(&race, line, &mut self.warnings);
-            drop(race);
-            added?;
+            }
         }
     }
 
-    // Counts the races that follow in the bytes, which are all of the input: it broke off behind them or not. Answers
-    // its races and lines.
-    pub(crate) fn finish(
-        &mut self,
-        alloc: A,
-        bytes: &[u8],
-        is_broken: bool,
-    ) -> Result<Checked, StreamFault>
-        requires { HasCounted bytes.now self.old.reader self.old.warnings.items }
-        ensures right { IfOk result (IsRight bytes.now is_broken) }
-        ensures warned { OnOk result (HasWarnings bytes.now self.new.warnings.items) }
-        ensures wrong { IfErr result (IsWrong bytes.now is_broken) }
+    // Passes the next race or finds its fault; or passes the rest of a line, where the next race is sought. Whether
+    // there is more to do.
+    fn step(&mut self, alloc: A, bytes: &[u8], ending: Ending) -> Result<bool, Memory>
+        requires may { MayGo ending bytes.now self.old }
+        requires more { IsOpen self.old }
+        ensures { IfOk result (HasStepped ending bytes.now self.old self.new) }
     {
-        self.go_on(alloc, bytes, Ending::of(is_broken))?;
-        let has_none = self.reader.races == 0;
-        add_if(has_none, 1, Slip::NoRace, &mut self.warnings)?;
-        Ok(Checked {
-            races: self.reader.races as u64,
-            lines: self.reader.lines,
-        })
+        if self.is_seeking {
+            Ok(self.seek(bytes))
+        } else {
+            self.read_on(alloc, bytes, ending)
+        }
     }
+
+    fn read_on(&mut self, alloc: A, bytes: &[u8], ending: Ending) -> Result<bool, Memory>
+        requires may { MayGo ending bytes.now self.old }
+        requires more { IsOpen self.old }
+        requires reads { self.old.is_seeking ≡ false }
+        ensures { IfOk result (HasStepped ending bytes.now self.old self.new) }
+    {
+        first_faults();
+        let line = self.reader.lines + 1;
+        match self.reader.next(alloc, bytes, ending) {
+            Ok(Some(race)) => {
+                let added = warn(self.told.first.is_some(), &race, line, &mut self.warnings);
+                drop(race);
+                added?;
+                Ok(true)
+            }
+            Ok(None) => Ok(false),
+            Err(RaceReaderFault::Input(InputFault::Read)) => Ok(false),
+            Err(RaceReaderFault::Input(InputFault::Text(fault))) => {
+                let part = RestOfInput {
+                    text: &bytes[self.reader.end..],
+                    lines: self.reader.lines,
+                };
+                self.told.add(alloc, part, fault)?;
+                self.is_seeking = self.told.is_all;
+                Ok(self.is_seeking)
+            }
+            Err(RaceReaderFault::Memory) => Err(Memory),
+        }
+    }
+
+    // Passes the rest of a line, if it ends in the bytes and enough stands behind it to tell whether a race begins.
+    fn seek(&mut self, bytes: &[u8]) -> bool
+        requires within { IsWithin bytes.now self.old.reader }
+        requires seeks { self.old.is_seeking ≡ true }
+        requires more { IsOpen self.old }
+        ensures { (ending : Ending) → MayGo ending bytes.now self.old
+            → HasStepped ending bytes.now self.old self.new result }
+    {
+        let rest = &bytes[self.reader.end..];
+        let Some(at) = memchr(LINE_END, rest) else {
+            self.reader.end = bytes.len();
+            return false;
+        };
+        let next = &rest[at + 1..];
+        if next.len() < RACE_LINE {
+            self.reader.end += at;
+            return false;
+        }
+        self.reader.end += at + 1;
+        self.reader.lines += 1;
+        if begins_race(next) {
+            self.reader.races = 0;
+            self.is_seeking = false;
+        }
+        true
+    }
+
+    // Whether no more is asked for: the first fault alone, and it is found.
+    pub(crate) fn is_done(&self) -> bool
+        ensures more { result ≡ false → IsOpen self.now }
+        ensures done { result ≡ true → (self.now.told.is_all ≡ false) × IsSome self.now.told.first }
+    {
+        !self.told.is_all && self.told.first.is_some()
+    }
+
+    // What is wrong with the input, of which all was looked at: it broke off there or not.
+    pub(crate) fn fault(&self, is_broken: bool) -> Option<StreamFault>
+        ensures { result ≡ fault_found self.now.told.first is_broken }
+    {
+        match self.told.first {
+            Some(fault) => Some(StreamFault::Text(fault)),
+            None if is_broken => Some(StreamFault::Read),
+            None => None,
+        }
+    }
+
+    // The races and lines of an input with which nothing is wrong, and its warnings.
+    pub(crate) fn outcome(self) -> Result<(Checked, Vec<Warning, A>), AllocError>
+        ensures { IfOk result (λ found. IsCounted self found.0 found.1.items) }
+    {
+        let reader = self.reader;
+        let mut warnings = self.warnings;
+        add_if(reader.races == 0, 1, Slip::NoRace, &mut warnings)?;
+        let checked = Checked {
+            races: reader.races as u64,
+            lines: reader.lines,
+        };
+        Ok((checked, warnings))
+    }
+}
+
+// Appends the warnings of a race that begins with this line, where no race before it has a fault.
+fn warn<A: Allocator, B: Allocator>(
+    has_fault: bool,
+    race: &Timeline<B>,
+    line: u64,
+    warnings: &mut Vec<Warning, A>,
+) -> Result<(), AllocError>
+    ensures { OnOk result (has_fault ≡ false → warnings.new.items ≡ warnings.old.items ++ warnings_of line race.now) }
+{
+    if has_fault {
+        return Ok(());
+    }
+    add_warnings(race, line, warnings)
 }

@@ -1,9 +1,10 @@
 //! What is said of a fault: the line, the mark below it, and what was expected there.
-ghost use Rattle.std.specs.Prelude.{◌≡◌, ◌-◌, ◌++◌, [], IfOk, OnErr, OnOk};
+ghost use Rattle.std.specs.Prelude.{◌≡◌, IfOk, OnErr, OnOk};
 ghost use Rattle.std.specs.Io.{StartsWith};
-ghost use Rattle.he_check.specs.Clauses.{EndsInClause, line_at};
+ghost use Rattle.he_check.specs.Clauses.{EndsInClause};
+ghost use Rattle.he_check.specs.Steps.{EndsIn};
 
-use crate::clause::{append_clause, hint_of};
+use crate::clause::{append_clause, hint_in};
 use crate::finding::find_sentence;
 use crate::parts::RestOfInput;
 use crate::place::find_line;
@@ -31,20 +32,22 @@ pub fn explain_fault<A: Allocator + Copy>(
     ensures clause { OnOk result (EndsInClause input.now fault explanation.old.items explanation.new.items) }
     ensures err { OnErr result (explanation.new.items ≡ explanation.old.items) }
 {
-    let said = explanation_of(alloc, input, RestOfInput::whole(input), fault)?;
+    let part = RestOfInput {
+        text: input,
+        lines: 0,
+    };
+    let said = explanation_of(alloc, part, fault)?;
     explanation.extend_from_slice(said.as_slice())
 }
 
-// What is said of a fault of the input. A race begins with the part, before the faulty line or on it, and the lines
-// between them are right.
+// What is said of a fault. A race begins with the part, before the faulty line or on it, and the lines between them are
+// right.
 pub(crate) fn explanation_of<A: Allocator + Copy>(
     alloc: A,
-    input: &[u8],
     part: RestOfInput<'_>,
     fault: TextFault,
 ) -> Result<Vec<u8, A>, AllocError>
-    requires { line_at (fault.line - part.lines) part.text.now ≡ line_at fault.line input.now }
-    ensures { IfOk result (λ text. EndsInClause input.now fault [] text.items) }
+    ensures { IfOk result (λ text. EndsIn part.entry.lines part.entry.text.now fault text.items) }
 {
     let place = find_line(part, fault.line);
     let (mark, sentence) = find_sentence(place, fault.kind);
@@ -52,6 +55,6 @@ pub(crate) fn explanation_of<A: Allocator + Copy>(
     show_line(place.line, mark.span(place.line), &mut text)?;
     let sentence = format!(in alloc; "{sentence}")?;
     text.extend_from_slice(sentence.as_bytes())?;
-    append_clause(hint_of(input, part, fault), &mut text)?;
+    append_clause(hint_in(part, fault), &mut text)?;
     Ok(text)
 }

@@ -3,9 +3,9 @@
 
 use crate::flaws::{NO_TICK, find_flaw, is_answered};
 use crate::forms::{form, least_tokens, most_tokens};
-use crate::place::{Place, first_word, token, token_count};
+use crate::place::{Place, WrongPart, first_word, token, token_count};
 use crate::repeats::find_repeat;
-use crate::sentence::{HighFloor, Sentence, SharedPrecedence, WrongPart};
+use crate::sentence::{HighFloor, Sentence, SharedPrecedence};
 use he_addr::read_number;
 use he_select::PolicyFault;
 use he_timeline::limits::{DEFAULT_ATTEMPT, MAX_ADDRESSES};

@@ -5,7 +5,7 @@ ghost use Rattle.he_check.specs.Slips.{HasWarnings};
 
 use crate::counting::Counted;
 use crate::slips::Warning;
-use he_inputs::StreamFault;
+use he_inputs::{Ending, StreamFault};
 use std::alloc::Allocator;
 
 /// What a right input has.
@@ -35,7 +35,10 @@ pub fn check_input<A: Allocator + Copy>(
     ensures warned { IfOk result (λ found. HasWarnings input.now found.1.items) }
     ensures wrong { IfErr result (IsWrong input.now is_broken) }
 {
-    let mut counted = Counted::new(alloc);
-    let checked = counted.finish(alloc, input, is_broken)?;
-    Ok((checked, counted.warnings))
+    let mut counted = Counted::new(alloc, false);
+    counted.go_on(alloc, input, Ending::of(is_broken))?;
+    match counted.fault(is_broken) {
+        Some(fault) => Err(fault),
+        None => Ok(counted.outcome()?),
+    }
 }

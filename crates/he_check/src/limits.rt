@@ -6,5 +6,8 @@ pub const MOST_SHOWN: usize = 72;
 /// How many bytes before the mark are shown of a line that is cut.
 pub const SHOWN_BEFORE: usize = 24;
 
+/// The first bytes of an input that tell what else than a text it is.
+pub const FIRST_BYTES: usize = 6;
+
 /// The most faults of an input that are explained. Of the others a check says how many there are.
 pub const MOST_TOLD: u64 = 1_000;

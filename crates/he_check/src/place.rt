@@ -14,6 +14,33 @@ pub(crate) struct Span {
     pub(crate) end: usize,
 }
 
+// The part of a line that is wrong.
+#[derive(Clone, Copy)]
+pub(crate) enum WrongPart {
+    // All of it.
+    Line,
+    // The token at this place, counted from 0.
+    Token(usize),
+    // What stands from this byte on.
+    From(usize),
+}
+
+impl WrongPart {
+    pub(crate) fn span(self, line: &[u8]) -> Span {
+        match self {
+            WrongPart::Line => Span {
+                start: 0,
+                end: line.len(),
+            },
+            WrongPart::Token(at) => token_span(line, at),
+            WrongPart::From(start) => Span {
+                start,
+                end: line.len(),
+            },
+        }
+    }
+}
+
 // A line, and the whole lines of its race before it, of which the first has this number.
 #[derive(Clone, Copy)]
 pub(crate) struct Place<'t> {

@@ -1,34 +1,6 @@
-// What is wrong with a line, in a sentence, and where.
+// What is wrong with a line, in a sentence.
 
-use crate::place::{Span, token_span};
 use std::fmt;
-
-// The part of a line that is wrong.
-#[derive(Clone, Copy)]
-pub(crate) enum WrongPart {
-    // All of it.
-    Line,
-    // The token at this place, counted from 0.
-    Token(usize),
-    // What stands from this byte on.
-    From(usize),
-}
-
-impl WrongPart {
-    pub(crate) fn span(self, line: &[u8]) -> Span {
-        match self {
-            WrongPart::Line => Span {
-                start: 0,
-                end: line.len(),
-            },
-            WrongPart::Token(at) => token_span(line, at),
-            WrongPart::From(start) => Span {
-                start,
-                end: line.len(),
-            },
-        }
-    }
-}
 
 // A number of a line: what it is, from its least to its greatest value, and in which unit, a space before it.
 #[derive(Clone, Copy)]
@@ -95,37 +67,27 @@ impl fmt::Display for Sentence {
             Sentence::NoNumber(numbers) => numbers.write_digits(f),
             Sentence::Fraction(numbers) => numbers.write_whole(f),
             Sentence::OutOfRange(numbers) => numbers.write_range(f),
-            Sentence::Joined(name, number) => {
-                write!(
-                    f,
-                    "a space stands before the number: write `set {name} {number}`"
-                )
-            }
-            Sentence::Above(what, line) => write!(f, "{what}, on line {line}"),
-            Sentence::Most(before, most, after) => write!(f, "{before} {most} {after}"),
-            Sentence::MostLines(most, word) => {
-                write!(f, "a race has at most {most} {word} lines")
-            }
-            Sentence::Order(word, last) => {
-                write!(
-                    f,
-                    "the {word} lines of a race stand before its {last} lines"
-                )
-            }
-            Sentence::PauseAbove(end) => {
-                write!(
-                    f,
-                    "the pause above lasts until tick {end}, and this one begins before"
-                )
-            }
-            Sentence::Newer(word) => {
-                write!(
-                    f,
-                    "{word} stands in races that begin with the line `race 2`"
-                )
-            }
             Sentence::HighFloor(high) => fmt::Display::fmt(high, f),
             Sentence::Shared(shared) => fmt::Display::fmt(shared, f),
+            Sentence::Joined(name, number) => write!(
+                f,
+                "a space stands before the number: write `set {name} {number}`"
+            ),
+            Sentence::Above(what, line) => write!(f, "{what}, on line {line}"),
+            Sentence::Most(before, most, after) => write!(f, "{before} {most} {after}"),
+            Sentence::MostLines(most, word) => write!(f, "a race has at most {most} {word} lines"),
+            Sentence::Order(word, last) => write!(
+                f,
+                "the {word} lines of a race stand before its {last} lines"
+            ),
+            Sentence::PauseAbove(end) => write!(
+                f,
+                "the pause above lasts until tick {end}, and this one begins before"
+            ),
+            Sentence::Newer(word) => write!(
+                f,
+                "{word} stands in races that begin with the line `race 2`"
+            ),
         }
     }
 }

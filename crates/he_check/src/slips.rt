@@ -1,12 +1,14 @@
 //! What is allowed in a race, and surely not meant.
 ghost use Rattle.std.specs.Prelude.{◌≡◌, ◌++◌, map, OnOk};
 ghost use Rattle.std.specs.List.{list_any};
-ghost use Rattle.he_addr.specs.Ip.{is_usable};
+ghost use Rattle.he_addr.specs.Ip.{is_of, is_usable};
 ghost use Rattle.he_timeline.specs.Race.{reply_of};
-ghost use Rattle.he_check.specs.Slips.{answer_slips, are_unusable, is_floor_idle, slip_if, warning_at, warnings_of};
+ghost use Rattle.he_check.specs.Slips.{answer_slips, are_unusable, has_route, has_source, is_floor_idle, is_longer, lacks_route, serves, slip_if, warning_at, warnings_of};
+ghost use Rattle.he_check.specs.declared.slips.Slip.TheVariants.{NoRoute};
 
-use he_addr::{Family, Ip};
-use he_timeline::{Settings, Timeline};
+use he_addr::{Family, Ip, Prefix};
+use he_select::{Host, Route, Source};
+use he_timeline::{Outcome, Settings, Timeline};
 use std::alloc::{AllocError, Allocator};
 
 /// What is allowed in a race, and surely not meant. It is no fault: the race means what it says.
@@ -18,12 +20,20 @@ pub enum Slip {
     NoSource,
     /// The floor is the Connection Attempt Delay itself, so that no attempt starts earlier for it.
     IdleFloor,
+    /// The host has a source of the family and no route for it, so that it reaches none of its addresses.
+    NoRoute(Family),
     /// The family is never answered, so that the race can't be exhausted.
     NoAnswer(Family),
     /// The family's answer comes after the limit, so that it is never seen.
     LateAnswer(Family),
     /// The family's answer has addresses of which none may be tried, so that it counts as one without an address.
     UnusableAnswer(Family),
+    /// The family's answer has an address that may be tried, and the host has sources, but none of the family, so that
+    /// it doesn't reach the address.
+    NoSourceOf(Family),
+    /// The family has an outcome that comes after the limit, even of an attempt that starts with the answer, so that it
+    /// is never seen.
+    LateOutcome(Family),
 }
 
 /// A slip of a race of an input.
@@ -51,8 +61,23 @@ pub(crate) fn add_warnings<A: Allocator, B: Allocator>(
         Slip::IdleFloor,
         warnings,
     )?;
+    add_of_routes(race.host(), Family::V6, line, warnings)?;
+    add_of_routes(race.host(), Family::V4, line, warnings)?;
     add_of_answer(race, Family::V6, line, warnings)?;
     add_of_answer(race, Family::V4, line, warnings)
+}
+
+fn add_of_routes<A: Allocator, B: Allocator>(
+    host: &Host<B>,
+    family: Family,
+    line: u64,
+    warnings: &mut Vec<Warning, A>,
+) -> Result<(), AllocError>
+    ensures { OnOk result (warnings.new.items ≡ warnings.old.items ++ map (warning_at line)
+        (slip_if (lacks_route host.now family) (NoRoute family))) }
+{
+    let lacks_route = has_source(host.sources(), family) && !has_route(host.routes(), family);
+    add_if(lacks_route, line, Slip::NoRoute(family), warnings)
 }
 
 fn add_of_answer<A: Allocator, B: Allocator>(
@@ -62,19 +87,25 @@ fn add_of_answer<A: Allocator, B: Allocator>(
     warnings: &mut Vec<Warning, A>,
 ) -> Result<(), AllocError>
     ensures { OnOk result (warnings.new.items ≡ warnings.old.items ++ map (warning_at line)
-        (answer_slips family race.now.settings.limit (reply_of race.now family))) }
+        (answer_slips race.now family (reply_of race.now family))) }
 {
     let Some((tick, ips)) = race.answer(family) else {
         return add_if(true, line, Slip::NoAnswer(family), warnings);
     };
-    let is_late = tick > race.settings().limit();
+    let limit = race.settings().limit();
+    let is_late = tick > limit;
     add_if(is_late, line, Slip::LateAnswer(family), warnings)?;
     add_if(
         are_unusable(ips),
         line,
         Slip::UnusableAnswer(family),
         warnings,
-    )
+    )?;
+    let sources = race.host().sources();
+    let lacks_source = !sources.is_empty() && !has_source(sources, family) && is_any_usable(ips);
+    add_if(lacks_source, line, Slip::NoSourceOf(family), warnings)?;
+    let is_missed = !is_late && is_any_longer(race.outcomes(), family, limit - tick);
+    add_if(is_missed, line, Slip::LateOutcome(family), warnings)
 }
 
 pub(crate) fn add_if<A: Allocator>(
@@ -98,6 +129,47 @@ fn is_floor_idle(settings: Settings) -> bool
         Some(floor) => floor == settings.attempt(),
         None => false,
     }
+}
+
+fn has_source(sources: &[Source], family: Family) -> bool
+    ensures { result ≡ has_source sources.now family }
+{
+    sources.iter().any(|source| is_of(family, source.ip))
+}
+
+fn has_route(routes: &[Route], family: Family) -> bool
+    ensures { result ≡ has_route routes.now family }
+{
+    routes.iter().any(|route| serves(route.prefix, family))
+}
+
+// Whether a route of the prefix serves the family.
+fn serves(prefix: Prefix, family: Family) -> bool
+    ensures { result ≡ serves prefix family }
+{
+    match family {
+        Family::V6 => !prefix.is_v4(),
+        Family::V4 => prefix.is_v4(),
+    }
+}
+
+// Whether an attempt of the family takes longer than so many ticks.
+fn is_any_longer(outcomes: &[(Ip, Outcome)], family: Family, ticks: u64) -> bool
+    ensures { result ≡ list_any (is_longer family ticks) outcomes.now }
+{
+    outcomes.iter().any(|told| is_longer(told, family, ticks))
+}
+
+fn is_longer(told: &(Ip, Outcome), family: Family, ticks: u64) -> bool
+    ensures { result ≡ is_longer family ticks told.now }
+{
+    is_of(family, told.0) && told.1.duration() > ticks
+}
+
+fn is_of(family: Family, ip: Ip) -> bool
+    ensures { result ≡ is_of family ip }
+{
+    ip.family() == family
 }
 
 fn are_unusable(ips: &[Ip]) -> bool

@@ -1,13 +1,16 @@
 // An input that is checked while it comes.
-ghost use Rattle.std.specs.Prelude.{◌≡◌, ◌+◌, ◌≤◌, IfErr, IfOk, OnOk, length, take, vec_len};
+ghost use Rattle.std.specs.Prelude.{◌≡◌, ◌+◌, ◌-◌, ◌≤◌, ◌^◌, drop, length, take, vec_len, IfErr, IfOk, OnOk};
 ghost use Rattle.he_stream.specs.Input.{Gives, GivesSoFar};
-ghost use Rattle.he_inputs.specs.declared.race_reader.Ending.TheVariants.{Open};
-ghost use Rattle.he_check.specs.Checked.{IsRight, IsWrong};
-ghost use Rattle.he_check.specs.Slips.{HasWarnings};
-ghost use Rattle.he_check.specs.Steps.{IsHeld, IsWrongIn, TakesChecked};
+ghost use Rattle.he_inputs.specs.RaceReading.{ending_of};
+ghost use Rattle.he_check.specs.Steps.{EndsWith, HasGone, HasStopped, HoldsOn, IsCounted, IsHeld, IsNew, IsOpen, IsSaidOf, TakesRight, TakesWrong, at_front, fault_found, held_bytes};
 
 use crate::counting::Counted;
+use crate::explaining::explanation_of;
 use crate::input::Checked;
+use crate::limits::{FIRST_BYTES, MOST_SHOWN};
+use crate::parts::RestOfInput;
+use crate::slips::Warning;
+use he_addr::Memory;
 use he_inputs::{Ending, StreamFault};
 use he_stream::limits::{INPUT_ROOM, MOST_READS};
 use he_stream::{InputStream, Taken, take_piece};
@@ -16,68 +19,134 @@ use he_words::limits::MAX_LINE;
 use memchr::memrchr;
 use std::alloc::Allocator;
 
-// What was taken of an input, and how far its races are counted.
+// What is held of an input: its bytes behind the last race that was passed. That is no more than the text of one race
+// may have, and as much again before that is looked at once more, and what one step gives.
 #[derive(Drop)]
-pub(crate) struct Held<A: Allocator> {
-    // The bytes that were taken, and after them room for the next step.
-    pub(crate) bytes: Vec<u8, A>,
-    pub(crate) filled: usize,
-    pub(crate) counted: Counted<A>,
-    // How many of the bytes were looked at.
-    ready: usize,
+struct Held<A: Allocator> {
+    // These bytes, and after them room for the next step.
+    bytes: Vec<u8, A>,
+    filled: usize,
+    // How many of them were looked at.
+    tried: usize,
+    // How far the check has come in them.
+    counted: Counted<A>,
 }
 
 impl<A: Allocator + Copy> Held<A> {
     // Nothing is taken yet.
-    pub(crate) fn new(alloc: A) -> Held<A>
-        ensures held { IsHeld result }
-        ensures none { result.filled ≡ 0 }
+    fn new(alloc: A, is_all: bool) -> Held<A>
+        ensures none { (result.filled ≡ 0) × (result.tried ≡ 0) }
+        ensures counted { IsNew is_all result.counted }
     {
         Held {
             bytes: Vec::new(alloc),
             filled: 0,
-            counted: Counted::new(alloc),
-            ready: 0,
+            tried: 0,
+            counted: Counted::new(alloc, is_all),
         }
     }
 
-    // Counts the races that so many bytes more make whole. A race that was looked at before is looked at again once it
-    // is twice as long.
-    fn gain(&mut self, alloc: A, count: usize) -> Result<(), StreamFault>
+    // Checks what so many bytes more make whole, and forgets what was passed.
+    fn gain(&mut self, alloc: A, count: usize) -> Result<(), Memory>
         requires held { IsHeld self.old }
+        requires more { IsOpen self.old.counted }
         requires within { self.old.filled + count ≤ vec_len self.old.bytes }
-        ensures same { self.new.bytes ≡ self.old.bytes }
-        ensures filled { self.new.filled ≡ self.old.filled + count }
+        requires lines { self.old.counted.reader.lines + self.old.filled + count ≤ 2 ^ 63 }
         ensures held { OnOk result (IsHeld self.new) }
-        ensures wrong { IfErr result (IsWrongIn (take self.new.filled self.new.bytes.items) Open) }
+        ensures all { OnOk result (self.new.counted.told.is_all ≡ self.old.counted.told.is_all) }
+        ensures on { OnOk result (HoldsOn (take (self.old.filled + count) self.old.bytes.items) self.old self.new) }
     {
         self.filled += count;
-        let tried = self.ready.saturating_sub(self.counted.reader.end);
-        let open = self.filled.saturating_sub(self.counted.reader.end);
-        if open / 2 < tried {
+        let ready = lines_end(&self.bytes[..self.filled]).max(self.tried);
+        let is_short = self.counted.told.is_all && ready < FIRST_BYTES;
+        if is_short || self.filled / 2 < self.tried {
             return Ok(());
         }
-        self.ready = self.ready.max(lines_end(&self.bytes[..self.filled]));
         self.counted
-            .go_on(alloc, &self.bytes[..self.ready], Ending::Open)
+            .go_on(alloc, &self.bytes[..ready], Ending::Open)?;
+        self.tried = ready;
+        self.forget();
+        Ok(())
     }
 
-    // Counts the races that are left, where nothing follows.
-    fn finish(&mut self, alloc: A, is_broken: bool) -> Result<Checked, StreamFault>
-        requires { IsHeld self.old }
-        ensures same { self.new.bytes ≡ self.old.bytes }
-        ensures filled { self.new.filled ≡ self.old.filled }
-        ensures right { IfOk result (IsRight (take self.old.filled self.old.bytes.items) is_broken) }
-        ensures warned { OnOk result (HasWarnings (take self.old.filled self.old.bytes.items)
-            self.new.counted.warnings.items) }
-        ensures wrong { IfErr result (IsWrong (take self.old.filled self.old.bytes.items) is_broken) }
+    // Forgets what the reader passed.
+    fn forget(&mut self)
+        requires within { self.old.filled ≤ vec_len self.old.bytes }
+        requires tried { self.old.tried ≤ self.old.filled }
+        requires place { self.old.counted.reader.end ≤ self.old.tried }
+        ensures counted { self.new.counted ≡ at_front self.old.counted }
+        ensures filled { self.new.filled ≡ self.old.filled - self.old.counted.reader.end }
+        ensures tried { self.new.tried ≡ self.old.tried - self.old.counted.reader.end }
+        ensures within { self.new.filled ≤ vec_len self.new.bytes }
+        ensures kept { held_bytes self.new ≡ drop self.old.counted.reader.end (held_bytes self.old) }
+    {
+        let end = self.counted.reader.end;
+        self.bytes.copy_within(end..self.filled, 0);
+        self.filled -= end;
+        self.tried -= end;
+        self.counted.reader.end = 0;
+    }
+
+    // Checks what is left, where nothing follows: the input ended, or broke off.
+    fn finish(&mut self, alloc: A, is_broken: bool) -> Result<(), Memory>
+        requires held { IsHeld self.old }
+        requires more { IsOpen self.old.counted }
+        requires lines { self.old.counted.reader.lines + self.old.filled ≤ 2 ^ 63 }
+        ensures same { (self.new.bytes ≡ self.old.bytes) × (self.new.filled ≡ self.old.filled) }
+        ensures gone { OnOk result (HasGone (ending_of is_broken) (held_bytes self.old) self.old.counted
+            self.new.counted) }
+        ensures stopped { OnOk result (HasStopped (ending_of is_broken) (held_bytes self.old) self.new.counted) }
     {
         self.counted
-            .finish(alloc, &self.bytes[..self.filled], is_broken)
+            .go_on(alloc, &self.bytes[..self.filled], Ending::of(is_broken))
+    }
+
+    // What the check comes to: races and lines, and the warnings, or a fault. What is said of the faults is appended.
+    fn conclude(
+        self,
+        alloc: A,
+        is_broken: bool,
+        explanation: &mut Vec<u8, A>,
+    ) -> Result<(Checked, Vec<Warning, A>), StreamFault>
+        requires within { self.filled ≤ vec_len self.bytes }
+        requires place { self.counted.reader.end ≤ self.filled }
+        ensures ok { IfOk result (λ found. (fault_found self.counted.told.first is_broken ≡ None)
+            × IsCounted self.counted found.0 found.1.items
+            × (explanation.new.items ≡ explanation.old.items)) }
+        ensures err { IfErr result (EndsWith (held_bytes self) is_broken self.counted
+            explanation.old.items explanation.new.items) }
+    {
+        let Some(fault) = self.counted.fault(is_broken) else {
+            return Ok(self.counted.outcome()?);
+        };
+        let said = self.said(alloc, is_broken)?;
+        explanation.extend_from_slice(said.as_slice())?;
+        Err(fault)
+    }
+
+    // What is said of the faults.
+    fn said(&self, alloc: A, is_broken: bool) -> Result<Vec<u8, A>, Memory>
+        requires within { self.now.filled ≤ vec_len self.now.bytes }
+        requires place { self.now.counted.reader.end ≤ self.now.filled }
+        ensures { IfOk result (λ text. IsSaidOf (held_bytes self.now) is_broken self.now.counted text.items) }
+    {
+        let counted = &self.counted;
+        if counted.told.is_all {
+            return counted.told.whole_text(alloc, is_broken);
+        }
+        let Some(fault) = counted.told.first else {
+            return Ok(Vec::new(alloc));
+        };
+        let part = RestOfInput {
+            text: &self.bytes[counted.reader.end..self.filled],
+            lines: counted.reader.lines,
+        };
+        explanation_of(alloc, part, fault)
     }
 }
 
-// Where the whole lines of the bytes end; their own end, where what stands after them is too long for a line.
+// Where the whole lines of the bytes end; their own end, where what stands after them is too long for a line, and
+// enough of it is there to be shown.
 fn lines_end(bytes: &[u8]) -> usize
     ensures { result ≤ length bytes.now }
 {
@@ -85,33 +154,46 @@ fn lines_end(bytes: &[u8]) -> usize
         Some(at) => at + 1,
         None => 0,
     };
-    if bytes.len() - end > MAX_LINE {
+    if bytes.len() - end > MAX_LINE + MOST_SHOWN {
         bytes.len()
     } else {
         end
     }
 }
 
-// Takes an input, and counts its races as they come: to its end, or up to a fault that nothing mends which follows.
+// Takes an input, and checks it as it comes: to its end, or, where the first fault alone is asked for, up to one that
+// nothing mends which follows. What is said of faults is appended.
 pub(crate) fn take_checked<A: Allocator + Copy, I: InputStream>(
     alloc: A,
+    is_all: bool,
     input: &mut I,
-    held: &mut Held<A>,
-) -> Result<Checked, StreamFault>
-    requires held { IsHeld held.old }
-    requires none { held.old.filled ≡ 0 }
-    ensures within { held.new.filled ≤ vec_len held.new.bytes }
-    ensures taken { TakesChecked (Gives I.remaining I.takes input.old input.new)
-        (GivesSoFar I.remaining I.takes input.old input.new)
-        (take held.new.filled held.new.bytes.items) held.new.counted.warnings.items result }
+    explanation: &mut Vec<u8, A>,
+) -> Result<(Checked, Vec<Warning, A>), StreamFault>
+    ensures right { IfOk result (λ found. TakesRight (Gives I.remaining I.takes input.old input.new) found.0
+        found.1.items × (explanation.new.items ≡ explanation.old.items)) }
+    ensures wrong { IfErr result (TakesWrong is_all (Gives I.remaining I.takes input.old input.new)
+        (GivesSoFar I.remaining I.takes input.old input.new) explanation.old.items explanation.new.items) }
 {
+    let mut held = Held::new(alloc, is_all);
     for _steps in 0..MOST_READS {
         match take_piece(input, &mut held.bytes, held.filled, INPUT_ROOM)? {
-            Taken::Bytes(count) => held.gain(alloc, count)?,
+            Taken::Bytes(count) => {
+                held.gain(alloc, count)?;
+                if held.counted.is_done() {
+                    return held.conclude(alloc, false, explanation);
+                }
+            }
             Taken::Interrupted => {}
-            Taken::End => return held.finish(alloc, false),
-            Taken::Failed => return held.finish(alloc, true),
+            Taken::End => {
+                held.finish(alloc, false)?;
+                return held.conclude(alloc, false, explanation);
+            }
+            Taken::Failed => {
+                held.finish(alloc, true)?;
+                return held.conclude(alloc, true, explanation);
+            }
         }
     }
-    held.finish(alloc, true)
+    held.finish(alloc, true)?;
+    held.conclude(alloc, true, explanation)
 }

@@ -45,6 +45,10 @@ fn sentence(slip: Slip) -> &'static [u8]
             b"this race has no source line, so its host reaches no address: write its addresses, as `he host` does for this machine",
         Slip::IdleFloor =>
             b"the floor of this race is its attempt delay, so it changes nothing: set a lower one, or none",
+        Slip::NoRoute(Family::V6) =>
+            b"the host of this race has an IPv6 source and no IPv6 route, so it reaches no IPv6 address: write a route, as `route ::/0 1`",
+        Slip::NoRoute(Family::V4) =>
+            b"the host of this race has an IPv4 source and no IPv4 route, so it reaches no IPv4 address: write a route, as `route 0.0.0.0/0 1`",
         Slip::NoAnswer(Family::V6) =>
             b"this race has no aaaa line, so it can't be exhausted: for an answer without an address write `aaaa TICK none`",
         Slip::NoAnswer(Family::V4) =>
@@ -57,5 +61,13 @@ fn sentence(slip: Slip) -> &'static [u8]
             b"no address of this race's aaaa line may be tried, as each is unspecified, multicast or in ::ffff:0:0/96: write others, or `none`",
         Slip::UnusableAnswer(Family::V4) =>
             b"no address of this race's a line may be tried, as each is unspecified or multicast: write others, or `none`",
+        Slip::NoSourceOf(Family::V6) =>
+            b"the host of this race has no IPv6 source, so it reaches no address of the aaaa line: write its IPv6 addresses, or `aaaa TICK none`",
+        Slip::NoSourceOf(Family::V4) =>
+            b"the host of this race has no IPv4 source, so it reaches no address of the a line: write its IPv4 addresses, or `a TICK none`",
+        Slip::LateOutcome(Family::V6) =>
+            b"an outcome of an IPv6 address of this race comes after its limit and is never seen: set a higher limit, or a shorter time",
+        Slip::LateOutcome(Family::V4) =>
+            b"an outcome of an IPv4 address of this race comes after its limit and is never seen: set a higher limit, or a shorter time",
     }
 }

@@ -65,10 +65,9 @@ counts_of verdicts =
       neither = count_by is_neither verdicts;
     }
 
--- of numbers in order, at least one: the middle one, or, where they are even in number, the middle between the two
--- middle ones, rounded down
+-- of numbers in order, at least one: the first within which at least half of them lie, the nearest rank
 abbrev pub median : List ℕ → ℕ
-median sorted = (slice_index sorted ((length sorted - 1) / 2) + slice_index sorted (length sorted / 2)) / 2
+median sorted = slice_index sorted ((length sorted - 1) / 2)
 
 abbrev pub greatest : List ℕ → ℕ
 greatest sorted = slice_index sorted (length sorted - 1)

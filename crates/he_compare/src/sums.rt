@@ -61,8 +61,7 @@ fn median(sorted: &[u64]) -> u64
     requires { 0 < length sorted.now }
     ensures { result ≡ median sorted.now }
 {
-    let low = sorted[(sorted.len() - 1) / 2];
-    low.midpoint(sorted[sorted.len() / 2])
+    sorted[(sorted.len() - 1) / 2]
 }
 
 // Sorts the differences, the least first.

@@ -5,7 +5,7 @@ ghost use Rattle.he_connect.specs.Races.{Tries};
 use crate::fault::ConnectFault;
 use crate::request::{ConnectRequest, Families, Lines};
 use he_addr::Family;
-use he_host::ahead::can_use;
+use he_host::families::can_use;
 use std::alloc::AllocGlobal;
 use std::io::Write;
 use std::net::Net;

@@ -2,43 +2,52 @@
 
 use he_addr::{Ip, Memory, write_ip};
 use he_host::kernel::ask_source;
-use he_plan::Line;
-use he_timeline::Timeline;
+use he_live::Dialed;
+use he_race::Raced;
 use std::net::Net;
 
 /// Appends a line for each address that was tried and that the kernel reaches from another source than the lines of
-/// the machine say, as `he: 2001:db8::1 is reached from 2001:db8:5::23, and not from 2001:db8:5::7`.
+/// the race say, as `he: 2001:db8::1 is reached from 2001:db8:5::23, and not from 2001:db8:5::7`. A link-local one is
+/// reached over the interface of the number.
 ///
 /// # Errors
 ///
 /// `Memory` where an allocation was refused; a part may be there.
 pub(crate) fn write_other_sources<R: Net>(
     rt: &R,
-    recorded: &Timeline,
-    attempts: &[Line],
+    scope: u32,
+    raced: &Raced<Dialed>,
     out: &mut Vec<u8>,
 ) -> Result<(), Memory> {
-    for attempt in attempts {
+    let recorded = &raced.recorded;
+    for attempt in raced.transcript.attempts() {
         let said = recorded.host().source(recorded.policy(), attempt.ip);
-        let taken = ask_source(rt, attempt.ip);
-        if let (Some(said), Some(taken)) = (said, taken) {
+        if let Some(taken) = ask_source(rt, attempt.ip, scope)
+            && said != Some(taken)
+        {
             write_other_source(attempt.ip, said, taken, out)?;
         }
     }
     Ok(())
 }
 
-// The line, where the sources differ.
-fn write_other_source(ip: Ip, said: Ip, taken: Ip, out: &mut Vec<u8>) -> Result<(), Memory> {
-    if said == taken {
-        return Ok(());
-    }
+fn write_other_source(
+    ip: Ip,
+    said: Option<Ip>,
+    taken: Ip,
+    out: &mut Vec<u8>,
+) -> Result<(), Memory> {
     out.extend_from_slice(b"he: ")?;
     write_ip(ip, out)?;
     out.extend_from_slice(b" is reached from ")?;
     write_ip(taken, out)?;
-    out.extend_from_slice(b", and not from ")?;
-    write_ip(said, out)?;
+    match said {
+        Some(said) => {
+            out.extend_from_slice(b", and not from ")?;
+            write_ip(said, out)?;
+        }
+        None => out.extend_from_slice(b", of which the race has no line")?,
+    }
     out.push(b'\n')?;
     Ok(())
 }

@@ -1,9 +1,9 @@
 //! A race for a connection to a host by RFC 8305, as `he connect` runs it.
 //!
 //! [`race`] finds the host's addresses (`he_resolver`) while it races them (`he_live`), each family's as soon as they
-//! are known, with the sources, routes and policy rows of this machine (`he_host`) or of a file. It hands out the
-//! record of the race, its story, what is said where nothing connected, and the connection: the caller keeps the
-//! record and relays.
+//! are known, with the sources, routes and policy rows of a file, or with the sources that the kernel takes for them
+//! (`he_host`). It hands out the record of the race, its story, what is said where nothing connected, and the
+//! connection: the caller keeps the record and relays.
 //!
 //! # What is proved
 //!
@@ -12,7 +12,12 @@
 //!   for, or one of both.
 //! - The text that is handed out is that of the record of a race that began so, kept what it began with, and replays
 //!   to its transcript; the story that is asked for is that of this record; there is a connection exactly where this
-//!   race was won, and it was asked for at the address of the line that won and the port (`IsRun` in `specs/Races`).
+//!   race was won, and it was asked for at the address of the line that won and the port, and where that address is a
+//!   link-local one over the interface that stands with the host (`IsRun` in `specs/Races`).
+//! - Where name servers are asked, each answer of that record that the race did not begin with has the addresses of
+//!   the family that a message answers for a name that is to be asked for the host, or none (`specs/Answers`).
+//! - The race is told what the look-up tells for a family; where the lines of this machine are to come, with the
+//!   machine of what the kernel answers for the first 32 of its addresses (`HearsLookup` in `specs/Answers`).
 //!
 //! Both promise this if they return: they wait for the system.
 //!
@@ -27,6 +32,7 @@ mod kernel;
 mod lines;
 pub mod racing;
 pub mod request;
+mod setup;
 mod source;
 pub mod start;
 mod telling;

@@ -1,31 +1,31 @@
-//! The lines that say the machine of a race, and its policy.
+//! The lines that say the machine of a race before it begins, and its policy.
 
 use crate::fault::ConnectFault;
 use crate::request::Lines;
 use he_addr::Ip;
-use he_host::ahead::write_machine_ahead;
-use he_host::taken::write_machine_to;
+use he_host::taken::find_machine_to;
+use he_host::writing::write_host;
 use std::alloc::{AllocGlobal, Global};
 use std::net::Net;
 use std::rt::Files;
 use std::{fs, io};
 
 // The lines of this machine or of a file, of which the last one is ended where it isn't. Where the host's addresses
-// are known without a look-up, the kernel is asked for the ways to them. Else they come while the race runs, which has
-// its lines before, and it is asked for the ways that there are.
+// are known without a look-up, the kernel is asked for the ways to them, to a link-local one over the interface of the
+// number. Else there are none: they come with the addresses, while the race runs.
 pub(crate) fn read_lines_of<R: Files + Net + AllocGlobal>(
     rt: &R,
     alloc: Global,
     lines: Lines<'_>,
-    known: Option<Vec<Ip>>,
+    known: Option<&[Ip]>,
+    scope: u32,
 ) -> Result<Vec<u8>, ConnectFault> {
     match lines {
         Lines::Machine => {
             let mut text = Vec::new(alloc);
-            let mut remarks = Vec::new(alloc);
-            match known {
-                Some(ips) => write_machine_to(rt, &ips, &mut text, &mut remarks)?,
-                None => write_machine_ahead(rt, &mut text)?,
+            if let Some(ips) = known {
+                let machine = find_machine_to(rt, ips, scope)?;
+                write_host(&machine, &mut text)?;
             }
             Ok(text)
         }

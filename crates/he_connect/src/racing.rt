@@ -1,20 +1,20 @@
 //! The race of a connection that is asked for, on real sockets.
 ghost use Rattle.std.specs.Prelude.{◌≡◌, IfOk};
 ghost use Rattle.he_write.specs.Written.{timeline_text};
-ghost use Rattle.he_connect.specs.Races.{IsExplained, IsRun, RunsFrom};
+ghost use Rattle.he_resolver.specs.Begins.{BeginsFor};
+ghost use Rattle.he_resolver.specs.Heard.{IsSound};
+ghost use Rattle.he_connect.specs.Races.{IsExplained, IsRun, RunsFrom, only_of};
 
-use crate::families::{families_to_try, tell_unasked};
 use crate::fault::ConnectFault;
 use crate::kernel::write_other_sources;
-use crate::lines::read_lines_of;
 use crate::request::{ConnectRequest, Lines};
+use crate::setup::{Setup, set_up};
 use crate::source::{FamilyFaults, HostAnswers, LookupFaults};
-use crate::start::start_race;
 use crate::telling::Telling;
 use crate::tried::write_tried;
-use he_live::{Dialed, Steps, resolving_race_on};
+use he_live::{Dialed, ResolvingRequest, Steps, resolving_race_on};
 use he_race::Raced;
-use he_resolver::{Lookup, NamesFault, SystemResolver, Wanted, find_known};
+use he_resolver::{Lookup, NamesFault, SystemResolver, Wanted};
 use he_story::write_story;
 use he_timeline::Timeline;
 use he_write::write_timeline;
@@ -62,66 +62,56 @@ where
     R: SystemResolver + Copy + Send + 'static,
     ensures { IfOk result (λ run. IsRun request.now run.text.items run.story.items run.connection) }
 {
-    let known = find_known(rt, alloc, request.host)?;
-    let tried = families_to_try(rt, request, known.is_some())?;
-    if request.tells_steps || request.explains {
-        tell_unasked(request.families, tried, faults);
-    }
-    let lines = read_lines_of(rt, alloc, request.lines, known)?;
-    let start = start_race(alloc, request.settings, tried, &lines)?;
-    let request = request.with_families(tried);
-    let run = run_from(rt, alloc, &request, &start, faults);
-    drop(start);
+    let setup = set_up(rt, alloc, request, faults)?;
+    let run = run_from(rt, alloc, &setup, faults);
+    drop(setup);
     run
 }
 
-// Runs the race that begins so.
+// Runs the race that is set up.
 fn run_from<R, F>(
     rt: &R,
     alloc: Global,
-    request: &ConnectRequest<'_>,
-    start: &Timeline,
+    setup: &Setup<'_>,
     faults: &mut F,
 ) -> Result<FinishedRace, ConnectFault>
 where
     F: Write,
     R: Threads + Wait + Clock + RandomSource + AllocGlobal + Net + Files + Sync,
     R: SystemResolver + Copy + Send + 'static,
-    ensures race { IfOk result (λ run. RunsFrom start.now request.now.port request.now.explains run.text.items
+    ensures race { IfOk result (λ run. RunsFrom setup.now.request setup.now.start setup.now.to run.text.items
         run.story.items run.connection) }
 {
     let mut runtime = LocalRuntime::new(rt)?;
     let handle = runtime.handle().clone()?;
     let why = LookupFaults::new(alloc)?;
     let steps = Steps::new(alloc)?;
-    let telling = Telling::new(alloc, faults, request);
-    let source = answers_of(rt, alloc, &handle, request, why.share()?, &telling)?;
-    let raced = resolving_race_on(
-        rt,
-        alloc,
-        &mut runtime,
-        start,
+    let telling = Telling::new(alloc, faults, &setup.request);
+    let lookup = look_up(rt, alloc, &handle, &setup.request)?;
+    let machine = if setup.brings_lines { Some(rt) } else { None };
+    let source = HostAnswers::new(alloc, lookup, machine, why.share()?, &telling)?;
+    let request = ResolvingRequest {
+        timeline: &setup.start,
         source,
-        request.port,
-        &steps,
-        &telling,
-    )?;
-    end_with(rt, alloc, request, why.families(), &steps, raced)
+        to: setup.to,
+    };
+    let raced = resolving_race_on(rt, alloc, &mut runtime, request, &steps, &telling)?;
+    end_with(rt, alloc, setup, why.families(), &steps, raced)
 }
 
-// The answers of a look-up of the host, which waits in the event loop.
-fn answers_of<'h, 'f, R, F>(
+// A look-up of the host, which waits in the event loop.
+fn look_up<'h, R>(
     rt: &'h R,
     alloc: Global,
     handle: &'h Handle,
     request: &ConnectRequest<'_>,
-    why: LookupFaults,
-    telling: &'h Telling<'f, F>,
-) -> Result<HostAnswers<'h, 'f, R, F>, ConnectFault>
+) -> Result<Lookup<'h, R>, ConnectFault>
 where
-    F: Write,
     R: Threads + Wait + Clock + RandomSource + AllocGlobal + Net + Files + Sync,
     R: SystemResolver + Copy + Send + 'static,
+    ensures begins { IfOk result (λ lookup. BeginsFor request.now.host.now request.now.resolver (only_of
+        request.now.families) lookup.source) }
+    ensures sound { IfOk result (λ lookup. IsSound lookup.source) }
 {
     let (reactor, timers) = (handle.reactor(), handle.time());
     let wanted = Wanted {
@@ -129,24 +119,23 @@ where
         only: request.families.only(),
         choice: request.resolver,
     };
-    let lookup = Lookup::new(rt, alloc, reactor, timers, wanted)?;
-    Ok(HostAnswers::new(alloc, lookup, why, telling)?)
+    Ok(Lookup::new(rt, alloc, reactor, timers, wanted)?)
 }
 
 // What is handed out of the race.
 fn end_with<R: Net>(
     rt: &R,
     alloc: Global,
-    request: &ConnectRequest<'_>,
+    setup: &Setup<'_>,
     why: FamilyFaults,
     steps: &Steps,
     raced: Raced<Dialed>,
 ) -> Result<FinishedRace, ConnectFault>
     ensures text { IfOk result (λ run. run.text.items ≡ timeline_text raced.recorded) }
-    ensures story { IfOk result (λ run. IsExplained request.now.explains raced.recorded run.story.items) }
+    ensures story { IfOk result (λ run. IsExplained setup.now.request.explains raced.recorded run.story.items) }
     ensures winner { IfOk result (λ run. run.connection ≡ raced.winner) }
 {
-    let texts = texts_of(rt, alloc, request, why, steps, &raced);
+    let texts = texts_of(rt, alloc, setup, why, steps, &raced);
     let Raced {
         transcript,
         recorded,
@@ -159,7 +148,7 @@ fn end_with<R: Net>(
         text,
         story,
         told,
-        nameless: why.nameless(request.families),
+        nameless: why.nameless(setup.request.families),
         connection: winner,
     })
 }
@@ -167,20 +156,22 @@ fn end_with<R: Net>(
 fn texts_of<R: Net>(
     rt: &R,
     alloc: Global,
-    request: &ConnectRequest<'_>,
+    setup: &Setup<'_>,
     why: FamilyFaults,
     steps: &Steps,
     raced: &Raced<Dialed>,
 ) -> Result<RaceTexts, ConnectFault>
     ensures text { IfOk result (λ texts. texts.text.items ≡ timeline_text raced.now.recorded) }
-    ensures story { IfOk result (λ texts. IsExplained request.now.explains raced.now.recorded texts.story.items) }
+    ensures story { IfOk result (λ texts. IsExplained setup.now.request.explains raced.now.recorded
+        texts.story.items) }
 {
+    let request = &setup.request;
     let mut text = Vec::new(alloc);
     write_timeline(&raced.recorded, &mut text)?;
     let story = explain(alloc, request.explains, &raced.recorded)?;
     let mut told = Vec::new(alloc);
     if request.tells_steps || request.lines == Lines::Machine {
-        write_other_sources(rt, &raced.recorded, raced.transcript.attempts(), &mut told)?;
+        write_other_sources(rt, setup.to.scope, raced, &mut told)?;
     }
     if raced.winner.is_none() && why.nameless(request.families).is_none() {
         write_tried(alloc, request, raced, steps, why, &mut told)?;

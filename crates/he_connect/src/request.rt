@@ -1,5 +1,6 @@
 //! What is asked for.
 ghost use Rattle.std.specs.Prelude.{◌≡◌};
+ghost use Rattle.he_connect.specs.Races.{only_of};
 
 use he_addr::Family;
 use he_resolver::Choice;
@@ -14,7 +15,9 @@ pub enum Families {
 
 impl Families {
     /// The family that is tried alone, if one is.
-    pub fn only(self) -> Option<Family> {
+    pub fn only(self) -> Option<Family>
+        ensures { result ≡ only_of self }
+    {
         match self {
             Families::Both => None,
             Families::Only(family) => Some(family),
@@ -53,7 +56,7 @@ pub struct ConnectRequest<'a> {
 impl<'a> ConnectRequest<'a> {
     // The same, for these families.
     pub(crate) fn with_families(&self, families: Families) -> ConnectRequest<'a>
-        ensures { (result.port ≡ self.now.port) × (result.explains ≡ self.now.explains) }
+        ensures { result ≡ record self.now { families = families } }
     {
         ConnectRequest {
             host: self.host,

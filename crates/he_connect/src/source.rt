@@ -1,17 +1,22 @@
 //! Where the answers of a connection's race come from.
+ghost use Rattle.std.specs.Prelude.{◌≡◌, IfOk, is_some, true};
+ghost use Rattle.he_race.specs.Heard.{lists_of};
+ghost use Rattle.he_connect.specs.Answers.{HasLines, IsAnswerOf, IsToldOf};
 
 use crate::request::Families;
 use crate::telling::Telling;
 use futures::task::{Context, Poll};
 use he_addr::{Family, Ip};
-use he_race::{AnswerSource, Known, nothing_known};
+use he_host::taken::find_machine_of;
+use he_race::{Answer, AnswerSource, Known, nothing_known};
 use he_resolver::{Lookup, LookupLog, NamesFault, first_fault};
-use std::alloc::{AllocError, Global};
+use std::alloc::{AllocError, AllocGlobal, Global};
 use std::cell::Cell;
 use std::io::Write;
 use std::net::Net;
 use std::random::RandomSource;
 use std::rc::Rc;
+use std::rt::Files;
 use std::time::Clock;
 
 // Why each family has no address, for the look-up of one race and for whoever tells its end.
@@ -93,49 +98,97 @@ impl FamilyFaults {
 pub(crate) struct HostAnswers<'h, 'f, R, F> {
     alloc: Global,
     lookup: Lookup<'h, R>,
+    // Where the lines of this machine come with the addresses: what they are asked of.
+    machine: Option<&'h R>,
     log: LookupLog,
     why: LookupFaults,
     telling: &'h Telling<'f, F>,
 }
 
-impl<'h, 'f, R: Net + RandomSource + Clock, F> HostAnswers<'h, 'f, R, F> {
+impl<'h, 'f, R: Net + RandomSource + Clock + Files + AllocGlobal, F> HostAnswers<'h, 'f, R, F> {
     pub(crate) fn new(
         alloc: Global,
         lookup: Lookup<'h, R>,
+        machine: Option<&'h R>,
         why: LookupFaults,
         telling: &'h Telling<'f, F>,
-    ) -> Result<HostAnswers<'h, 'f, R, F>, AllocError> {
+    ) -> Result<HostAnswers<'h, 'f, R, F>, AllocError>
+        ensures lookup { IfOk result (λ answers. answers.lookup ≡ lookup.entry) }
+    {
         let log = lookup.log()?;
         Ok(HostAnswers {
             alloc,
             lookup,
+            machine,
             log,
             why,
             telling,
         })
     }
 
-    // What the race is told of the family: its addresses, of which nothing is known, or none, and why is noted.
-    fn answer_of(&self, family: Family, told: Result<Vec<Ip>, NamesFault>) -> Vec<Known> {
-        match known_of(self.alloc, told) {
-            Ok(known) => known,
+    // What the race is told of the family: its addresses, or nothing, and why is noted.
+    fn answer_of(&self, family: Family, told: Result<Vec<Ip>, NamesFault>) -> Answer
+        ensures { IsToldOf (is_some self.now.machine) told (lists_of result) }
+    {
+        match self.find_answer(family, told) {
+            Ok(answer) => answer,
             Err(fault) => {
                 self.why.note(family, fault);
-                Vec::new(self.alloc)
+                Answer::without_lines(Vec::new(self.alloc))
             }
+        }
+    }
+
+    // The addresses, of which nothing is known from earlier, with their lines where these are to come.
+    fn find_answer(
+        &self,
+        family: Family,
+        told: Result<Vec<Ip>, NamesFault>,
+    ) -> Result<Answer, NamesFault>
+        ensures { IfOk result (λ answer. IsAnswerOf (is_some self.now.machine) told (lists_of answer)) }
+    {
+        let ips = told?;
+        let known = nothing_known(self.alloc, &ips)?;
+        match self.machine {
+            Some(rt) => with_lines(rt, family, &ips, known),
+            None => Ok(Answer::without_lines(known)),
         }
     }
 }
 
-impl<'h, 'f, R: Net + RandomSource + Clock, F: Write> AnswerSource for HostAnswers<'h, 'f, R, F> {
-    ghost use Rattle.std.specs.Prelude.{⊤};
+// The addresses with the lines of this machine by which the rules take the kernel's sources.
+fn with_lines<R: Net + Files + AllocGlobal>(
+    rt: &R,
+    family: Family,
+    ips: &[Ip],
+    known: Vec<Known>,
+) -> Result<Answer, NamesFault>
+    ensures known { IfOk result (λ answer. answer.known ≡ known) }
+    ensures lines { IfOk result (λ answer. HasLines true ips.now (lists_of answer)) }
+{
+    let Ok(machine) = find_machine_of(rt, family, ips) else {
+        return Err(NamesFault::Memory);
+    };
+    Ok(Answer {
+        known,
+        sources: Vec::from_slice(rt.alloc(), machine.sources())?,
+        routes: Vec::from_slice(rt.alloc(), machine.routes())?,
+    })
+}
+
+impl<'h, 'f, R, F> AnswerSource for HostAnswers<'h, 'f, R, F>
+where
+    R: Net + RandomSource + Clock + Files + AllocGlobal,
+    F: Write,
+{
     ghost use Rattle.he_resolver.specs.Needs.{lookup_needs};
+    ghost use Rattle.he_connect.specs.Answers.{HearsLookup};
 
     ghost needs = { λ answers family. lookup_needs answers.lookup family };
 
-    ghost hears = { λ _ _ _ _ _. ⊤ };
+    ghost hears = { λ old family _ told new. HearsLookup old family told new };
 
-    fn poll_answer(&mut self, family: Family, now: u64, cx: &mut Context<'_>) -> Poll<Vec<Known>> {
+    fn poll_answer(&mut self, family: Family, now: u64, cx: &mut Context<'_>) -> Poll<Answer> {
         let polled = self.lookup.poll_answer(family, cx);
         self.telling.tell_lookup(&self.log, now);
         match polled {
@@ -143,8 +196,4 @@ impl<'h, 'f, R: Net + RandomSource + Clock, F: Write> AnswerSource for HostAnswe
             Poll::Ready(told) => Poll::Ready(self.answer_of(family, told)),
         }
     }
-}
-
-fn known_of(alloc: Global, told: Result<Vec<Ip>, NamesFault>) -> Result<Vec<Known>, NamesFault> {
-    nothing_known(alloc, &told?).map_err(|_| NamesFault::Memory)
 }

@@ -36,11 +36,11 @@ is_waiting race a =
     list_any is_usable a.addresses && nat_lt (seen race a.tick) (a.tick + race.settings.resolution)
     && not (is_seen_by race (seen race a.tick) race.aaaa)
 
--- the end of a wait for the AAAA answer: that of the Resolution Delay, or when the AAAA answer is seen, if that is
--- sooner
+-- the end of a wait for the AAAA answer: that of the Resolution Delay or of the race, whichever is sooner, or when the
+-- AAAA answer is seen, if that is sooner still
 abbrev pub wait_end : Race → ℕ → Option Reply → ℕ
-wait_end race delay_end None = delay_end
-wait_end race delay_end (Some aaaa) = min (seen race aaaa.tick) delay_end
+wait_end race last None = last
+wait_end race last (Some aaaa) = min (seen race aaaa.tick) last
 
 -- the A answer, and the wait for the AAAA answer, if there is one (RFC 8305 section 3)
 abbrev pub a_row : Race → ℕ → Option Reply → Row
@@ -48,7 +48,7 @@ a_row race end None = rows.Missing families.V4
 a_row race end (Some a) =
     if nat_lt end (seen race a.tick) then rows.Missing families.V4
     else if is_waiting race a
-    then rows.Waits (seen race a.tick) (wait_end race (a.tick + race.settings.resolution) race.aaaa)
+    then rows.Waits (seen race a.tick) (wait_end race (min (a.tick + race.settings.resolution) end) race.aaaa)
     (count_by is_usable a.addresses)
     else rows.Answered families.V4 (seen race a.tick) (count_by is_usable a.addresses)
 

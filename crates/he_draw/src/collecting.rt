@@ -102,7 +102,11 @@ fn a_row<A: Allocator>(timeline: &Timeline<A>, end: u64) -> Row
     if end < seen {
         Row::Missing(Family::V4)
     } else if has_usable(ips) && seen < delay_end && !is_aaaa_seen_by(timeline, seen) {
-        Row::Waits(seen, wait_end(timeline, delay_end), usable_count(ips))
+        Row::Waits(
+            seen,
+            wait_end(timeline, delay_end.min(end)),
+            usable_count(ips),
+        )
     } else {
         Row::Answered(Family::V4, seen, usable_count(ips))
     }
@@ -129,12 +133,12 @@ fn is_aaaa_seen_by<A: Allocator>(timeline: &Timeline<A>, tick: u64) -> bool
     }
 }
 
-// When a wait for the AAAA answer ends, whose Resolution Delay ends at this tick.
-fn wait_end<A: Allocator>(timeline: &Timeline<A>, delay_end: u64) -> u64
-    ensures { result ≡ wait_end timeline.now delay_end timeline.now.aaaa }
+// When a wait for the AAAA answer ends, which lasts up to this tick at most.
+fn wait_end<A: Allocator>(timeline: &Timeline<A>, last: u64) -> u64
+    ensures { result ≡ wait_end timeline.now last timeline.now.aaaa }
 {
     match timeline.answer(Family::V6) {
-        Some((answer, _)) => timeline.seen(answer).min(delay_end),
-        None => delay_end,
+        Some((answer, _)) => timeline.seen(answer).min(last),
+        None => last,
     }
 }

@@ -1,5 +1,5 @@
 -- An attempt's cause is what it waited for.
-use Rattle.std.proofs.Common.{◌≡◌, ℕ, ◌+◌, ◌<◌, ◌≤◌, ◌&&◌, ◌⊎◌, Bool, true, false, List, [], ◌∷◌, if◌then◌else◌, refl, sym, ◌∙◌, subst, arith, inl, inr, max, nat_le, nat_lt}
+use Rattle.std.proofs.Common.{◌≡◌, ℕ, ◌+◌, ◌<◌, ◌≤◌, ◌&&◌, ◌||◌, ◌⊎◌, Bool, true, false, List, [], ◌∷◌, if◌then◌else◌, refl, sym, ◌∙◌, subst, arith, inl, inr, max, nat_le, nat_lt}
 use Rattle.std.specs.Prelude.{Option, None, Some, MatchOption, IsSomeAnd, IsTrue, IsFalse}
 use Rattle.std.specs.List.{list_any}
 use Rattle.std.proofs.lemmas.Bool.{cases_lt}
@@ -9,14 +9,14 @@ use Rattle.he_plan.specs.Attempts.{HasWaited, HaveFailed, IsAnswered, IsPositive
 use Rattle.he_timeline.specs.Seen.{IsFree, IsLeast, IsSeen, seen, seen_past}
 use Rattle.he_timeline.specs.Race.{Race, Reply, reply_of}
 use Rattle.he_timeline.specs.Timeline.{IsRace}
-use Rattle.he_timeline.proofs.Bools.{and_right, clash, lt_from, lt_test, not_lt}
+use Rattle.he_timeline.proofs.Bools.{and_both, and_left, and_right, clash, lt_from, lt_test, not_lt}
 use Rattle.he_timeline.proofs.Seen.{IsSeen-seen}
 use Rattle.he_explain.specs.declared.cause.Cause.{Cause}
 use Rattle.he_explain.specs.declared.cause.Cause.TheVariants.{AaaaAnswer, BothAnswers, ResolutionDelay, AttemptDelay, Floor, LastFailure, LaterAnswer}
-use Rattle.he_explain.specs.Causes.{cause_of, delay_cause, due_of, first_cause_by, floor_cause, last_failure, later_cause, tick_of}
-use Rattle.he_explain.specs.Laws.{CausesStand, DuesStand, IsByFloor, IsCausedBy, IsLaterBy}
+use Rattle.he_explain.specs.Causes.{cause_of, due_of, first_cause_by, floor_cause, last_failure, later_cause, tick_of, was_floor_over}
+use Rattle.he_explain.specs.Laws.{CausesStand, DuesStand, IsByFloor, IsCausedBy, IsFirstWait, IsLaterBy}
 use Rattle.he_explain.proofs.LaterLaws.{CameFrom, later_seen, own_answer, some_at}
-use Rattle.he_explain.proofs.FloorLaws.{all_from, last_by, seen_max, seen_more}
+use Rattle.he_explain.proofs.FloorLaws.{IsFailure, all_from, last_by, seen_max, seen_more}
 
 -- a tick is not seen before it
 pub not_sooner : (pauses : List (ℕ × ℕ)) (x : ℕ) → x ≤ seen_past pauses x
@@ -32,6 +32,9 @@ never_before race x t h = not_lt (seen race x) t (omega (arith, h, not_sooner ra
 
 pub not_before : (m n : ℕ) → nat_lt m n ≡ false → n ≤ m
 not_before m n e = elim (cases_lt m n) [ inl less ↦ absurd (clash (nat_lt m n) (lt_test m n less) e) | inr more ↦ more ]
+
+some_same : (m n : ℕ) → Some m ≡ Some n → m ≡ n
+some_same m n e = cc
 
 -- the race may begin at t, where these are its answers
 abbrev BeginsAt : Race → Option Reply → Option Reply → ℕ → Type 0
@@ -153,102 +156,121 @@ late_by race r done last next d free before waited none from = (
     untried_by t free over early true e = absurd (none t early (record { free = free; waited = over; some = e }))
     untried_by t free over early false e = refl
 
--- the delay is over at the attempt's tick
-delay_is : (race : Race) → IsRace race → (done : List Attempt) (last next : Attempt) → IsFree race next.tick → last.tick + race.settings.attempt ≤ next.tick
-    → IsFirst race done last next.tick → CameFrom race done next.tick (reply_of race (family_of next.ip))
-    → IsLaterBy race done last next (delay_cause race last next)
-delay_is race r done last next free over none from = by_before (nat_lt (seen race (last.tick + race.settings.attempt)) next.tick) refl
-  where
-    d : ℕ
-    d = last.tick + race.settings.attempt
+module _ (race : Race) (r : IsRace race) (done : List Attempt) (last next : Attempt) (e : last_of done ≡ Some last) (inside : next.tick ≤ race.settings.limit) (now : MayFollow race done next.tick last) (none : IsFirst race done last next.tick) (from : CameFrom race done next.tick (reply_of race (family_of next.ip))) where
+  abbrev t : ℕ
+  t = next.tick
 
-    is : IsSeen race d (seen race d)
-    is = IsSeen-seen race r d
+  abbrev end : ℕ
+  end = last.tick + race.settings.attempt
 
-    by_before : (b : Bool) → nat_lt (seen race d) next.tick ≡ b
-        → IsLaterBy race done last next (if b then LaterAnswer (family_of next.ip) else AttemptDelay last.place race.settings.attempt)
-    by_before true e =
-        late_by race r done last next (seen race d) is.holds.1 (lt_from (seen race d) next.tick e)
-        (λ m after. inl (omega (arith, after, is.holds.0))) none from
-    by_before false e =
-        let early : seen race d ≤ next.tick = is.least next.tick (over, free) in
-        (refl, refl, omega (arith, early, not_before (seen race d) next.tick e))
+  end_is : IsSeen race end (seen race end)
+  end_is = IsSeen-seen race r end
 
--- the floor let it start, where the delay is not over
-module _ (race : Race) (r : IsRace race) (done : List Attempt) (last next : Attempt) (floor : ℕ) where
-  abbrev failed : ℕ
-  failed = last_failure race done
-
-  abbrev floor_end : ℕ
-  floor_end = last.tick + floor
-
-  both_before : next.tick ≤ race.settings.limit → IsByFloor race done next.tick last floor → IsFirst race done last next.tick → CameFrom race done next.tick (reply_of race (family_of next.ip))
-      → seen race floor_end < next.tick → seen race failed < next.tick → IsLaterBy race done last next (LaterAnswer (family_of next.ip))
-  both_before inside by none from before failed_before =
-      let end : ℕ = max floor_end failed in
-      let is : IsSeen race end (seen race end) = IsSeen-seen race r end in
-      late_by race r done last next (seen race end) is.holds.1 (omega (arith, seen_max race r floor_end failed, before, failed_before))
-      (λ m after. inr (some_at race.settings.floor floor (λ n. (last.tick + n ≤ m) × HaveFailed race done m) by.0
-      (omega (arith, after, is.holds.0), all_from race r next.tick m done inside by.1 (omega (arith, seen_more race r failed end (omega arith), after)))))
+  -- the floor was over before: the answer came later
+  floor_before : (o : Option ℕ) → race.settings.floor ≡ o → (failed : Option ℕ) → last_failure race done ≡ failed → was_floor_over race last o failed t ≡ true
+      → IsLaterBy race done last next (LaterAnswer (family_of next.ip))
+  floor_before None is failed known h = cc
+  floor_before (Some floor) is None known h = cc
+  floor_before (Some floor) is (Some failed) known h =
+      let both : ℕ = max (last.tick + floor) failed in
+      let sees : IsSeen race both (seen race both) = IsSeen-seen race r both in
+      let one : seen race (last.tick + floor) < t = lt_from (seen race (last.tick + floor)) t (and_left _ _ h) in
+      let other : seen race failed < t = lt_from (seen race failed) t (and_right (nat_lt (seen race (last.tick + floor)) t) _ h) in
+      late_by race r done last next (seen race both) sees.holds.1 (omega (arith, seen_max race r (last.tick + floor) failed, one, other))
+      (λ m after. inr (some_at race.settings.floor floor (λ n. (last.tick + n ≤ m) × HaveFailed race done m) is
+      (omega (arith, after, sees.holds.0), all_from race r m done failed known (omega (arith, seen_more race r failed both (omega arith), after)))))
       none from
 
-  at_failure : last_of done ≡ Some last → IsByFloor race done next.tick last floor → next.tick ≤ seen race failed
-      → IsLaterBy race done last next (LastFailure failed)
-  at_failure e by late = (
-    some_at race.settings.floor floor (IsByFloor race done next.tick last) by.0 by,
-    record { holds = by.1; least = λ m all. omega (arith, late, last_by race r m done last e all) },
-    omega (arith, late, last_by race r next.tick done last e by.1),
-  )
+  -- where neither was over before, this is the first tick at which the last one had been waited for
+  no_floor : (s : ℕ) → IsFree race s → (o : Option ℕ) → race.settings.floor ≡ o → was_floor_over race last o (last_failure race done) t ≡ false
+      → IsSomeAnd o (λ floor. (last.tick + floor ≤ s) × HaveFailed race done s) → s < t → ⊥
+  no_floor s free None is h waited before = absurd waited
+  no_floor s free (Some floor) is h waited before =
+      let failure : IsFailure race s (last_failure race done) = last_by race r s done last e (omega (arith, before, inside)) waited.1 in
+      let sees : IsSeen race (last.tick + floor) (seen race (last.tick + floor)) = IsSeen-seen race r (last.tick + floor) in
+      let early : seen race (last.tick + floor) ≤ s = sees.least s (waited.0, free) in
+      let one : nat_lt (seen race (last.tick + floor)) t ≡ true = lt_test (seen race (last.tick + floor)) t (omega (arith, early, before)) in
+      let other : nat_lt (seen race failure.tick) t ≡ true = lt_test (seen race failure.tick) t (omega (arith, failure.early, before)) in
+      clash (was_floor_over race last (Some floor) (Some failure.tick) t) (and_both _ _ one other)
+      (subst (λ o. was_floor_over race last (Some floor) o t ≡ false) failure.is h)
 
-  at_floor : IsFree race next.tick → IsByFloor race done next.tick last floor → next.tick ≤ seen race floor_end
-      → IsLaterBy race done last next (Floor last.place floor)
-  at_floor free by late =
-      let is : IsSeen race floor_end (seen race floor_end) = IsSeen-seen race r floor_end in
-      let early : seen race floor_end ≤ next.tick = is.least next.tick (by.2, free) in
-      (refl, by, omega (arith, early, late))
+  first_wait : nat_lt (seen race end) t ≡ false → was_floor_over race last race.settings.floor (last_failure race done) t ≡ false → IsFirstWait race done last t
+  first_wait late sooner s free (inl over) = omega (arith, not_before (seen race end) t late, end_is.least s (over, free))
+  first_wait late sooner s free (inr waited) = elim (cases_lt s t) [
+    | inl before ↦ absurd (no_floor s free race.settings.floor refl sooner waited before)
+    | inr after ↦ after
+  ]
 
-  by_later : last_of done ≡ Some last → IsFree race next.tick → IsByFloor race done next.tick last floor
-      → (next.tick ≤ seen race floor_end) ⊎ (next.tick ≤ seen race failed) → (b : Bool) → nat_lt floor_end failed ≡ b
-      → IsLaterBy race done last next (if b then LastFailure failed else Floor last.place floor)
-  by_later e free by late true less =
-      let more : seen race floor_end ≤ seen race failed = seen_more race r floor_end failed (omega (arith, lt_from floor_end failed less)) in
-      at_failure e by (elim late [ inl k ↦ omega (arith, more, k) | inr k ↦ k ])
-  by_later e free by late false less =
-      let more : seen race failed ≤ seen race floor_end = seen_more race r failed floor_end (not_before floor_end failed less) in
-      at_floor free by (elim late [ inl k ↦ k | inr k ↦ omega (arith, more, k) ])
+  -- the floor let it start, where the delay is not over
+  floor_is : t < end → IsFirstWait race done last t → (o : Option ℕ) → race.settings.floor ≡ o → IsSomeAnd o (λ floor. (last.tick + floor ≤ t) × HaveFailed race done t)
+      → IsLaterBy race done last next (floor_cause race last o (last_failure race done))
+  floor_is early first None is waited = absurd waited
+  floor_is early first (Some floor) is waited = subst (λ o. IsLaterBy race done last next (floor_cause race last (Some floor) o)) (sym failure.is) (by_later (nat_lt (last.tick + floor) failure.tick) refl)
+    where
+      failure : IsFailure race t (last_failure race done)
+      failure = last_by race r t done last e inside waited.1
 
-  by_both : last_of done ≡ Some last → next.tick ≤ race.settings.limit → IsFree race next.tick → IsByFloor race done next.tick last floor → IsFirst race done last next.tick
-      → CameFrom race done next.tick (reply_of race (family_of next.ip)) → (b c : Bool) → nat_lt (seen race floor_end) next.tick ≡ b → nat_lt (seen race failed) next.tick ≡ c
-      → IsLaterBy race done last next (if b && c then LaterAnswer (family_of next.ip) else (if nat_lt floor_end failed then LastFailure failed else Floor last.place floor))
-  by_both e inside free by none from true true k l = both_before inside by none from (lt_from (seen race floor_end) next.tick k) (lt_from (seen race failed) next.tick l)
-  by_both e inside free by none from true false k l = by_later e free by (inr (not_before (seen race failed) next.tick l)) (nat_lt floor_end failed) refl
-  by_both e inside free by none from false c k l = by_later e free by (inl (not_before (seen race floor_end) next.tick k)) (nat_lt floor_end failed) refl
+      fails : IsSeen race failure.tick (seen race failure.tick)
+      fails = IsSeen-seen race r failure.tick
 
-floor_is : (race : Race) → IsRace race → (done : List Attempt) (last next : Attempt) → last_of done ≡ Some last → next.tick ≤ race.settings.limit → IsFree race next.tick
-    → next.tick < last.tick + race.settings.attempt → HasWaited race done next.tick last → IsFirst race done last next.tick
-    → CameFrom race done next.tick (reply_of race (family_of next.ip)) → (o : Option ℕ) → race.settings.floor ≡ o
-    → IsLaterBy race done last next (floor_cause race last (last_failure race done) next o)
-floor_is race r done last next e inside free early (inl over) none from o is = absurd (omega (arith, over, early))
-floor_is race r done last next e inside free early (inr waited) none from None is =
-    absurd (subst (λ o. IsSomeAnd o (λ floor. (last.tick + floor ≤ next.tick) × HaveFailed race done next.tick)) is waited)
-floor_is race r done last next e inside free early (inr waited) none from (Some floor) is =
-    let k : (last.tick + floor ≤ next.tick) × HaveFailed race done next.tick =
-    subst (λ o. IsSomeAnd o (λ floor. (last.tick + floor ≤ next.tick) × HaveFailed race done next.tick)) is waited
-    in
-    by_both race r done last next floor e inside free (is, k.1, k.0, early) none from
-    (nat_lt (seen race (last.tick + floor)) next.tick) (nat_lt (seen race (last_failure race done)) next.tick) refl refl
+      floor_sees : IsSeen race (last.tick + floor) (seen race (last.tick + floor))
+      floor_sees = IsSeen-seen race r (last.tick + floor)
 
-later_is : (race : Race) → IsRace race → (done : List Attempt) (last next : Attempt) → last_of done ≡ Some last → next.tick ≤ race.settings.limit → MayFollow race done next.tick last
-    → IsFirst race done last next.tick → CameFrom race done next.tick (reply_of race (family_of next.ip))
-    → IsLaterBy race done last next (later_cause race last (last_failure race done) next)
-later_is race r done last next e inside now none from = by_delay (nat_lt next.tick (last.tick + race.settings.attempt)) refl
-  where
-    by_delay : (b : Bool) → nat_lt next.tick (last.tick + race.settings.attempt) ≡ b
-        → IsLaterBy race done last next
-        (if b then floor_cause race last (last_failure race done) next race.settings.floor else delay_cause race last next)
-    by_delay true k =
-        floor_is race r done last next e inside now.free (lt_from next.tick (last.tick + race.settings.attempt) k) now.waited none from race.settings.floor refl
-    by_delay false k = delay_is race r done last next now.free (not_before next.tick (last.tick + race.settings.attempt) k) none from
+      by : IsByFloor race done t last floor
+      by = (is, waited.1, waited.0, early)
+
+      had_waited : (s : ℕ) → last.tick + floor ≤ s → seen race failure.tick ≤ s → HasWaited race done s last
+      had_waited s over seen_by =
+          inr (some_at race.settings.floor floor (λ n. (last.tick + n ≤ s) × HaveFailed race done s) is (over, all_from race r s done failure.tick failure.is seen_by))
+
+      least_failure : t ≤ seen race failure.tick → (m : ℕ) → HaveFailed race done m → t ≤ m
+      least_failure late m all = elim (cases_lt m t) [
+        | inl before ↦
+            let other : IsFailure race m (last_failure race done) = last_by race r m done last e (omega (arith, before, inside)) all in
+            let same : other.tick ≡ failure.tick = some_same other.tick failure.tick (sym other.is ∙ failure.is) in
+            let sooner : seen race failure.tick ≤ m = subst (λ n. seen race n ≤ m) same other.early in
+            omega (arith, late, sooner)
+        | inr after ↦ after
+      ]
+
+      by_later : (b : Bool) → nat_lt (last.tick + floor) failure.tick ≡ b → IsLaterBy race done last next (if b then LastFailure failure.tick else Floor last.place floor)
+      by_later true less =
+          let late : t ≤ seen race failure.tick =
+          first (seen race failure.tick) fails.holds.1 (had_waited (seen race failure.tick) (omega (arith, lt_from (last.tick + floor) failure.tick less, fails.holds.0)) (omega arith))
+          in (
+            some_at race.settings.floor floor (IsByFloor race done t last) is by,
+            record { holds = waited.1; least = least_failure late },
+            omega (arith, late, failure.early),
+          )
+      by_later false less =
+          let more : seen race failure.tick ≤ seen race (last.tick + floor) = seen_more race r failure.tick (last.tick + floor) (not_before (last.tick + floor) failure.tick less) in
+          let late : t ≤ seen race (last.tick + floor) =
+          first (seen race (last.tick + floor)) floor_sees.holds.1 (had_waited (seen race (last.tick + floor)) floor_sees.holds.0 more)
+          in
+          let soon : seen race (last.tick + floor) ≤ t = floor_sees.least t (waited.0, now.free) in
+          (refl, by, omega (arith, late, soon))
+
+  -- which of both let it start, where this is the first tick at which the last one had been waited for
+  by_delay : nat_lt (seen race end) t ≡ false → IsFirstWait race done last t → (b : Bool) → nat_lt t end ≡ b
+      → IsLaterBy race done last next (if b then floor_cause race last race.settings.floor (last_failure race done) else AttemptDelay last.place race.settings.attempt)
+  by_delay late first true k = elim now.waited [
+    | inl over ↦ absurd (omega (arith, over, lt_from t end k))
+    | inr waited ↦ floor_is (lt_from t end k) first race.settings.floor refl waited
+  ]
+  by_delay late first false k =
+      let soon : seen race end ≤ t = end_is.least t (not_before t end k, now.free) in
+      (refl, refl, omega (arith, soon, not_before (seen race end) t late), first)
+
+  later_is : IsLaterBy race done last next (later_cause race last (last_failure race done) next)
+  later_is = by_wait (nat_lt (seen race end) t) (was_floor_over race last race.settings.floor (last_failure race done) t) refl refl
+    where
+      by_wait : (b c : Bool) → nat_lt (seen race end) t ≡ b → was_floor_over race last race.settings.floor (last_failure race done) t ≡ c
+          → IsLaterBy race done last next (if b || c then LaterAnswer (family_of next.ip)
+          else (if nat_lt t end then floor_cause race last race.settings.floor (last_failure race done) else AttemptDelay last.place race.settings.attempt))
+      by_wait true c k l =
+          late_by race r done last next (seen race end) end_is.holds.1 (lt_from (seen race end) t k) (λ m after. inl (omega (arith, after, end_is.holds.0))) none from
+      by_wait false true k l = floor_before race.settings.floor refl (last_failure race done) refl l
+      by_wait false false k l = by_delay k (first_wait k l) (nat_lt t end) refl
 
 -- the least tick at which one may start
 stands_by : (race : Race) → IsRace race → (done : List Attempt) (next : Attempt) (last : Option Attempt) → last_of done ≡ last

@@ -68,6 +68,6 @@ starts_follow race winner done (x ∷ xs) f =
 pub starts_stand : StartsStand
 starts_stand race report is =
     let stop : ℕ = stop_of race is.winner in
-    subst (λ (lines : List Line). AreStarts race [] (start_events race None 0 lines)) (sym is.lines)
+    subst (λ (lines : List Line). AreStarts race [] (start_events race None (Some 0) lines)) (sym is.lines)
     (starts_follow race is.winner [] (filter (λ (x : Attempt). nat_lt x.tick stop) is.attempts)
     (follow_below race stop [] is.attempts (in_turn-follow race is.attempts is.are.in_turn)))

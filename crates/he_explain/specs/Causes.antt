@@ -1,6 +1,6 @@
 -- Why an attempt of a race starts at its tick, and not at an earlier one (RFC 8305 sections 3 and 5, and the floor of
 -- our own).
-use Rattle.std.specs.Prelude.{ℕ, ◌+◌, ◌&&◌, if◌then◌else◌, List, [], ◌∷◌, max, min, Bool, Option, Some, None, nat_lt}
+use Rattle.std.specs.Prelude.{ℕ, ◌+◌, ◌&&◌, ◌||◌, if◌then◌else◌, List, [], ◌∷◌, max, Bool, false, Option, Some, None, nat_le, nat_lt}
 use Rattle.std.specs.List.{list_any}
 use Rattle.std.specs.Option.{option_map_or}
 use Rattle.he_addr.specs.Ip.{family_of, is_usable}
@@ -20,45 +20,57 @@ first_cause_by race (Some aaaa) t =
     if nat_lt t (seen race aaaa.tick) then ResolutionDelay
     else (if list_any is_usable aaaa.addresses then AaaaAnswer else BothAnswers)
 
--- the tick at which an attempt that starts at `start` fails, but at most the limit, pauses not looked at; 0 where it
--- doesn't fail
-abbrev pub failure_by : ℕ → ℕ → Option Outcome → ℕ
-failure_by limit start (Some (outcomes.Fail duration)) = min (start + duration) limit
-failure_by limit start _ = 0
+-- the tick at which an attempt that starts at `start` fails, pauses not looked at; none where it doesn't by the limit
+abbrev pub failure_by : ℕ → ℕ → Option Outcome → Option ℕ
+failure_by limit start (Some (outcomes.Fail duration)) =
+    if nat_le (start + duration) limit then Some (start + duration) else None
+failure_by limit start _ = None
 
-abbrev pub failure_of : Race → Attempt → ℕ
+abbrev pub failure_of : Race → Attempt → Option ℕ
 failure_of race x = failure_by race.settings.limit x.tick (outcome_of race x.ip)
 
--- the latest of the failures of these attempts
-abbrev pub last_failure : Race → List Attempt → ℕ
-last_failure race [] = 0
-last_failure race (x ∷ done) = max (failure_of race x) (last_failure race done)
+-- the later of two ticks, where there are both
+abbrev pub later_of : Option ℕ → Option ℕ → Option ℕ
+later_of None other = None
+later_of (Some tick) None = None
+later_of (Some tick) (Some other) = Some (max tick other)
 
--- a later attempt that starts before the Connection Attempt Delay is over, behind failures of which the last is at
--- `failed`: the floor after the attempt before, or that failure if it comes later, unless both were seen at an earlier
--- tick; then no address was left, and the answer with this one came later. Without a floor none starts so early
-abbrev pub floor_cause : Race → Attempt → ℕ → Attempt → Option ℕ → Cause
-floor_cause race last failed next None = AttemptDelay last.place race.settings.attempt
-floor_cause race last failed next (Some floor) =
-    if nat_lt (seen race (last.tick + floor)) next.tick && nat_lt (seen race failed) next.tick
-    then LaterAnswer (family_of next.ip)
-    else (if nat_lt (last.tick + floor) failed then LastFailure failed else Floor last.place floor)
+-- the last failure of these attempts, where all of them fail
+abbrev pub last_failure : Race → List Attempt → Option ℕ
+last_failure race [] = Some 0
+last_failure race (x ∷ done) = later_of (failure_of race x) (last_failure race done)
 
--- one that starts when that delay is over: the delay after the attempt before, unless it was over at an earlier tick
--- at which the client could act; then, again, the answer came later
-abbrev pub delay_cause : Race → Attempt → Attempt → Cause
-delay_cause race last next =
-    if nat_lt (seen race (last.tick + race.settings.attempt)) next.tick then LaterAnswer (family_of next.ip)
-    else AttemptDelay last.place race.settings.attempt
+-- the floor after the last attempt and the last failure of all so far were both seen before t
+abbrev pub was_floor_over : Race → Attempt → Option ℕ → Option ℕ → ℕ → Bool
+was_floor_over race last None failed t = false
+was_floor_over race last (Some floor) None t = false
+was_floor_over race last (Some floor) (Some failed) t =
+    nat_lt (seen race (last.tick + floor)) t && nat_lt (seen race failed) t
 
-abbrev pub later_cause : Race → Attempt → ℕ → Attempt → Cause
+-- the last attempt had been waited for before t: the Connection Attempt Delay after it was over, or that floor was
+abbrev pub was_waited_for : Race → Attempt → Option ℕ → ℕ → Bool
+was_waited_for race last failed t =
+    nat_lt (seen race (last.tick + race.settings.attempt)) t || was_floor_over race last race.settings.floor failed t
+
+-- a later attempt that starts before the Connection Attempt Delay is over: the floor after the attempt before, or the
+-- last failure if that comes later. Where not all have failed, or no floor is set, none starts so early
+abbrev pub floor_cause : Race → Attempt → Option ℕ → Option ℕ → Cause
+floor_cause race last None failed = AttemptDelay last.place race.settings.attempt
+floor_cause race last (Some floor) None = AttemptDelay last.place race.settings.attempt
+floor_cause race last (Some floor) (Some failed) =
+    if nat_lt (last.tick + floor) failed then LastFailure failed else Floor last.place floor
+
+-- where the attempt before had been waited for, no address was left, and the answer with this one came later
+abbrev pub later_cause : Race → Attempt → Option ℕ → Attempt → Cause
 later_cause race last failed next =
-    if nat_lt next.tick (last.tick + race.settings.attempt) then floor_cause race last failed next race.settings.floor
-    else delay_cause race last next
+    if was_waited_for race last failed next.tick then LaterAnswer (family_of next.ip)
+    else (if nat_lt next.tick (last.tick + race.settings.attempt)
+    then floor_cause race last race.settings.floor failed
+    else AttemptDelay last.place race.settings.attempt)
 
--- the cause of an attempt, behind the one before it, if there is one, and behind failures of which the last is at
--- `failed`
-abbrev pub cause_of : Race → Option Attempt → ℕ → Attempt → Cause
+-- the cause of an attempt, after the one before it, if there is one, where the last failure of all before is at
+-- `failed`, if all of them fail
+abbrev pub cause_of : Race → Option Attempt → Option ℕ → Attempt → Cause
 cause_of race None failed next = first_cause_by race race.aaaa next.tick
 cause_of race (Some last) failed next = later_cause race last failed next
 

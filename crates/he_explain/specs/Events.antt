@@ -1,5 +1,5 @@
 -- What happens in a race, each event with its tick (RFC 8305 sections 3 and 5).
-use Rattle.std.specs.Prelude.{ℕ, ◌+◌, ◌&&◌, ◌++◌, if◌then◌else◌, not, Bool, false, List, [], ◌∷◌, map, filter, count_by, max, Option, Some, None, nat_le, nat_lt}
+use Rattle.std.specs.Prelude.{ℕ, ◌+◌, ◌&&◌, ◌++◌, if◌then◌else◌, not, Bool, false, List, [], ◌∷◌, map, filter, count_by, Option, Some, None, nat_le, nat_lt}
 use Rattle.std.specs.List.{flat_map, list_any}
 use Rattle.std.specs.Option.{option_map_or}
 use Rattle.he_addr.specs.declared.ip.Family.{Family}
@@ -17,7 +17,7 @@ use Rattle.he_plan.specs.Transcript.{Report}
 use Rattle.he_explain.specs.declared.events.Event.{Event}
 use Rattle.he_explain.specs.declared.events.EventKind.{EventKind}
 use Rattle.he_explain.specs.declared.events.EventKind.TheVariants.{Paused, Answered, Waits, DelayOver, Failed, Started, Won, Exhausted, Limit, Cancelled}
-use Rattle.he_explain.specs.Causes.{cause_of, failure_of, is_held}
+use Rattle.he_explain.specs.Causes.{cause_of, failure_of, is_held, later_of}
 use Rattle.he_explain.specs.Listing.{listed_at}
 
 abbrev pub event_at : ℕ → EventKind → Event
@@ -65,7 +65,7 @@ abbrev pub attempt_of : Line → Attempt
 attempt_of line = record { place = line.place; tick = line.tick; ip = line.ip }
 
 -- the start of an attempt, behind the one before it and the last failure
-abbrev pub start_event : Race → Option Attempt → ℕ → Attempt → Event
+abbrev pub start_event : Race → Option Attempt → Option ℕ → Attempt → Event
 start_event race last failed next =
     let cause = cause_of race last failed next in
     event_at next.tick
@@ -79,11 +79,11 @@ start_event race last failed next =
     }))
 
 -- the starts of attempts one after the other, behind the last one before them and the last failure
-abbrev pub start_events : Race → Option Attempt → ℕ → List Line → List Event
+abbrev pub start_events : Race → Option Attempt → Option ℕ → List Line → List Event
 start_events race last failed [] = []
 start_events race last failed (line ∷ lines) =
     start_event race last failed (attempt_of line)
-    ∷ start_events race (Some (attempt_of line)) (max failed (failure_of race (attempt_of line))) lines
+    ∷ start_events race (Some (attempt_of line)) (later_of failed (failure_of race (attempt_of line))) lines
 
 abbrev pub failed_by : ℕ → Mark → List Event
 failed_by place (marks.Failed tick) = event_at tick (Failed place) ∷ []
@@ -102,13 +102,19 @@ end_event (results.Limit tick) = event_at tick Limit
 -- what becomes of the attempts of a transcript, and of the race
 abbrev pub told_events : Race → Report → List Event
 told_events race report =
-    (flat_map (λ line. failed_by line.place line.mark) report.lines ++ start_events race None 0 report.lines)
+    (flat_map (λ line. failed_by line.place line.mark) report.lines ++ start_events race None (Some 0) report.lines)
     ++ (end_event report.result ∷ flat_map (λ line. cancelled_by line.place line.mark) report.lines)
 
 -- the events of a race with this transcript, by kind
 abbrev pub events_of : Race → Report → List Event
 events_of race report = met_events race ++ told_events race report
 
--- those up to the race's end
+-- it comes by the race's end, and a pause before it
+abbrev pub comes_by : ℕ → ℕ → EventKind → Bool
+comes_by end tick (Paused until) = nat_lt tick end
+comes_by end tick _ = nat_le tick end
+
+-- those that come by the race's end
 abbrev pub events_by_kind : Race → Report → List Event
-events_by_kind race report = filter (λ event. nat_le event.tick (end_event report.result).tick) (events_of race report)
+events_by_kind race report =
+    filter (λ event. comes_by (end_event report.result).tick event.tick event.kind) (events_of race report)

@@ -57,16 +57,22 @@ IsByFloor race done t last floor =
     (race.settings.floor ≡ Some floor) × HaveFailed race done t × (last.tick + floor ≤ t)
     × (t < last.tick + race.settings.attempt)
 
--- and of a later attempt: the Connection Attempt Delay after the last one is over at its tick; or it is not, but every
--- attempt so far has failed, and the floor after the last one is over at that tick; or they have failed by that tick
--- and by no earlier one; or the last one was waited for before, the answer of the address's family is seen at the
--- attempt's tick, and at no earlier one at which the client could act, and had waited, a received address was untried
+-- the last attempt has been waited for at no earlier tick at which the client could act
+abbrev pub IsFirstWait : Race → List Attempt → Attempt → ℕ → Type 0
+IsFirstWait race done last tick = (t : ℕ) → IsFree race t → HasWaited race done t last → tick ≤ t
+
+-- and of a later attempt: the Connection Attempt Delay after the last one is over at its tick, and nothing had let it
+-- start before; or that is not over, but every attempt so far has failed, and the floor after the last one is over at
+-- that tick; or they have failed by that tick and by no earlier one; or the last one was waited for before, the answer
+-- of the address's family is seen at the attempt's tick, and at no earlier one at which the client could act, and had
+-- waited, a received address was untried
 abbrev pub IsLaterBy : Race → List Attempt → Attempt → Attempt → Cause → Type 0
 IsLaterBy race done last next AaaaAnswer = ⊥
 IsLaterBy race done last next BothAnswers = ⊥
 IsLaterBy race done last next ResolutionDelay = ⊥
 IsLaterBy race done last next (AttemptDelay place delay) =
     (place ≡ last.place) × (delay ≡ race.settings.attempt) × (seen race (last.tick + delay) ≡ next.tick)
+    × IsFirstWait race done last next.tick
 IsLaterBy race done last next (Floor place floor) =
     (place ≡ last.place) × IsByFloor race done next.tick last floor × (seen race (last.tick + floor) ≡ next.tick)
 IsLaterBy race done last next (LastFailure tick) =
@@ -107,8 +113,7 @@ FloorsStand =
     (race : Race) → IsRace race → (done : List Attempt) (last next : Attempt) → last_of done ≡ Some last
     → IsNext race done next
     → IsTrue (names_failures (cause_of race (Some last) (last_failure race done) next))
-    ↔ ((next.tick < last.tick + race.settings.attempt)
-    × ((t : ℕ) → IsFree race t → HasWaited race done t last → next.tick ≤ t))
+    ↔ ((next.tick < last.tick + race.settings.attempt) × IsFirstWait race done last next.tick)
 
 -- the address stands at this place of the list, and those before it were tried
 abbrev pub IsFirstUntried : List Attempt → List Ip → ℕ → Ip → Type 0
@@ -138,4 +143,4 @@ AreStarts race done (event ∷ more) =
 abbrev pub StartsStand : Type 0
 StartsStand =
     (race : Race) (report : Report) → IsTranscript race report
-    → AreStarts race [] (start_events race None 0 report.lines)
+    → AreStarts race [] (start_events race None (Some 0) report.lines)

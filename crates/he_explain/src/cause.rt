@@ -1,11 +1,11 @@
 // The cause of an attempt's start.
 
-ghost use Rattle.std.specs.Prelude.{◌≡◌, ◌+◌, max, nat_lt};
+ghost use Rattle.std.specs.Prelude.{◌≡◌, ◌+◌, ◌&&◌, max, nat_lt};
 ghost use Rattle.std.specs.List.{list_any};
 ghost use Rattle.he_addr.specs.Ip.{is_usable};
 ghost use Rattle.he_timeline.specs.Seen.{seen};
 ghost use Rattle.he_timeline.specs.Race.{reply_of};
-ghost use Rattle.he_explain.specs.Causes.{cause_of, delay_cause, failure_of, first_cause_by, floor_cause, is_held, later_cause, start_of, tick_of};
+ghost use Rattle.he_explain.specs.Causes.{cause_of, failure_of, first_cause_by, floor_cause, is_held, later_cause, later_of, start_of, tick_of, was_floor_over, was_waited_for};
 
 use he_addr::{Family, Ip};
 use he_plan::Attempt;
@@ -40,11 +40,11 @@ pub enum Cause {
 }
 
 /// The cause of an attempt's start, where `last` is the attempt before it, or none where it is the race's first, and
-/// `failed` the greatest [`failure_of`] of all attempts before it, or 0. All are attempts of the race.
+/// `failed` the greatest [`failure_of`] of all attempts before it, if all of them fail. All are attempts of the race.
 pub fn cause_of<A: Allocator>(
     timeline: &Timeline<A>,
     last: Option<Attempt>,
-    failed: u64,
+    failed: Option<u64>,
     next: Attempt,
 ) -> Cause
     ensures { result ≡ cause_of timeline.now last failed next }
@@ -79,62 +79,94 @@ pub fn is_held<A: Allocator>(
     }
 }
 
-/// The tick at which the attempt fails, but at most the race's limit, pauses not looked at; 0 where it doesn't fail.
-pub fn failure_of<A: Allocator>(timeline: &Timeline<A>, attempt: Attempt) -> u64
+/// The tick at which the attempt fails, pauses not looked at; none where it doesn't by the race's limit.
+pub fn failure_of<A: Allocator>(timeline: &Timeline<A>, attempt: Attempt) -> Option<u64>
     ensures { result ≡ failure_of timeline.now attempt }
 {
     match timeline.outcome(attempt.ip) {
         Some(Outcome::Fail(duration)) => {
-            let limit = timeline.settings().limit();
-            attempt.tick.saturating_add(duration).min(limit)
+            let end = attempt.tick.saturating_add(duration);
+            if end <= timeline.settings().limit() {
+                Some(end)
+            } else {
+                None
+            }
         }
-        Some(Outcome::Ok(_)) | None => 0,
+        Some(Outcome::Ok(_)) | None => None,
+    }
+}
+
+// The later of two ticks, where there are both.
+pub(crate) fn later_of(tick: Option<u64>, other: Option<u64>) -> Option<u64>
+    ensures { result ≡ later_of tick other }
+{
+    match (tick, other) {
+        (Some(tick), Some(other)) => Some(tick.max(other)),
+        _ => None,
     }
 }
 
 fn later_cause<A: Allocator>(
     timeline: &Timeline<A>,
     last: Attempt,
-    failed: u64,
+    failed: Option<u64>,
     next: Attempt,
 ) -> Cause
     ensures { result ≡ later_cause timeline.now last failed next }
 {
-    if is_after(last.tick, timeline.settings().attempt(), next.tick) {
-        floor_cause(timeline, last, failed, next)
-    } else {
-        delay_cause(timeline, last, next)
-    }
-}
-
-fn floor_cause<A: Allocator>(
-    timeline: &Timeline<A>,
-    last: Attempt,
-    failed: u64,
-    next: Attempt,
-) -> Cause
-    ensures { result ≡ floor_cause timeline.now last failed next timeline.now.settings.floor }
-{
-    let Some(floor) = timeline.settings().floor() else {
-        return Cause::AttemptDelay(last.place, timeline.settings().attempt());
-    };
-    if is_seen_before(timeline, last.tick, floor, next.tick) && timeline.seen(failed) < next.tick {
-        Cause::LaterAnswer(next.ip.family())
-    } else if is_before(last.tick, floor, failed) {
-        Cause::LastFailure(failed)
-    } else {
-        Cause::Floor(last.place, floor)
-    }
-}
-
-fn delay_cause<A: Allocator>(timeline: &Timeline<A>, last: Attempt, next: Attempt) -> Cause
-    ensures { result ≡ delay_cause timeline.now last next }
-{
     let delay = timeline.settings().attempt();
-    if is_seen_before(timeline, last.tick, delay, next.tick) {
+    if was_waited_for(timeline, last, failed, next.tick) {
         Cause::LaterAnswer(next.ip.family())
+    } else if is_after(last.tick, delay, next.tick) {
+        floor_cause(timeline, last, failed)
     } else {
         Cause::AttemptDelay(last.place, delay)
+    }
+}
+
+// Whether the last attempt had been waited for before the tick: the Connection Attempt Delay after it was over, or the
+// floor after failures was.
+fn was_waited_for<A: Allocator>(
+    timeline: &Timeline<A>,
+    last: Attempt,
+    failed: Option<u64>,
+    tick: u64,
+) -> bool
+    ensures { result ≡ was_waited_for timeline.now last failed tick }
+{
+    is_seen_before(timeline, last.tick, timeline.settings().attempt(), tick)
+        || was_floor_over(timeline, last, failed, tick)
+}
+
+// Whether the floor after the last attempt, and the last failure of all so far, were both seen before the tick.
+fn was_floor_over<A: Allocator>(
+    timeline: &Timeline<A>,
+    last: Attempt,
+    failed: Option<u64>,
+    tick: u64,
+) -> bool
+    ensures { result ≡ was_floor_over timeline.now last timeline.now.settings.floor failed tick }
+{
+    match (timeline.settings().floor(), failed) {
+        (Some(floor), Some(failed)) => {
+            is_seen_before(timeline, last.tick, floor, tick) && timeline.seen(failed) < tick
+        }
+        _ => false,
+    }
+}
+
+fn floor_cause<A: Allocator>(timeline: &Timeline<A>, last: Attempt, failed: Option<u64>) -> Cause
+    ensures { result ≡ floor_cause timeline.now last timeline.now.settings.floor failed }
+{
+    match (timeline.settings().floor(), failed) {
+        (Some(floor), Some(failed)) => {
+            if is_before(last.tick, floor, failed) {
+                Cause::LastFailure(failed)
+            } else {
+                Cause::Floor(last.place, floor)
+            }
+        }
+        _ => Cause::AttemptDelay(last.place, timeline.settings().attempt()),
     }
 }
 

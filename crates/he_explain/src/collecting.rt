@@ -1,6 +1,6 @@
 // The events of a race, by kind.
 
-ghost use Rattle.std.specs.Prelude.{◌≡◌, ◌++◌, ◌∷◌, [], None, count_by, IfOk, OnOk};
+ghost use Rattle.std.specs.Prelude.{◌≡◌, ◌++◌, ◌∷◌, [], None, Some, count_by, IfOk, OnOk};
 ghost use Rattle.std.specs.List.{flat_map};
 ghost use Rattle.he_addr.specs.Ip.{is_usable};
 ghost use Rattle.he_addr.specs.declared.ip.Family.TheVariants as families;
@@ -9,7 +9,7 @@ ghost use Rattle.he_timeline.specs.Race.{reply_of};
 ghost use Rattle.he_explain.specs.Reasons.{all_attributes_of};
 ghost use Rattle.he_explain.specs.Events.{answer_events, attempt_of, cancelled_by, end_event, event_at, events_of, failed_by, is_seen_by, met_events, over_events, pause_events, start_event, start_events, told_events, wait_events};
 
-use crate::cause::{cause_of, failure_of, has_usable, is_held};
+use crate::cause::{cause_of, failure_of, has_usable, is_held, later_of};
 use crate::events::{Event, EventKind, Start};
 use crate::interlaced::{Interlaced, bring_to};
 use crate::listing::listed_in;
@@ -194,7 +194,7 @@ fn push_attempts<A: Allocator + Copy, B: Allocator>(
 ) -> Result<(), Memory>
     requires { sorted.now ≡ all_attributes_of timeline.now }
     ensures { OnOk result (events.new.items ≡ events.old.items ++ (flat_map
-        (λ line. failed_by line.place line.mark) lines.now ++ start_events timeline.now None 0 lines.now)) }
+        (λ line. failed_by line.place line.mark) lines.now ++ start_events timeline.now None (Some 0) lines.now)) }
 {
     push_failures(events, lines)?;
     push_starts(alloc, events, timeline, sorted, lines)
@@ -270,28 +270,29 @@ fn push_starts<A: Allocator + Copy, B: Allocator>(
     lines: &[Line],
 ) -> Result<(), Memory>
     requires { sorted.now ≡ all_attributes_of timeline.now }
-    ensures { OnOk result (events.new.items ≡ events.old.items ++ start_events timeline.now None 0 lines.now) }
+    ensures { OnOk result (events.new.items ≡ events.old.items ++ start_events timeline.now None (Some 0) lines.now) }
 {
     let mut list = Interlaced::new(alloc);
     let mut last = None;
-    let mut failed = 0;
+    let mut failed = Some(0);
     for line in lines {
         let next = attempt(line);
         bring_to(alloc, timeline, sorted, next.tick, &mut list)?;
         push_start(events, timeline, &list.ips, last, failed, next)?;
         last = Some(next);
-        failed = failed.max(failure_of(timeline, next));
+        failed = later_of(failed, failure_of(timeline, next));
     }
     Ok(())
 }
 
-// The start of an attempt, whose address is taken from this list; `failed` is the last failure of those before it.
+// The start of an attempt, whose address is taken from this list; `failed` is the last failure of those before it, if
+// all of them fail.
 fn push_start<A: Allocator, B: Allocator>(
     events: &mut Vec<Event, A>,
     timeline: &Timeline<B>,
     ips: &[Ip],
     last: Option<Attempt>,
-    failed: u64,
+    failed: Option<u64>,
     next: Attempt,
 ) -> Result<(), AllocError>
     requires { ips.now ≡ order_at timeline.now next.tick }

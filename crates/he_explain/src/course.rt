@@ -1,10 +1,11 @@
 // The course of a race: its events in order, written to a text.
 
-ghost use Rattle.std.specs.Prelude.{◌≡◌, ◌++◌, [], codes, decimal, filter, map, nat_le, IfOk, OnOk, OnErr};
+ghost use Rattle.std.specs.Prelude.{◌≡◌, ◌++◌, [], codes, decimal, filter, map, IfOk, OnOk, OnErr};
 ghost use Rattle.std.specs.List.{flat_map};
 ghost use Rattle.he_addr.specs.Printing.{printed};
 ghost use Rattle.he_words.specs.Appending.{AppendsText};
 ghost use Rattle.he_explain.specs.Course.{cause_text, course_text, event_text, held_text, kind_text, listed_text, put_events, start_text, turn_text};
+ghost use Rattle.he_explain.specs.Events.{comes_by};
 ghost use Rattle.he_explain.specs.Reasons.{all_attributes_of, values_text};
 
 use crate::cause::Cause;
@@ -26,7 +27,7 @@ pub fn sort_events<'a, A: Allocator>(
     end: u64,
 ) -> Result<Vec<&'a Event, A>, AllocError>
     ensures { IfOk result (λ sorted. map (λ event. event.now) sorted.items
-        ≡ put_events [] (filter (λ event. nat_le event.tick end) events.now)) }
+        ≡ put_events [] (filter (λ event. comes_by end event.tick event.kind) events.now)) }
 {
     let mut sorted = events_until(alloc, events, end)?;
     sort_by_tick(&mut sorted)?;
@@ -39,12 +40,22 @@ fn events_until<'a, A: Allocator>(
     end: u64,
 ) -> Result<Vec<&'a Event, A>, AllocError>
     ensures { IfOk result (λ kept. map (λ event. event.now) kept.items
-        ≡ filter (λ event. nat_le event.tick end) events.now) }
+        ≡ filter (λ event. comes_by end event.tick event.kind) events.now) }
 {
     events
         .iter()
-        .filter(|event| event.tick <= end)
+        .filter(|event| comes_by(event, end))
         .collect(alloc)
+}
+
+// Whether the event comes by the race's end, and a pause before it.
+fn comes_by(event: &Event, end: u64) -> bool
+    ensures { result ≡ comes_by end event.now.tick event.now.kind }
+{
+    match event.kind {
+        EventKind::Paused(_) => event.tick < end,
+        _ => event.tick <= end,
+    }
 }
 
 fn sort_by_tick<'a, A: Allocator>(events: &mut Vec<&'a Event, A>) -> Result<(), AllocError>

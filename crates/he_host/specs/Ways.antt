@@ -1,5 +1,6 @@
 -- The machine by which the rules take the sources that the kernel takes (RFC 6724 section 5).
-use Rattle.std.specs.Prelude.{Bool, true, false, not, List, find, Option, Some, None, Result, Ok, Err, option_map}
+use Rattle.std.specs.Prelude.{◌≡◌, ◌++◌, Bool, true, false, not, if◌then◌else◌, List, [], ◌∷◌, find, map, Option, Some, None, Result, Ok, Err, option_map}
+use Rattle.std.specs.List.{list_any}
 use Rattle.he_addr.specs.declared.ip.Ip.{Ip}
 use Rattle.he_addr.specs.Ip.{mapped_of, same_ip}
 use Rattle.he_addr.specs.Prefix.{PrefixBits}
@@ -10,10 +11,12 @@ use Rattle.he_host.specs.declared.found.FoundRoute.{FoundRoute}
 use Rattle.he_host.specs.declared.found.FoundSource.{FoundSource}
 use Rattle.he_host.specs.declared.found.Metered.{Metered}
 use Rattle.he_host.specs.declared.left_out.File.TheVariants as files
+use Rattle.he_host.specs.declared.left_out.LeftOut.{LeftOut}
 use Rattle.he_host.specs.declared.left_out.Why.{Why}
 use Rattle.he_host.specs.declared.left_out.Why.TheVariants as whys
 use Rattle.he_host.specs.declared.ways.TakenSource.{TakenSource}
 use Rattle.he_host.specs.declared.ways.Way.{Way}
+use Rattle.he_host.specs.Whole.{HasKept}
 
 -- what is known of a source
 abbrev pub own_of : Ip → List TakenSource → Option TakenSource
@@ -27,7 +30,7 @@ found_own_source taken = record { file = files.Kernel; line = 0; read = Ok taken
 abbrev pub one_address : Ip → PrefixBits
 one_address to = record { bits = mapped_of to; len = 128 }
 
--- the route to these addresses, over the interface of the source
+-- the route to a destination, over the interface of the source
 abbrev pub route_over : PrefixBits → TakenSource → Metered
 route_over prefix taken = record {
   route = record {
@@ -50,7 +53,7 @@ route_from own prefix (Some from) = route_of_own prefix (own_of from own)
 
 -- the route of a way; none where the kernel has no way
 unfoldable pub way_route : List TakenSource → Way → Result Metered Why
-way_route own way = route_from own way.prefix way.from
+way_route own way = route_from own (one_address way.to) way.from
 
 abbrev pub found_way : List TakenSource → Way → FoundRoute
 found_way own way = record { file = files.Kernel; line = 0; read = way_route own way }
@@ -64,3 +67,25 @@ same_source said taken = false
 abbrev pub is_unsaid : List Row → HostLists → Way → Bool
 is_unsaid rows host way =
     not (same_source (option_map (λ source. source.ip) (source_of (selection_input rows host) way.to)) way.from)
+
+abbrev pub ip_of : TakenSource → Ip
+ip_of taken = taken.source.ip
+
+abbrev pub with_source : List Ip → Option Ip → List Ip
+with_source taken None = taken
+with_source taken (Some ip) = if list_any (λ other. same_ip other ip) taken then taken else taken ++ ip ∷ []
+
+-- the sources of these ways after those that there are, each once
+abbrev pub sources_after : List Ip → List Way → List Ip
+sources_after taken [] = taken
+sources_after taken (way ∷ ways) = sources_after (with_source taken way.from) ways
+
+-- the machine by which the rules take the sources of these ways: what is known of each, and the routes
+abbrev pub IsMachineOf : List Way → HostLists → Type 0
+IsMachineOf ways host =
+    (own : List TakenSource) × (map ip_of own ≡ sources_after [] ways) × (left : List LeftOut)
+    × HasKept (map found_own_source own) (map (found_way own) ways) host left
+
+-- the machine of what the kernel answered for these destinations
+abbrev pub IsMachineTo : List Ip → HostLists → Type 0
+IsMachineTo ips host = (ways : List Way) × (map (λ way. way.to) ways ≡ ips) × IsMachineOf ways host

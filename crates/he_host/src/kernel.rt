@@ -2,11 +2,18 @@
 //
 // Proved is that it is safe and ends; what the system answers is in no contract.
 
+ghost use Rattle.std.specs.Prelude.{◌≡◌};
+
 use crate::ways::Way;
 use he_addr::Ip;
 use he_addr::prefix::V4_BITS;
 use std::io::ErrorKind;
-use std::net::{IpAddr, Ipv4Addr, Ipv6Addr, Net, SocketAddr, UdpSocket};
+use std::net::{
+    IpAddr, Ipv4Addr, Ipv6Addr, Net, SocketAddr, SocketAddrV4, SocketAddrV6, UdpSocket,
+};
+
+/// The number of no interface.
+pub const NO_SCOPE: u32 = 0;
 
 // The port of a connect that sends nothing: the discard service.
 const ANY_PORT: u16 = 9;
@@ -21,12 +28,14 @@ pub const ROOT_SERVER_V6: Ip = Ip::V6(0x2001_0503_ba3e_0000_0000_0000_0002_0030)
 // The longest prefix of a network that has a broadcast address (RFC 3021).
 const LONGEST_NETWORK: u8 = 30;
 
-fn socket_address(ip: Ip) -> SocketAddr {
-    let ip = match ip {
-        Ip::V4(bits) => IpAddr::V4(Ipv4Addr::from_bits(bits)),
-        Ip::V6(bits) => IpAddr::V6(Ipv6Addr::from_bits(bits)),
-    };
-    SocketAddr::new(ip, ANY_PORT)
+fn socket_address(ip: Ip, scope: u32) -> SocketAddr {
+    match ip {
+        Ip::V4(bits) => SocketAddr::V4(SocketAddrV4::new(Ipv4Addr::from_bits(bits), ANY_PORT)),
+        Ip::V6(bits) => {
+            let ip = Ipv6Addr::from_bits(bits);
+            SocketAddr::V6(SocketAddrV6::new(ip, ANY_PORT, 0, scope))
+        }
+    }
 }
 
 fn any_of(ip: Ip) -> IpAddr {
@@ -36,19 +45,25 @@ fn any_of(ip: Ip) -> IpAddr {
     }
 }
 
-/// The source that the kernel takes for an address; `None` where it has no way to it.
-pub fn ask_source<R: Net>(rt: &R, ip: Ip) -> Option<Ip> {
+/// The source that the kernel takes for an address; `None` where it has no way to it. To a link-local address of IPv6
+/// the way is over the interface of this number (RFC 4007 section 6), and without one there is none.
+pub fn ask_source<R: Net>(rt: &R, ip: Ip, scope: u32) -> Option<Ip> {
     let socket = UdpSocket::bind(rt, (any_of(ip), 0u16)).ok()?;
-    socket.connect(socket_address(ip)).ok()?;
+    socket.connect(socket_address(ip, scope)).ok()?;
     match socket.local_addr().ok()?.ip() {
         IpAddr::V4(source) => Some(Ip::V4(source.to_bits())),
         IpAddr::V6(source) => Some(Ip::V6(source.to_bits())),
     }
 }
 
-/// What the kernel answers for a destination.
-pub fn ask_way<R: Net>(rt: &R, to: Ip) -> Way {
-    Way::new(to, ask_source(rt, to))
+/// What the kernel answers for a destination, as [`ask_source`] says.
+pub fn ask_way<R: Net>(rt: &R, to: Ip, scope: u32) -> Way
+    ensures { result.to ≡ to }
+{
+    Way {
+        to,
+        from: ask_source(rt, to, scope),
+    }
 }
 
 // Whether it is the broadcast address of a network of this machine: the kernel connects to one only where that is
@@ -57,9 +72,10 @@ fn is_broadcast<R: Net>(rt: &R, ip: Ip) -> bool {
     let Ok(socket) = UdpSocket::bind(rt, (any_of(ip), 0u16)) else {
         return false;
     };
-    match socket.connect(socket_address(ip)) {
+    let to = socket_address(ip, NO_SCOPE);
+    match socket.connect(to) {
         Err(error) if error.kind() == ErrorKind::PermissionDenied => {
-            socket.set_broadcast(true).is_ok() && socket.connect(socket_address(ip)).is_ok()
+            socket.set_broadcast(true).is_ok() && socket.connect(to).is_ok()
         }
         _ => false,
     }
@@ -74,7 +90,7 @@ fn is_on_network<R: Net>(rt: &R, address: u32, len: u8) -> bool {
     let other = if last == address { last ^ 3 } else { last };
     address != broadcast
         && is_broadcast(rt, Ip::V4(broadcast))
-        && ask_source(rt, Ip::V4(other)) == Some(Ip::V4(address))
+        && ask_source(rt, Ip::V4(other), NO_SCOPE) == Some(Ip::V4(address))
 }
 
 /// The length of the prefix that an IPv4 address of this machine shares with its link: that of the longest network

@@ -3,10 +3,10 @@
 //!
 //! [`machine::write_machine`] appends the `source` and `route` lines of the machine that it runs on, and a line for
 //! each thing that a race has no place for or that is a guess. [`host::find_routes`] and [`host::find_host`] do the
-//! work on the bytes of the files. [`taken::write_machine_to`] appends the lines for some destinations alone, by
-//! which the rules take the sources that the kernel takes: it asks the kernel, and reads no routes.
-//! [`ahead::write_machine_ahead`] asks it for the routes that there are, where destinations are not known yet, and
-//! [`ahead::can_use`] whether it has a way for a family.
+//! work on the bytes of the files. [`taken::find_machine_to`] gives the machine for some destinations alone, by which
+//! the rules take the sources that the kernel takes: it asks the kernel, and reads no routes. So does
+//! [`taken::find_machine_of`] for those of one family, and [`taken::write_machine_to`] appends lines.
+//! [`families::can_use`] asks whether there is a way for a family.
 //!
 //! Proved, for all bytes: what each line of a file says, by the kernel's columns and flags (`specs/IfInet6`,
 //! `Ipv6Route`, `Ipv4Route`, `FibTrie`, `Sysfs`); routes stand by the lengths of their prefixes (which of IPv4 ones
@@ -17,18 +17,18 @@
 //!
 //! Proved, whatever the kernel answers: [`ways::find_host_to`] gives the machine with the kernel's sources and a route
 //! for each destination that leads over its source's interface, and [`ways::find_unsaid`] tells just those
-//! destinations for which the rules of he_select take another source of it than the kernel (`specs/Ways`). A source
-//! that is alone on the interface of a destination's route is the destination's, unless one of rules 1 to 3 of RFC
-//! 6724 section 5 prefers another ([`laws::own_interface_decides`], `specs/OwnInterfaces`): so each source of a way
-//! has an interface of its own.
+//! destinations for which the rules of he_select take another source of it than the kernel (`specs/Ways`). The calls
+//! of `taken` give such a machine for the destinations that they are given. A source that is alone on the interface of
+//! a destination's route is the destination's, unless one of rules 1 to 3 of RFC 6724 section 5 prefers another
+//! ([`laws::own_interface_decides`], `specs/OwnInterfaces`): so each source of a way has an interface of its own.
 //!
 //! Not proved: that no fault is answered where memory suffices (no step of the code answers one of its own); what
-//! `machine`, `kernel`, `taken` and `ahead` ask of the system, and what the lines that tell what is left out or a
+//! `machine`, `kernel`, `taken` and `families` ask of the system, and what the lines that tell what is left out or a
 //! guess say. IPv6 routes are those of all tables, which the file does not tell apart; IPv4 routes are those of the
 //! main table, and the others are told by number.
 #![tactic(auto)]
 
-pub mod ahead;
+pub mod families;
 pub mod fib_trie;
 pub mod found;
 pub mod gathering;

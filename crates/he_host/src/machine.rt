@@ -6,7 +6,7 @@ use crate::fib_trie::{OwnAddress, read_own_addresses};
 use crate::found::FoundRoute;
 use crate::host::{Files, FoundHost, find_host, find_routes};
 use crate::interface::{Interface, Link};
-use crate::kernel::{ROOT_SERVER_V4, ROOT_SERVER_V6, ask_source};
+use crate::kernel::{NO_SCOPE, ROOT_SERVER_V4, ROOT_SERVER_V6, ask_source};
 use crate::left_out::Why;
 use crate::lines::read_lines;
 use crate::parts::field;
@@ -141,7 +141,7 @@ fn destination_of(route: Route) -> Option<u32> {
 // The source that the kernel takes for the destinations of a route, with the route's interface.
 fn ask_route<R: Net>(rt: &R, found: FoundRoute) -> Option<InterfaceAnswer> {
     let metered = found.read.ok()?;
-    let ip = ask_source(rt, Ip::V4(destination_of(metered.route)?))?;
+    let ip = ask_source(rt, Ip::V4(destination_of(metered.route)?), NO_SCOPE)?;
     Some(InterfaceAnswer {
         ip,
         interface: metered.route.interface,
@@ -182,7 +182,7 @@ fn is_taken<R: Net>(rt: &R, ip: Ip, route: Route) -> bool {
     match destination_of(route) {
         Some(other) => {
             let other = Ip::V4(other);
-            other != ip && ask_source(rt, other) == Some(ip)
+            other != ip && ask_source(rt, other, NO_SCOPE) == Some(ip)
         }
         None => false,
     }
@@ -232,7 +232,7 @@ fn tell_guesses<R: Net>(
 }
 
 // An address that the prefix contains: that of a root name server, or the first one behind that of the network.
-pub(crate) fn probe_of(prefix: Prefix) -> Option<Ip> {
+fn probe_of(prefix: Prefix) -> Option<Ip> {
     for ip in [ROOT_SERVER_V4, ROOT_SERVER_V6] {
         if prefix.contains(ip) {
             return Some(ip);
@@ -270,7 +270,8 @@ fn tell_other_sources<R: Net + AllocGlobal>(
         if !leads(*route, machine.routes(), to) {
             continue;
         }
-        if let (Some(said), Some(taken)) = (machine.source(&policy, to), ask_source(rt, to)) {
+        let taken = ask_source(rt, to, NO_SCOPE);
+        if let (Some(said), Some(taken)) = (machine.source(&policy, to), taken) {
             if said != taken {
                 write_other_source(route.prefix, said, taken, remarks)?;
             }

@@ -1,23 +1,36 @@
-// The lines by which the rules take the sources that the kernel takes: it is asked, and no table of routes is read
+// The machine by which the rules take the sources that the kernel takes: it is asked, and no table of routes is read
 // whole.
 //
-// Proved is that it is safe and ends; what the system answers is in no contract.
+// Proved is that what it answers becomes the machine that `find_host_to` makes of it; what it answers is in no
+// contract.
+
+ghost use Rattle.std.specs.Prelude.{◌≡◌, [], IfOk, IfSome, OnOk, length, map, min, take};
+ghost use Rattle.std.specs.List.{list_any};
+ghost use Rattle.he_addr.specs.declared.ip.Ip.TheVariants.{V6};
+ghost use Rattle.he_addr.specs.Ip.{same_ip};
+ghost use Rattle.he_host.specs.Ways.{IsMachineOf, IsMachineTo, ip_of, sources_after, with_source};
+ghost use Rattle.he_host.specs.declared.taken.TheConstants.{MOST_DESTINATIONS};
 
 use crate::if_inet6::{make_source, read_address_line};
 use crate::interface::Link;
-use crate::kernel::{ask_len, ask_way};
+use crate::kernel::{NO_SCOPE, ask_len, ask_way};
 use crate::lines::read_lines;
 use crate::machine::{MachineFault, read_if_there, read_link_of};
 use crate::parts::field;
 use crate::remarks::write_unsaid;
 use crate::ways::{TakenSource, Way, find_host_to, find_unsaid};
 use crate::writing::write_host;
-use he_addr::Ip;
 use he_addr::prefix::V6_BITS;
+use he_addr::{Family, Ip};
+use he_select::limits::ROUTES;
 use he_select::{Host, Policy, Source};
 use std::alloc::{AllocGlobal, Global};
 use std::net::Net;
 use std::rt::Files as FileSystem;
+
+/// For how many destinations of one family a race has lines: half of its routes, so that those of the other family
+/// have place.
+pub const MOST_DESTINATIONS: usize = ROUTES / 2;
 
 // The place of an interface's name in a line of `/proc/net/if_inet6`.
 const NAME: usize = 5;
@@ -45,7 +58,9 @@ fn read_v6_taken<R: FileSystem + AllocGlobal>(
     line: &[u8],
     ip: u128,
     interface: u16,
-) -> Result<Option<TakenSource>, MachineFault> {
+) -> Result<Option<TakenSource>, MachineFault>
+    ensures { IfOk result (λ found. IfSome found (λ taken. taken.source.ip ≡ V6 ip)) }
+{
     let Some(read) = read_address_line(line) else {
         return Ok(None);
     };
@@ -58,7 +73,10 @@ fn read_v6_taken<R: FileSystem + AllocGlobal>(
     link.number = interface;
     match make_source(read, Some(link)) {
         Ok(source) => Ok(Some(TakenSource {
-            source,
+            source: Source {
+                ip: Ip::V6(ip),
+                ..source
+            },
             tunnel: link.tunnel,
         })),
         Err(_) => Ok(None),
@@ -71,7 +89,9 @@ fn find_v6_taken<R: FileSystem + AllocGlobal>(
     if_inet6: &[u8],
     ip: u128,
     interface: u16,
-) -> Result<TakenSource, MachineFault> {
+) -> Result<TakenSource, MachineFault>
+    ensures { IfOk result (λ taken. taken.source.ip ≡ V6 ip) }
+{
     for line in read_lines(rt.alloc(), if_inet6)?.iter() {
         if let Some(taken) = read_v6_taken(rt, line.text, ip, interface)? {
             return Ok(taken);
@@ -80,7 +100,9 @@ fn find_v6_taken<R: FileSystem + AllocGlobal>(
     Ok(taken_alone(Ip::V6(ip), V6_BITS, interface))
 }
 
-fn taken_alone(ip: Ip, plen: u8, interface: u16) -> TakenSource {
+fn taken_alone(ip: Ip, plen: u8, interface: u16) -> TakenSource
+    ensures { result.source.ip ≡ ip }
+{
     TakenSource {
         source: Source {
             ip,
@@ -93,51 +115,166 @@ fn taken_alone(ip: Ip, plen: u8, interface: u16) -> TakenSource {
     }
 }
 
-// The sources that the kernel takes, each once, in the order of the destinations. Each counts as on an interface of
-// its own, numbered from 1: Linux tells no interface of an IPv4 address, and the rules ask only whether two are the
-// same.
+// What is known of a source that the kernel takes, which counts as on an interface of this number.
+fn find_source<R: FileSystem + Net + AllocGlobal>(
+    rt: &R,
+    if_inet6: &[u8],
+    ip: Ip,
+    interface: u16,
+) -> Result<TakenSource, MachineFault>
+    ensures { IfOk result (λ taken. taken.source.ip ≡ ip) }
+{
+    match ip {
+        Ip::V4(bits) => Ok(taken_alone(ip, ask_len(rt, bits), interface)),
+        Ip::V6(bits) => find_v6_taken(rt, if_inet6, bits, interface),
+    }
+}
+
+// The numbers of the interfaces of sources: each source counts as on an interface of its own, since Linux tells no
+// interface of an IPv4 address, and the rules ask only whether two are the same.
+#[derive(Clone, Copy)]
+struct Numbering {
+    next: u16,
+    step: u16,
+}
+
+impl Numbering {
+    // 1, 2, 3 and so on.
+    fn of_all() -> Numbering {
+        Numbering { next: 1, step: 1 }
+    }
+
+    // The odd numbers for IPv6, and the even ones for IPv4.
+    fn of(family: Family) -> Numbering {
+        let next = match family {
+            Family::V6 => 1,
+            Family::V4 => 2,
+        };
+        Numbering { next, step: 2 }
+    }
+
+    fn take(&mut self) -> u16 {
+        let taken = self.next;
+        self.next = taken.saturating_add(self.step);
+        taken
+    }
+}
+
+// The sources that the kernel takes, each once, in the order of the destinations, with interfaces of these numbers.
 fn find_taken<R: FileSystem + Net + AllocGlobal>(
     rt: &R,
     ways: &[Way],
-) -> Result<Vec<TakenSource>, MachineFault> {
+    mut numbering: Numbering,
+) -> Result<Vec<TakenSource>, MachineFault>
+    ensures { IfOk result (λ taken. map ip_of taken.items ≡ sources_after [] ways.now) }
+{
     let if_inet6 = read_if_there(rt, "/proc/net/if_inet6")?;
     let mut taken = Vec::new(rt.alloc());
-    let mut interface: u16 = 0;
     for way in ways {
-        let Some(ip) = way.from else {
-            continue;
-        };
-        if is_taken_already(&taken, ip) {
-            continue;
-        }
-        interface = interface.saturating_add(1);
-        taken.push(match ip {
-            Ip::V4(bits) => taken_alone(ip, ask_len(rt, bits), interface),
-            Ip::V6(bits) => find_v6_taken(rt, &if_inet6, bits, interface)?,
-        })?;
+        add_taken(rt, &if_inet6, way.from, &mut numbering, &mut taken)?;
     }
     Ok(taken)
 }
 
-fn is_taken_already(taken: &[TakenSource], ip: Ip) -> bool {
-    taken.iter().any(|one| one.source.ip == ip)
+// Adds the source of a way, where it isn't there.
+fn add_taken<R: FileSystem + Net + AllocGlobal>(
+    rt: &R,
+    if_inet6: &[u8],
+    from: Option<Ip>,
+    numbering: &mut Numbering,
+    taken: &mut Vec<TakenSource>,
+) -> Result<(), MachineFault>
+    ensures { OnOk result (map ip_of taken.new.items ≡ with_source (map ip_of taken.old.items) from) }
+{
+    let Some(ip) = from else {
+        return Ok(());
+    };
+    if !is_taken_already(taken, ip) {
+        taken.push(find_source(rt, if_inet6, ip, numbering.take())?)?;
+    }
+    Ok(())
 }
 
-// Appends the lines of the machine whose sources the kernel takes for these ways.
-pub(crate) fn write_ways<R: FileSystem + Net + AllocGlobal>(
+fn is_taken_already(taken: &[TakenSource], ip: Ip) -> bool
+    ensures { result ≡ list_any (λ other. same_ip other ip) (map ip_of taken.now) }
+{
+    for one in taken {
+        if one.source.ip == ip {
+            return true;
+        }
+    }
+    false
+}
+
+// Asks the kernel for the way to each destination.
+fn ask_ways<R: Net + AllocGlobal>(
+    rt: &R,
+    destinations: &[Ip],
+    scope: u32,
+) -> Result<Vec<Way>, MachineFault>
+    ensures { IfOk result (λ ways. map (λ way. way.to) ways.items ≡ destinations.now) }
+{
+    let mut ways = Vec::new(rt.alloc());
+    for to in destinations {
+        ways.push(ask_way(rt, *to, scope))?;
+    }
+    Ok(ways)
+}
+
+// The machine whose sources the kernel takes for these ways.
+fn find_machine<R: FileSystem + Net + AllocGlobal>(
     rt: &R,
     ways: &[Way],
-    lines: &mut Vec<u8>,
-) -> Result<Host<Global>, MachineFault> {
-    let taken = find_taken(rt, ways)?;
+    numbering: Numbering,
+) -> Result<Host<Global>, MachineFault>
+    ensures { IfOk result (IsMachineOf ways.now) }
+{
+    let taken = find_taken(rt, ways, numbering)?;
     let found = find_host_to(rt.alloc(), &taken, ways)?;
-    write_host(&found.host, lines)?;
     Ok(found.host)
 }
 
+/// The machine by which the rules take, for each of these destinations, the source that the kernel takes
+/// ([`find_host_to`]); link-local ones are reached over the interface of the number ([`ask_source`]). No routes are
+/// read, however many there are: the kernel is asked.
+///
+/// # Errors
+///
+/// [`MachineFault::Memory`]: an allocation was refused.
+///
+/// [`ask_source`]: crate::kernel::ask_source
+pub fn find_machine_to<R: FileSystem + Net + AllocGlobal>(
+    rt: &R,
+    destinations: &[Ip],
+    scope: u32,
+) -> Result<Host<Global>, MachineFault>
+    ensures { IfOk result (IsMachineTo destinations.now) }
+{
+    let ways = ask_ways(rt, destinations, scope)?;
+    find_machine(rt, &ways, Numbering::of_all())
+}
+
+/// The same for the first [`MOST_DESTINATIONS`] of these destinations, which are of one family, for a race that is to
+/// have lines for those of the other too: no interface has the number of one for the other family.
+///
+/// # Errors
+///
+/// [`MachineFault::Memory`]: an allocation was refused.
+pub fn find_machine_of<R: FileSystem + Net + AllocGlobal>(
+    rt: &R,
+    family: Family,
+    destinations: &[Ip],
+) -> Result<Host<Global>, MachineFault>
+    ensures { IfOk result (IsMachineTo (take (min MOST_DESTINATIONS (length destinations.now)) destinations.now)) }
+{
+    let first = MOST_DESTINATIONS.min(destinations.len());
+    let ways = ask_ways(rt, &destinations[..first], NO_SCOPE)?;
+    find_machine(rt, &ways, Numbering::of(family))
+}
+
 /// Appends the lines by which the rules take, for each of these destinations, the source that the kernel takes
-/// ([`find_host_to`]), and a line for each destination of which lines can't say it. It reads no routes, however many
-/// there are: the kernel is asked.
+/// ([`find_machine_to`]), and a line for each destination of which lines can't say it. Link-local ones of IPv6 have no
+/// interface, and so no way.
 ///
 /// # Errors
 ///
@@ -148,11 +285,9 @@ pub fn write_machine_to<R: FileSystem + Net + AllocGlobal>(
     lines: &mut Vec<u8>,
     remarks: &mut Vec<u8>,
 ) -> Result<(), MachineFault> {
-    let mut ways = Vec::new(rt.alloc());
-    for to in destinations {
-        ways.push(ask_way(rt, *to))?;
-    }
-    let machine = write_ways(rt, &ways, lines)?;
+    let ways = ask_ways(rt, destinations, NO_SCOPE)?;
+    let machine = find_machine(rt, &ways, Numbering::of_all())?;
+    write_host(&machine, lines)?;
     let policy = Policy::standard(rt.alloc())?;
     for way in find_unsaid(rt.alloc(), &machine, &policy, &ways)?.iter() {
         write_unsaid(*way, remarks)?;

@@ -1,7 +1,7 @@
 // The machine by which the rules take the sources that the kernel takes: what it answers for destinations, as lines.
 
 ghost use Rattle.std.specs.Prelude.{◌≡◌, filter, map, not, IfOk};
-ghost use Rattle.he_host.specs.Ways.{found_own_source, found_way, is_unsaid, one_address, own_of, same_source, way_route};
+ghost use Rattle.he_host.specs.Ways.{found_own_source, found_way, is_unsaid, own_of, same_source, way_route};
 ghost use Rattle.he_host.specs.Whole.{HasKept};
 
 use crate::found::{FoundRoute, FoundSource, Metered};
@@ -25,23 +25,8 @@ pub struct TakenSource {
 pub struct Way {
     /// The destination that the kernel is asked for.
     pub to: Ip,
-    /// The destinations that it stands for: the one that is asked for, or those of a route to it.
-    pub prefix: Prefix,
     /// The source that the kernel takes; `None` where there is no way.
     pub from: Option<Ip>,
-}
-
-impl Way {
-    /// The way to one destination alone.
-    pub fn new(to: Ip, from: Option<Ip>) -> Way
-        ensures { result ≡ record { to = to; prefix = one_address to; from = from } }
-    {
-        Way {
-            to,
-            prefix: Prefix::new(to.mapped(), V6_BITS),
-            from,
-        }
-    }
 }
 
 // What is known of a source.
@@ -68,7 +53,7 @@ fn way_route(own: &[TakenSource], way: Way) -> Result<Metered, Why>
         return Err(Why::Unconnected);
     };
     let route = Route {
-        prefix: way.prefix,
+        prefix: Prefix::new(way.to.mapped(), V6_BITS),
         interface: taken.source.interface,
         tunnel: taken.tunnel,
     };

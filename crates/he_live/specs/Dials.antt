@@ -1,16 +1,18 @@
 -- What a connection that is being made waits for, and where it goes.
-use Rattle.std.specs.Prelude.{ℕ, ◌≡◌, Option, Some, None, Result, Ok, Err}
+use Rattle.std.specs.Prelude.{ℕ, ◌*◌, ◌^◌, ◌≡◌, Bool, Option, Some, None, Result, Ok, Err, if◌then◌else◌}
 use Rattle.std.specs.Net.Addr.{IsIpv4OfBits, IsIpv6OfBits}
-use Rattle.std.specs.Net.Socket.{socket_ip, socket_port}
+use Rattle.std.specs.Net.Socket.{socket_ip, socket_port, socket_scope_id}
 use Rattle.std.specs.declared.io.Error.{Error}
 use Rattle.std.specs.declared.net.ip_addr.IpAddr.{IpAddr}
 use Rattle.std.specs.declared.net.ip_addr.IpAddr.TheVariants as system
 use Rattle.std.specs.declared.net.socket_addr.SocketAddr.{SocketAddr}
 use Rattle.tokio.specs.Net.{stream_writable}
+use Rattle.he_addr.specs.Bits.{agrees}
 use Rattle.he_addr.specs.declared.ip.Ip.{Ip}
 use Rattle.he_addr.specs.declared.ip.Ip.TheVariants.{V4, V6}
 use Rattle.he_live.specs.declared.dialed.Dialed.{Dialed}
 use Rattle.he_live.specs.declared.dialing.Dialing.{Dialing}
+use Rattle.he_live.specs.declared.endpoint.Endpoint.{Endpoint}
 
 -- for its socket to be writable, until it has answered
 abbrev pub dial_needs : Option (Result Dialing Error) → ℕ → Type 0
@@ -30,10 +32,25 @@ IsAddressOf (V4 bits) (system.V4 address) = IsIpv4OfBits address bits
 IsAddressOf (V6 bits) (system.V6 address) = IsIpv6OfBits address bits
 IsAddressOf ip address = ⊥
 
--- the address and the port as std has them
-abbrev pub IsSocketOf : Ip → ℕ → SocketAddr → Type 0
-IsSocketOf ip port socket = IsAddressOf ip (socket_ip socket) × (socket_port socket ≡ port)
+-- the port, with no interface
+abbrev pub at_port : ℕ → Endpoint
+at_port port = record { port = port; scope = 0 }
 
--- the connection goes to the address at the port
-abbrev pub goes_to : ℕ → Ip → Dialed → Type 0
-goes_to port ip dialed = IsSocketOf ip port dialed.to
+-- fe80::/10 (RFC 4291 section 2.5.6)
+abbrev pub is_on_link : ℕ → Bool
+is_on_link bits = agrees 128 bits (0xfe80 * 2 ^ 112) 10
+
+-- the interface that goes with an address: it belongs to a link-local one of IPv6, and to no other (RFC 4007 section 6)
+abbrev pub scope_with : ℕ → Ip → ℕ
+scope_with scope (V4 bits) = 0
+scope_with scope (V6 bits) = if is_on_link bits then scope else 0
+
+-- the address, the port and the interface as std has them
+abbrev pub IsSocketOf : Ip → Endpoint → SocketAddr → Type 0
+IsSocketOf ip to socket =
+    IsAddressOf ip (socket_ip socket) × (socket_port socket ≡ to.port)
+    × (socket_scope_id socket ≡ scope_with to.scope ip)
+
+-- the connection goes to the address at the endpoint's port, a link-local one of IPv6 over its interface
+abbrev pub goes_to : Endpoint → Ip → Dialed → Type 0
+goes_to to ip dialed = IsSocketOf ip to dialed.to

@@ -3,7 +3,7 @@ ghost use Rattle.std.specs.Prelude.{◌≡◌};
 
 use std::net::{SocketAddr, TcpStream};
 
-/// The connection of the attempt that won, with the address and the port that it was asked for.
+/// The connection of the attempt that won, with the address, the port and the interface that it was asked for.
 #[derive(Drop)]
 pub struct Dialed {
     to: SocketAddr,
@@ -17,7 +17,7 @@ impl Dialed {
         Dialed { to, stream }
     }
 
-    /// The address and the port that it was asked for.
+    /// The address, the port and the interface that it was asked for.
     pub fn to(&self) -> SocketAddr
         ensures { result ≡ self.now.to }
     {

@@ -27,7 +27,8 @@
 //!
 //! [`live_race`] makes and ends an event loop of its own, [`live_race_on`] takes one of the crate `tokio`. Where
 //! answers come while the race runs, as from a resolver, [`resolving_race_on`] asks a source for them, and tells a
-//! [`Watcher`] each step.
+//! [`Watcher`] each step. Its [`Endpoint`] has the interface of link-local addresses of IPv6 too, of which a timeline
+//! says nothing.
 //!
 //! [`live`] does all of it over an input and an output: `he live` is this call.
 //!
@@ -37,8 +38,11 @@
 //!   rules of a race make of its record; the record has the given settings, policy, host, answers and what is known of
 //!   addresses from earlier; and there is a winner's stream exactly where the race was won (`Replays` of `he_race`).
 //!   Its faults are `Runtime` and `Memory` alone.
-//! - What [`resolving_race_on`] gives replays likewise, for every source: its record has the given settings, policy,
-//!   host, history and answers, and of the other families what the source told (`ReplaysGiven` of `he_race`).
+//! - The winner's connection was asked for at the address of the transcript's line that won and the given port, over
+//!   the given interface where that is a link-local address of IPv6, and over none else (`goes_to` in `specs/Dials`).
+//! - What [`resolving_race_on`] gives replays likewise, for every source: its record has the given settings, policy
+//!   and answers, begins with the given host and history, and has of the other families what the source told
+//!   (`ReplaysGiven` and `IsOfSource` of `he_race`).
 //! - [`live`] writes the transcript's text and then the record's, of the input's one race with the given changes of
 //!   its settings, and hands out the record's text; it makes all of it before it writes the first byte, and after any
 //!   fault but `Write` nothing was written. `Text`, `Read` and `OneRace` come only where the input has this fault
@@ -56,6 +60,7 @@
 mod clock;
 pub mod dialed;
 mod dialing;
+pub mod endpoint;
 pub mod failures;
 pub mod fault;
 pub mod racing;
@@ -65,9 +70,10 @@ mod sockets;
 pub mod steps;
 
 pub use dialed::Dialed;
+pub use endpoint::Endpoint;
 pub use failures::{FailedAttempt, failed_attempts, first_local, write_failures};
 pub use fault::LiveFault;
-pub use racing::{live_race, live_race_on, resolving_race_on};
+pub use racing::{ResolvingRequest, live_race, live_race_on, resolving_race_on};
 pub use reason::Reason;
 pub use recording::{LiveReport, live};
 pub use steps::{Quiet, Step, StepKind, Steps, Watcher};

@@ -1,13 +1,16 @@
 //! A race on real sockets.
 ghost use Rattle.std.specs.Prelude.{IfErr, IfOk};
+ghost use Rattle.he_race.specs.OfSource.{IsOfSource};
 ghost use Rattle.he_race.specs.Resolving.{ReplaysGiven};
 ghost use Rattle.he_race.specs.Turns.{Replays};
 ghost use Rattle.he_race.specs.Winner.{WinnerGoes};
-ghost use Rattle.he_live.specs.Dials.{goes_to};
+ghost use Rattle.he_timeline.specs.Building.{unrecorded};
+ghost use Rattle.he_live.specs.Dials.{at_port, goes_to};
 ghost use Rattle.he_live.specs.Live.{IsRunFault};
 
 use crate::clock::LiveTicker;
 use crate::dialed::Dialed;
+use crate::endpoint::Endpoint;
 use crate::fault::LiveFault;
 use crate::sockets::TcpConnector;
 use crate::steps::{Quiet, Steps, Watcher};
@@ -49,7 +52,7 @@ where
     R: Wait + Clock + RandomSource + AllocGlobal + Net,
     A: Allocator,
     ensures replays { IfOk result (Replays timeline.now) }
-    ensures winner { IfOk result (WinnerGoes (goes_to port)) }
+    ensures winner { IfOk result (WinnerGoes (goes_to (at_port port))) }
     ensures fault { IfErr result IsRunFault }
 {
     // The timers count milliseconds from when the event loop is made, so a start just before makes both tick as one.
@@ -75,7 +78,7 @@ where
     R: Wait + Clock + RandomSource + AllocGlobal + Net,
     A: Allocator,
     ensures replays { IfOk result (Replays timeline.now) }
-    ensures winner { IfOk result (WinnerGoes (goes_to port)) }
+    ensures winner { IfOk result (WinnerGoes (goes_to (at_port port))) }
     ensures fault { IfErr result IsRunFault }
 {
     let start = Instant::now(rt)?;
@@ -96,12 +99,13 @@ where
     R: Wait + Clock + RandomSource + AllocGlobal + Net,
     A: Allocator,
     ensures replays { IfOk result (Replays timeline.now) }
-    ensures winner { IfOk result (WinnerGoes (goes_to port)) }
+    ensures winner { IfOk result (WinnerGoes (goes_to (at_port port))) }
     ensures fault { IfErr result IsRunFault }
 {
     // A handle of its own, since the run borrows the event loop.
     let handle = runtime.handle().clone()?;
-    let connector = TcpConnector::new(rt, handle.reactor(), port, steps.share()?);
+    let to = Endpoint::at_port(port);
+    let connector = TcpConnector::new(rt, handle.reactor(), to, steps.share()?);
     let ticker = LiveTicker::new(rt, handle.time(), start, steps.share()?, Quiet);
     let race = RaceFuture::new(alloc, timeline, connector, ticker)?;
     match runtime.block_on(rt, race)? {
@@ -110,10 +114,21 @@ where
     }
 }
 
-/// The same where answers come while the race runs (RFC 8305 section 3): a family that has no answer in the timeline
-/// is the source's to answer. What the source tells counts as come at the tick of the turn in which it does, and
-/// stands so in the record. A source that waits for sockets or timers has those of this event loop. The watcher is
-/// told each step.
+/// A race whose answers come while it runs.
+#[derive(Drop)]
+pub struct ResolvingRequest<'t, A: Allocator, S> {
+    /// What is known before: as [`live_race`] looks at it.
+    pub timeline: &'t Timeline<A>,
+    /// What answers for a family that has no answer in the timeline.
+    pub source: S,
+    /// Where its connections go.
+    pub to: Endpoint,
+}
+
+/// As [`live_race_on`], where answers come while the race runs (RFC 8305 section 3): a family that has no answer in the
+/// timeline is the source's to answer. What the source tells counts as come at the tick of the turn in which it does,
+/// and stands so in the record. A source that waits for sockets or timers has those of this event loop. A link-local
+/// address of IPv6 is connected to over the interface that is asked for. The watcher is told each step.
 ///
 /// # Errors
 ///
@@ -122,9 +137,7 @@ pub fn resolving_race_on<R, A, S, W>(
     rt: &R,
     alloc: Global,
     runtime: &mut LocalRuntime,
-    timeline: &Timeline<A>,
-    source: S,
-    port: u16,
+    request: ResolvingRequest<'_, A, S>,
     steps: &Steps,
     watcher: &W,
 ) -> Result<Raced<Dialed>, LiveFault>
@@ -133,13 +146,20 @@ where
     A: Allocator,
     S: AnswerSource,
     W: Watcher,
-    ensures replays { IfOk result (ReplaysGiven timeline.now) }
-    ensures winner { IfOk result (WinnerGoes (goes_to port)) }
+    ensures replays { IfOk result (ReplaysGiven request.entry.timeline.now) }
+    ensures winner { IfOk result (WinnerGoes (goes_to request.entry.to)) }
+    ensures source { IfOk result (λ raced. IsOfSource S.hears request.entry.source
+        (unrecorded request.entry.timeline.now) raced.recorded) }
     ensures fault { IfErr result IsRunFault }
 {
     let start = Instant::now(rt)?;
     let handle = runtime.handle().clone()?;
-    let connector = TcpConnector::new(rt, handle.reactor(), port, steps.share()?);
+    let ResolvingRequest {
+        timeline,
+        source,
+        to,
+    } = request;
+    let connector = TcpConnector::new(rt, handle.reactor(), to, steps.share()?);
     let ticker = LiveTicker::new(rt, handle.time(), start, steps.share()?, watcher);
     let race = ResolvingRace::new(alloc, timeline, connector, source, ticker)?;
     let ended = runtime.block_on(rt, race);

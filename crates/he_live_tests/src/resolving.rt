@@ -6,8 +6,11 @@ use crate::homes::{
 use futures::task::{Context, Poll};
 use he_addr::{Family, Ip};
 use he_inputs::read_one_race;
-use he_live::{Dialed, Quiet, Reason, Step, StepKind, Steps, Watcher, resolving_race_on};
-use he_race::{AnswerSource, Known, nothing_known};
+use he_live::{
+    Dialed, Endpoint, Quiet, Reason, ResolvingRequest, Step, StepKind, Steps, Watcher,
+    resolving_race_on,
+};
+use he_race::{Answer, AnswerSource, nothing_known};
 use std::alloc::Global;
 use std::cell::Cell;
 use std::io;
@@ -51,7 +54,7 @@ impl AnswerSource for AtTicks {
 
     ghost hears = { λ _ _ _ _ _. ⊤ };
 
-    fn poll_answer(&mut self, family: Family, now: u64, cx: &mut Context<'_>) -> Poll<Vec<Known>> {
+    fn poll_answer(&mut self, family: Family, now: u64, cx: &mut Context<'_>) -> Poll<Answer> {
         let (tick, ip) = match family {
             Family::V6 => (self.aaaa, LOOPBACK_6),
             Family::V4 => (self.a, LOOPBACK_4),
@@ -60,7 +63,7 @@ impl AnswerSource for AtTicks {
             return cx.yield_now();
         }
         match nothing_known(self.alloc, &[ip]) {
-            Ok(known) => Poll::Ready(known),
+            Ok(known) => Poll::Ready(Answer::without_lines(known)),
             Err(_) => cx.yield_now(),
         }
     }
@@ -123,16 +126,12 @@ fn resolve<R: Lender + Net, W: Watcher>(
 ) -> Result<(bool, Option<Dialed>), Fail> {
     let timeline = read_one_race(rt.alloc(), UNKNOWN, false)?;
     let steps = Steps::new(rt.alloc())?;
-    let raced = resolving_race_on(
-        rt,
-        rt.alloc(),
-        runtime,
-        &timeline,
+    let request = ResolvingRequest {
+        timeline: &timeline,
         source,
-        port,
-        &steps,
-        watcher,
-    );
+        to: Endpoint::at_port(port),
+    };
+    let raced = resolving_race_on(rt, rt.alloc(), runtime, request, &steps, watcher);
     drop(timeline);
     let raced = raced?;
     let is_right = is_right(rt, &raced, wanted);

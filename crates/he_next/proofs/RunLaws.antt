@@ -28,7 +28,9 @@ use Rattle.he_plan.proofs.Growing.{pause-below}
 use Rattle.he_plan.proofs.InTurn.{in_turn-follow, in_turn-more, in_turn-none}
 use Rattle.he_plan.proofs.Lawful.{attempts-prefix}
 use Rattle.he_plan.proofs.Stopping.{none_before}
-use Rattle.he_plan.proofs.Later.{attempts-before}
+use Rattle.he_race.specs.Heard.{cleaned, ips_of}
+use Rattle.he_race.proofs.Cleaned.{cleaned-own}
+use Rattle.he_race.proofs.Learnt.{heard-attempts}
 use Rattle.he_next.specs.Runs.{AreBelow, IsOver, IsWritten, Runs, Sleeps, State, attempt_of, with_started}
 use Rattle.he_next.proofs.StepLaws.{lt_past, not_late}
 use Rattle.he_next.specs.Steps.{action_of, before_tick, due_action, end_action, end_tick}
@@ -312,7 +314,8 @@ started_in_turn race report xs now turn t below = by_end (nat_le (end_tick repor
 written_in_turn : (old new : State) → IsRace old.race → IsWritten old new → AreNextInTurn old.race old.attempts → AreNextInTurn new.race old.attempts
 written_in_turn old new r written turn = elim written.happened [
   | inl answer ↦ subst (λ (race : Race). AreNextInTurn race old.attempts) (sym answer.told)
-      (attempts-before old.race r answer.reply answer.family answer.first old.attempts answer.late turn)
+      (heard-attempts old.race r answer.family answer.first answer.tick answer.answer (cleaned answer.family (ips_of answer.answer.known))
+      (cleaned-own answer.family (ips_of answer.answer.known)) old.attempts answer.late turn)
   | inr more ↦ elim more [
     | inl end ↦ ends-in_turn old.race new.race r written.valid old.attempts end.0 end.1 turn
     | inr sleep ↦ slept_in_turn sleep

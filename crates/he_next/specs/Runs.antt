@@ -1,14 +1,15 @@
 -- Races that are run by what is due, and the attempts that they start.
-use Rattle.std.specs.Prelude.{ℕ, ◌≡◌, ◌⊎◌, ◌++◌, List, [], ◌∷◌, None, IsTrue, length, nat_le, nat_lt}
+use Rattle.std.specs.Prelude.{ℕ, ◌≡◌, ◌⊎◌, ◌++◌, List, [], ◌∷◌, None, Some, IsTrue, length, nat_le, nat_lt}
 use Rattle.std.specs.List.{list_all}
 use Rattle.he_addr.specs.declared.ip.Family.{Family}
-use Rattle.he_timeline.specs.Building.{with_answer, with_pause}
-use Rattle.he_timeline.specs.Race.{Race, Reply, reply_of}
+use Rattle.he_timeline.specs.Building.{with_pause}
+use Rattle.he_timeline.specs.Race.{Race, reply_of}
 use Rattle.he_timeline.specs.Timeline.{IsRace}
 use Rattle.he_plan.specs.Transcript.{IsTranscript, Report}
 use Rattle.he_plan.specs.RaceState.{EndsOne}
 use Rattle.he_plan.specs.declared.attempts.Attempt.{Attempt}
 use Rattle.he_plan.specs.declared.transcript.Line.{Line}
+use Rattle.he_race.specs.Heard.{AnswerLists, with_told}
 use Rattle.he_next.specs.Steps.{action_of, end_tick, late_start}
 use Rattle.he_next.specs.declared.step.Action.{Action}
 use Rattle.he_next.specs.declared.step.Action.TheVariants.{Start, Wait, Won, Exhausted, Limit}
@@ -26,13 +27,15 @@ pub record State : Type 0 where
   pub race : Race
   pub attempts : List Attempt
 
--- a family's answer, after the last start
+-- a family's answer, after the last start, with what is known of its addresses from earlier (RFC 8305 section 4: the
+-- lines `rtt` and `used`), and with the lines `source` and `route` by which they are reached
 pub record Answers (old : State) (new : Race) : Type 0 where
   pub family : Family
-  pub reply : Reply
+  pub tick : ℕ
+  pub answer : AnswerLists
   pub first : reply_of old.race family ≡ None
-  pub told : new ≡ with_answer old.race family reply
-  pub late : AreBelow reply.tick old.attempts
+  pub told : new ≡ with_told old.race family tick (Some answer)
+  pub late : AreBelow tick old.attempts
 
 -- a pause from a tick after the last start on
 pub record Sleeps (old : State) (new : Race) : Type 0 where

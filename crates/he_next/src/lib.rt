@@ -10,8 +10,9 @@
 //! attempt at the place that comes next starts at the tick, or is waited for; the race has ended where the transcript
 //! says so at or before the tick. A pause is told just where that attempt's start lies before the tick. By [`laws`] an
 //! attempt that is to start where there is no pause starts at the very tick, and what is waited for lies behind it. Of
-//! a race that is run so, whatever answers, ends of attempts and pauses are written down meanwhile (`specs/Runs`), the
-//! attempts that were started are those of its record's transcript.
+//! a race that is run so, whatever answers, ends of attempts and pauses are written down meanwhile, and whatever lines
+//! `rtt`, `used`, `source` and `route` come with an answer for its addresses (`specs/Runs`), the attempts that were
+//! started are those of its record's transcript.
 //!
 //! Tested only: that a call succeeds where memory is granted.
 #![tactic(auto)]

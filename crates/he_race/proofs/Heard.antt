@@ -10,7 +10,7 @@ use Rattle.he_addr.specs.declared.ip.Family.{Family}
 use Rattle.he_addr.specs.declared.ip.Family.TheVariants as families
 use Rattle.he_addr.specs.declared.ip.Ip.{Ip}
 use Rattle.he_plan.specs.declared.attempts.Attempt.{Attempt}
-use Rattle.he_select.specs.declared.known.Known.{Known}
+use Rattle.he_select.specs.Hosts.{HostLists}
 use Rattle.he_timeline.specs.declared.outcome.Outcome.{Outcome}
 use Rattle.he_timeline.specs.declared.outcome.Outcome.TheVariants as outcomes
 use Rattle.he_plan.specs.Agreement.{AreAlike}
@@ -21,11 +21,12 @@ use Rattle.he_timeline.specs.Race.{History, outcome_in, outcome_of, Race, Reply,
 use Rattle.he_timeline.specs.Timeline.{IsRace}
 use Rattle.he_plan.specs.RaceState.{MakesNext}
 use Rattle.he_timeline.proofs.Bools.{le_test}
-use Rattle.he_race.specs.Heard.{Hears, HearsFrom, HearsOf, IsSilent, StaysSilent, Tells, cleaned, ips_of, rtts_told, used_told, with_heard, with_told}
+use Rattle.he_race.specs.Heard.{AnswerLists, Hears, HearsFrom, HearsOf, IsSilent, StaysSilent, Tells, cleaned, ips_of, rtts_told, used_told, widened, with_heard, with_told}
 use Rattle.he_race.specs.Kept.{InTurn, taken, taken_of}
 use Rattle.he_race.specs.Recording.{EndedBy}
-use Rattle.he_race.specs.Resolving.{BeginsWith, KeepsAnswer, KeepsGiven, KeepsHistory}
+use Rattle.he_race.specs.Resolving.{BeginsWith, KeepsAnswer, KeepsGiven, KeepsHistory, KeepsHost}
 use Rattle.he_plan.proofs.Later.{attempts-before, starts-before}
+use Rattle.he_race.proofs.Widening.{more_routes, more_sources}
 use Rattle.he_race.proofs.Recorded.{all_before}
 
 module _ (race : Race) (reply : Reply) (xs : List Attempt) (t : InTurn race reply.tick xs false) where
@@ -113,21 +114,30 @@ history-itself history = record { rtts = begins_itself history.rtts; used = begi
 history-later : (x y z : History) → KeepsHistory x y → KeepsHistory y z → KeepsHistory x z
 history-later x y z h k = record { rtts = begins_later x.rtts y.rtts z.rtts h.rtts k.rtts; used = begins_later x.used y.used z.used h.used k.used }
 
+host-itself : (host : HostLists) → KeepsHost host host
+host-itself host = record { sources = begins_itself host.sources; routes = begins_itself host.routes }
+
+host-later : (x y z : HostLists) → KeepsHost x y → KeepsHost y z → KeepsHost x z
+host-later x y z h k = record { sources = begins_later x.sources y.sources z.sources h.sources k.sources; routes = begins_later x.routes y.routes z.routes h.routes k.routes }
+
+host-wider : (host : HostLists) (family : Family) (answer : AnswerLists) → KeepsHost host (widened family answer host)
+host-wider host family answer = record { sources = record { more = more_sources family answer host; is = refl }; routes = record { more = more_routes family answer host; is = refl } }
+
 pub given-itself : (race : Race) → KeepsGiven race race
-given-itself race = record { settings = refl; policy = refl; host = refl; history = history-itself race.history; aaaa = keeps_itself race.aaaa; a = keeps_itself race.a }
+given-itself race = record { settings = refl; policy = refl; host = host-itself race.host; history = history-itself race.history; aaaa = keeps_itself race.aaaa; a = keeps_itself race.a }
 
 pub given-later : (x y z : Race) → KeepsGiven x y → KeepsGiven y z → KeepsGiven x z
 given-later x y z h k = record {
   settings = k.settings ∙ h.settings;
   policy = k.policy ∙ h.policy;
-  host = k.host ∙ h.host;
+  host = host-later x.host y.host z.host h.host k.host;
   history = history-later x.history y.history z.history h.history k.history;
   aaaa = keeps_later x.aaaa y.aaaa z.aaaa h.aaaa k.aaaa;
   a = keeps_later x.a y.a z.a h.a k.a;
 }
 
 pub given-alike : (x y : Race) → AreAlike x y → KeepsGiven x y
-given-alike x y e = subst (KeepsGiven x) (sym e) (record { settings = refl; policy = refl; host = refl; history = history-itself x.history; aaaa = keeps_itself x.aaaa; a = keeps_itself x.a })
+given-alike x y e = subst (KeepsGiven x) (sym e) (record { settings = refl; policy = refl; host = host-itself x.host; history = history-itself x.history; aaaa = keeps_itself x.aaaa; a = keeps_itself x.a })
 
 -- what answers that come leave as it was
 pub record HeardSame (race new : Race) : Type 0 where
@@ -140,28 +150,28 @@ same_itself race = record { kept = given-itself race; outcomes = refl; pauses = 
 
 answer_same : (race : Race) (family : Family) (reply : Reply) → reply_of race family ≡ None → HeardSame race (with_answer race family reply)
 answer_same race families.V6 reply none = record {
-  kept = record { settings = refl; policy = refl; host = refl; history = history-itself race.history; aaaa = keeps_none race.aaaa (Some reply) none; a = keeps_itself race.a };
+  kept = record { settings = refl; policy = refl; host = host-itself race.host; history = history-itself race.history; aaaa = keeps_none race.aaaa (Some reply) none; a = keeps_itself race.a };
   outcomes = refl;
   pauses = refl;
 }
 answer_same race families.V4 reply none = record {
-  kept = record { settings = refl; policy = refl; host = refl; history = history-itself race.history; aaaa = keeps_itself race.aaaa; a = keeps_none race.a (Some reply) none };
+  kept = record { settings = refl; policy = refl; host = host-itself race.host; history = history-itself race.history; aaaa = keeps_itself race.aaaa; a = keeps_none race.a (Some reply) none };
   outcomes = refl;
   pauses = refl;
 }
 
-told_same : (race : Race) (family : Family) (now : ℕ) (told : Option (List Known)) → reply_of race family ≡ None → HeardSame race (with_told race family now told)
+told_same : (race : Race) (family : Family) (now : ℕ) (told : Option AnswerLists) → reply_of race family ≡ None → HeardSame race (with_told race family now told)
 told_same race family now None none = same_itself race
-told_same race family now (Some known) none =
-    let ips : List Ip = cleaned family (ips_of known) in
+told_same race family now (Some answer) none =
+    let ips : List Ip = cleaned family (ips_of answer.known) in
     let one : HeardSame race (with_answer race family (record { tick = now; addresses = ips })) = answer_same race family (record { tick = now; addresses = ips }) none in
     let answered : Race = with_answer race family (record { tick = now; addresses = ips }) in
     record {
-      kept = given-later race answered (with_heard race family now known ips) one.kept (record {
+      kept = given-later race answered (with_heard race family now answer ips) one.kept (record {
         settings = refl;
         policy = refl;
-        host = refl;
-        history = record { rtts = record { more = rtts_told known ips; is = refl }; used = record { more = used_told known ips; is = refl } };
+        host = host-wider answered.host family answer;
+        history = record { rtts = record { more = rtts_told answer.known ips; is = refl }; used = record { more = used_told answer.known ips; is = refl } };
         aaaa = keeps_itself answered.aaaa;
         a = keeps_itself answered.a;
       });
@@ -184,7 +194,7 @@ module _ {S : Type 0} (hears : Tells S) where
       record { kept = given-later race h.half new one.kept two.kept; outcomes = two.outcomes ∙ one.outcomes; pauses = two.pauses ∙ one.pauses }
 
   -- a source that tells nothing changes nothing
-  pub unheard-same : ((s : S) (family : Family) (now : ℕ) (told : Option (List Known)) (s' : S) → hears s family now told s' → told ≡ None) → (s s' : S) (race new : Race) (now : ℕ) → Hears hears s race now s' new → new ≡ race
+  pub unheard-same : ((s : S) (family : Family) (now : ℕ) (told : Option AnswerLists) (s' : S) → hears s family now told s' → told ≡ None) → (s s' : S) (race new : Race) (now : ℕ) → Hears hears s race now s' new → new ≡ race
   unheard-same silent s s' race new now h = of h.between s' h.half new families.V4 h.four ∙ of s h.between race h.half families.V6 h.six
     where
       of : (s s' : S) (race new : Race) (family : Family) → HearsOf hears s race family now s' new → new ≡ race
@@ -194,12 +204,12 @@ module _ {S : Type 0} (hears : Tells S) where
           by_reply (Some reply) h = h.1
           by_reply None h = h.2 ∙ ap (with_told race family now) (silent s family now h.0 s' h.1)
 
-stays_silent : {S : Type 0} (hears : Tells S) → ((s : S) (family : Family) (now : ℕ) (told : Option (List Known)) (s' : S) → hears s family now told s' → told ≡ None) → (family : Family) (polls : List (Family × ℕ)) (s : S) → StaysSilent hears s family polls
+stays_silent : {S : Type 0} (hears : Tells S) → ((s : S) (family : Family) (now : ℕ) (told : Option AnswerLists) (s' : S) → hears s family now told s' → told ≡ None) → (family : Family) (polls : List (Family × ℕ)) (s : S) → StaysSilent hears s family polls
 stays_silent hears none family [] s = tt
 stays_silent hears none family (p ∷ polls) s = λ told s' h. ((λ same. none s p.0 p.1 told s' h), stays_silent hears none family polls s')
 
 -- a source that tells nothing is silent
-pub silent-stays : {S : Type 0} (hears : Tells S) → ((s : S) (family : Family) (now : ℕ) (told : Option (List Known)) (s' : S) → hears s family now told s' → told ≡ None) → (s : S) (family : Family) → IsSilent hears s family
+pub silent-stays : {S : Type 0} (hears : Tells S) → ((s : S) (family : Family) (now : ℕ) (told : Option AnswerLists) (s' : S) → hears s family now told s' → told ≡ None) → (s : S) (family : Family) → IsSilent hears s family
 silent-stays hears none s family = record { at = λ polls. stays_silent hears none family polls s }
 
 same_attempt : (x y : Attempt) → x.place ≡ y.place → x.tick ≡ y.tick → x.ip ≡ y.ip → x ≡ y

@@ -17,24 +17,24 @@ use Rattle.he_timeline.specs.Race.{Race, Reply, addresses_of, has_ip, is_in_answ
 use Rattle.he_timeline.specs.Timeline.{IsRace, are_distinct, are_of, is_duration, is_of, is_rtt}
 use Rattle.he_timeline.proofs.Bools.{and_both, and_left, and_right, clash, or_left, or_left_none, or_none, or_right, or_right_none}
 use Rattle.he_timeline.proofs.Ranges.{list_all-weaker, same_ip-sym}
-use Rattle.he_race.specs.Heard.{rtt_told, rtts_told, used_told, with_heard, with_known}
+use Rattle.he_race.specs.Heard.{AnswerLists, rtt_told, rtts_told, used_told, with_heard, with_known, with_lines}
 use Rattle.he_race.specs.Kept.{InTurn}
-use Rattle.he_race.proofs.Cleaned.{from_not, none_kept, not_true}
+use Rattle.he_race.proofs.Once.{from_not, none_kept, not_true}
 use Rattle.he_race.proofs.Heard.{answered-turn}
 use Rattle.he_race.proofs.Learnt.{answer-own, learnt-turn, not_four, not_six, other-family, untold-rtts}
 
-all_at : {X : Type 0} (p : X → Bool) (xs : List X) (i : ℕ) (d : X) → i < length xs → list_all p xs ≡ true → p (get_or xs i d) ≡ true
+pub all_at : {X : Type 0} (p : X → Bool) (xs : List X) (i : ℕ) (d : X) → i < length xs → list_all p xs ≡ true → p (get_or xs i d) ≡ true
 all_at p [] i d below h = absurd (let no : ⊥ = omega (arith, below) in no)
 all_at p (x ∷ xs) zero d below h = and_left (p x) _ h
 all_at p (x ∷ xs) (suc i) d below h = all_at p xs i d (omega (arith, below)) (and_right (p x) _ h)
 
-none_at : {X : Type 0} (p : X → Bool) (xs : List X) (i : ℕ) (d : X) → i < length xs → list_any p xs ≡ false → p (get_or xs i d) ≡ false
+pub none_at : {X : Type 0} (p : X → Bool) (xs : List X) (i : ℕ) (d : X) → i < length xs → list_any p xs ≡ false → p (get_or xs i d) ≡ false
 none_at p [] i d below h = absurd (let no : ⊥ = omega (arith, below) in no)
 none_at p (x ∷ xs) zero d below h = or_left_none (p x) _ h
 none_at p (x ∷ xs) (suc i) d below h = none_at p xs i d (omega (arith, below)) (or_right_none (p x) _ h)
 
 -- of addresses of which none stands twice one isn't among those before it
-none_before : (ips : List Ip) (i : ℕ) (d : Ip) → i < length ips → are_distinct ips ≡ true → has_ip (get_or ips i d) (take i ips) ≡ false
+pub none_before : (ips : List Ip) (i : ℕ) (d : Ip) → i < length ips → are_distinct ips ≡ true → has_ip (get_or ips i d) (take i ips) ≡ false
 none_before [] i d below h = absurd (let no : ⊥ = omega (arith, below) in no)
 none_before (ip ∷ ips) zero d below h = refl
 none_before (ip ∷ ips) (suc i) d below h =
@@ -77,7 +77,7 @@ module _ (race recorded : Race) (known : List Known) (ips : List Ip) (i : ℕ) (
   pub next-unused : are_distinct ips ≡ true → list_all (λ ip. not (has_ip ip race.history.used)) ips ≡ true → has_ip next_ip recorded.history.used ≡ false
   next-unused distinct h =
       let here : has_ip next_ip race.history.used ≡ false = from_not _ (all_at (λ ip. not (has_ip ip race.history.used)) ips i d below h) in
-      let added : has_ip next_ip (used_told known (take i ips)) ≡ false = none_kept (known_used known) next_ip (take i ips) (none_before ips i d below distinct) in
+      let added : has_ip next_ip (used_told known (take i ips)) ≡ false = none_kept same_ip (known_used known) next_ip (take i ips) (none_before ips i d below distinct) in
       subst (λ (r : Race). has_ip next_ip r.history.used ≡ false) (sym was)
       (list_any-append (λ (other : Ip). same_ip other next_ip) race.history.used (used_told known (take i ips)) ∙ or_none (has_ip next_ip race.history.used) _ here added)
 
@@ -146,13 +146,18 @@ module _ (race : Race) (r : IsRace race) where
     all_unused =
         rw (same_used family) (list_all-weaker (is_of family) (λ ip. not (has_ip ip race.history.used)) ips (λ ip of. not_true _ (unused_in ip (unanswered family none ip of) race.history.used r.used)) own)
 
--- a turn goes on where an answer is recorded in it, with what is told of its addresses
-pub known-turn : (race answered new : Race) (family : Family) (now : ℕ) (known : List Known) (ips : List Ip) (xs : List Attempt) → InTurn race now xs false → reply_of race family ≡ None → are_of family ips ≡ true → answered ≡ with_answer race family (record { tick = now; addresses = ips }) → IsRace answered → new ≡ with_known answered known ips → IsRace new → InTurn new now xs false
-known-turn race answered new family now known ips xs t none own is valid learnt fits =
+-- an answer that is recorded, with what is told of its addresses and the lines of its family
+pub known-heard : (race answered learnt new : Race) (family : Family) (now : ℕ) (answer : AnswerLists) (ips clean : List Ip) → answered ≡ with_answer race family (record { tick = now; addresses = ips }) → learnt ≡ with_known answered answer.known ips → new ≡ with_lines learnt family answer → ips ≡ clean → new ≡ with_heard race family now answer clean
+known-heard race answered learnt new family now answer ips clean is known wider same =
+    wider ∙ ap (λ (r : Race). with_lines r family answer) known ∙ ap (λ (r : Race). with_lines (with_known r answer.known ips) family answer) is ∙ ap (with_heard race family now answer) same
+
+-- a turn goes on in which it is
+pub known-turn : (race answered learnt new : Race) (family : Family) (now : ℕ) (answer : AnswerLists) (ips : List Ip) (xs : List Attempt) → InTurn race now xs false → reply_of race family ≡ None → are_of family ips ≡ true → answered ≡ with_answer race family (record { tick = now; addresses = ips }) → IsRace answered → learnt ≡ with_known answered answer.known ips → new ≡ with_lines learnt family answer → IsRace new → InTurn new now xs false
+known-turn race answered learnt new family now answer ips xs t none own is valid known wider fits =
     let one : InTurn answered now xs false = answered-turn race answered family now ips xs t none is valid in
-    let all : new ≡ with_heard race family now known ips = learnt ∙ ap (λ (r : Race). with_known r known ips) is in
+    let all : new ≡ with_heard race family now answer ips = known-heard race answered learnt new family now answer ips ips is known wider refl in
     subst (λ (r : Race). InTurn r now xs false) (sym all)
-    (learnt-turn race t.valid family none now known ips own xs (subst (λ (r : Race). InTurn r now xs false) is one) (subst IsRace all fits))
+    (learnt-turn race t.valid family none now answer ips own xs (subst (λ (r : Race). InTurn r now xs false) is one) (subst IsRace all fits))
 
 pub known-answered : (race answered : Race) (family : Family) (reply : Reply) (ips : List Ip) → ips ≡ reply.addresses → answered ≡ with_answer race family reply → list_all (is_in_answer answered) ips ≡ true
 known-answered race answered family reply ips same is =

@@ -1,4 +1,5 @@
--- What is learnt of addresses with their answer concerns them alone: it changes nothing before the answer's tick.
+-- What is learnt of addresses with their answer concerns them alone, and the lines that come with it their family: it
+-- changes nothing before the answer's tick.
 use Rattle.std.proofs.Common.{◌≡◌, ℕ, zero, suc, ◌+◌, ◌≤◌, ◌<◌, ◌↔◌, ◌&&◌, ◌||◌, ◌++◌, Bool, true, false, not, List, [], ◌∷◌, if◌then◌else◌, filter, find, map, length, take, Option, Some, None, MatchOption, IfSome, IsSomeAnd, nat_le, nat_lt, refl, sym, ◌∙◌, ap, subst, inl, inr}
 use Rattle.std.specs.Prelude.{cond, option_and_then, option_map}
 use Rattle.std.specs.List.{All, list_all, list_any, slice_get}
@@ -10,6 +11,7 @@ use Rattle.he_addr.specs.declared.ip.Family.{Family}
 use Rattle.he_addr.specs.declared.ip.Family.TheVariants as families
 use Rattle.he_addr.specs.declared.ip.Ip.{Ip}
 use Rattle.he_select.specs.declared.known.Known.{Known}
+use Rattle.he_select.specs.Hosts.{HostLists}
 use Rattle.he_select.specs.Selection.{known_of, known_rtt, known_used}
 use Rattle.he_select.proofs.Alike.{Alike, order_of_alike}
 use Rattle.he_select.proofs.Counting.{Each}
@@ -26,10 +28,12 @@ use Rattle.he_plan.specs.declared.attempts.Attempt.{Attempt}
 use Rattle.he_plan.specs.Alternating.{interlace}
 use Rattle.he_plan.specs.Attempts.{AreNextInTurn, HasWaited, HaveFailed, IsNext, MayBegin, MayFollow, MayStart, has_failed, has_failed_by, is_untried, last_of, order, order_at, received, received_of}
 use Rattle.he_plan.proofs.Later.{attempts-before, order-before, received-before, starts-before}
-use Rattle.he_race.specs.Heard.{rtt_told, rtts_told, used_told, with_heard}
+use Rattle.he_race.specs.Heard.{AnswerLists, rtt_told, rtts_told, used_told, widened, with_heard, with_lines}
 use Rattle.he_race.specs.Kept.{InTurn}
 use Rattle.he_race.specs.Recording.{EndedBy}
-use Rattle.he_race.proofs.Cleaned.{all_kept, none_kept}
+use Rattle.he_race.proofs.Widening.{more_routes, more_sources, routes-own, sources-own}
+use Rattle.he_race.proofs.Once.{all_kept, none_kept}
+use Rattle.he_race.proofs.Reached.{order-wider}
 use Rattle.he_race.proofs.Recorded.{all_before}
 
 -- of an address that isn't among these no round trip time is told
@@ -93,9 +97,9 @@ each_of p [] h = tt
 each_of p (x ∷ xs) h = (and_left (p x) _ h, each_of p xs (and_right (p x) _ h))
 
 -- a race of which more is known, or that has another host, is the same in all that starts depend on but the order
-module _ (race : Race) (history : History) where
+module _ (race : Race) (history : History) (host : HostLists) where
   abbrev pub relearnt : Race
-  relearnt = record race { history = history }
+  relearnt = record race { history = history; host = host }
 
   received_again : (t : ℕ) (o : Option Reply) → received_of relearnt t o ≡ received_of race t o
   received_again t None = refl
@@ -198,7 +202,7 @@ module _ (race : Race) (history : History) where
   }
 
 -- the order of addresses of which two histories know the same
-same_order : (race : Race) (history : History) (ips : List Ip) → Each (λ (ip : Ip). told_in race.history ip ≡ told_in history ip) ips → order race ips ≡ order (relearnt race history) ips
+same_order : (race : Race) (history : History) (ips : List Ip) → Each (λ (ip : Ip). told_in race.history ip ≡ told_in history ip) ips → order race ips ≡ order (record race { history = history }) ips
 same_order race history ips same =
     let known : List Known = map (told_in race.history) (usable_addresses race) in
     let other : List Known = map (told_in history) (usable_addresses race) in
@@ -207,6 +211,11 @@ same_order race history ips same =
     let found : known_of known ip ≡ known_of other ip = same_known race.history history (usable_addresses race) ip told in
     (ap (option_and_then (λ (one : Known). one.rtt)) found, ap (λ (o : Option Known). option_map_or (λ (one : Known). one.used) o false) found)) same in
     order_of_alike race.policy race.host known other ips alike
+
+-- the order of addresses of the other family on the host that has more lines
+wider_order : (race : Race) (family : Family) (answer : AnswerLists) (ips : List Ip) → Each (λ (ip : Ip). is_of family ip ≡ false) ips → order race ips ≡ order (with_lines race family answer) ips
+wider_order race family answer ips away =
+    order-wider race.policy (map (told_in race.history) (usable_addresses race)) family race.host (more_sources family answer race.host) (more_routes family answer race.host) (sources-own family answer race.host) (routes-own family answer race.host) ips away
 
 own_part : (a b c d : Bool) → (a && b && c && d) ≡ true → c ≡ true
 own_part a b c d h = and_right (a && b) c (and_left (a && b && c) d h)
@@ -246,7 +255,7 @@ received_others race r t families.V4 none =
     (each_weaker (λ (ip : Ip). is_of families.V6 ip ≡ true) (λ (ip : Ip). is_of families.V4 ip ≡ false) (received_of race t race.aaaa) not_six (part_of race t families.V6 race.aaaa r.aaaa))
     (subst (λ (o : Option Reply). Each (λ (ip : Ip). is_of families.V4 ip ≡ false) (received_of race t o)) (sym none) tt)
 
-module _ (race : Race) (r : IsRace race) (family : Family) (none : reply_of race family ≡ None) (now : ℕ) (known : List Known) (ips : List Ip) (own : are_of family ips ≡ true) where
+module _ (race : Race) (r : IsRace race) (family : Family) (none : reply_of race family ≡ None) (now : ℕ) (answer : AnswerLists) (ips : List Ip) (own : are_of family ips ≡ true) where
   abbrev reply : Reply
   reply = record { tick = now; addresses = ips }
 
@@ -254,35 +263,42 @@ module _ (race : Race) (r : IsRace race) (family : Family) (none : reply_of race
   answered = with_answer race family reply
 
   abbrev learnt : History
-  learnt = record { rtts = answered.history.rtts ++ rtts_told known ips; used = answered.history.used ++ used_told known ips }
+  learnt = record { rtts = answered.history.rtts ++ rtts_told answer.known ips; used = answered.history.used ++ used_told answer.known ips }
 
-  -- what is learnt with the answer leaves what is known of those of the other family
+  abbrev host : HostLists
+  host = widened family answer answered.host
+
+  -- what was received before the answer is of the other family
+  others : (t : ℕ) → t < now → Each (λ (ip : Ip). is_of family ip ≡ false) (received answered t)
+  others t below = subst (Each (λ (ip : Ip). is_of family ip ≡ false)) (received-before race r reply family none t below) (received_others race r t family none)
+
+  -- what is learnt with the answer leaves what is known of those
   others_same : (t : ℕ) → t < now → Each (λ (ip : Ip). told_in answered.history ip ≡ told_in learnt ip) (received answered t)
   others_same t below =
-      let others : Each (λ (ip : Ip). is_of family ip ≡ false) (received answered t) =
-      subst (Each (λ (ip : Ip). is_of family ip ≡ false)) (received-before race r reply family none t below) (received_others race r t family none) in
       each_weaker (λ (ip : Ip). is_of family ip ≡ false) (λ (ip : Ip). told_in answered.history ip ≡ told_in learnt ip) (received answered t) (λ ip other.
       let away : has_ip ip ips ≡ false = other-family family ip ips other own in
-      same_told answered.history (rtts_told known ips) (used_told known ips) ip (untold-rtts known ip ips away) (none_kept (known_used known) ip ips away)) others
+      same_told answered.history (rtts_told answer.known ips) (used_told answer.known ips) ip (untold-rtts answer.known ip ips away) (none_kept same_ip (known_used answer.known) ip ips away)) (others t below)
 
-  learnt_order : (t : ℕ) → t < now → order_at answered t ≡ order_at (relearnt answered learnt) t
+  -- and so do the lines
+  learnt_order : (t : ℕ) → t < now → order_at answered t ≡ order_at (relearnt answered learnt host) t
   learnt_order t below =
-      ap (λ (all : List Ip). interlace all answered.settings.count) (same_order answered learnt (received answered t) (others_same t below))
-      ∙ ap (λ (all : List Ip). interlace (order (relearnt answered learnt) all) answered.settings.count) (sym (same-received answered learnt t))
+      let known : Race = record answered { history = learnt } in
+      ap (λ (all : List Ip). interlace all answered.settings.count) (same_order answered learnt (received answered t) (others_same t below) ∙ wider_order known family answer (received answered t) (others t below))
+      ∙ ap (λ (all : List Ip). interlace (order (relearnt answered learnt host) all) answered.settings.count) (sym (same-received answered learnt host t))
 
-  pub heard-starts : (done : List Attempt) (t : ℕ) → t < now → MayStart race done t ↔ MayStart (with_heard race family now known ips) done t
+  pub heard-starts : (done : List Attempt) (t : ℕ) → t < now → MayStart race done t ↔ MayStart (with_heard race family now answer ips) done t
   heard-starts done t below =
       let one : MayStart race done t ↔ MayStart answered done t = starts-before race r reply family none done t below in
-      let two : MayStart answered done t ↔ MayStart (relearnt answered learnt) done t = same-starts answered learnt done t in
+      let two : MayStart answered done t ↔ MayStart (relearnt answered learnt host) done t = same-starts answered learnt host done t in
       ((λ m. two.0 (one.0 m)), (λ m. one.1 (two.1 m)))
 
-  pub heard-order : (t : ℕ) → t < now → order_at race t ≡ order_at (with_heard race family now known ips) t
+  pub heard-order : (t : ℕ) → t < now → order_at race t ≡ order_at (with_heard race family now answer ips) t
   heard-order t below = order-before race r reply family none t below ∙ learnt_order t below
 
-  pub heard-attempts : (attempts : List Attempt) → list_all (λ (x : Attempt). nat_lt x.tick now) attempts ≡ true → AreNextInTurn race attempts → AreNextInTurn (with_heard race family now known ips) attempts
+  pub heard-attempts : (attempts : List Attempt) → list_all (λ (x : Attempt). nat_lt x.tick now) attempts ≡ true → AreNextInTurn race attempts → AreNextInTurn (with_heard race family now answer ips) attempts
   heard-attempts attempts all in_turn =
-      same-attempts answered learnt now learnt_order attempts all (attempts-before race r reply family none attempts all in_turn)
+      same-attempts answered learnt host now learnt_order attempts all (attempts-before race r reply family none attempts all in_turn)
 
   -- a turn goes on where what is told with an answer is recorded in it
-  pub learnt-turn : (xs : List Attempt) → InTurn answered now xs false → IsRace (with_heard race family now known ips) → InTurn (with_heard race family now known ips) now xs false
-  learnt-turn xs t valid = relearnt-turn answered learnt now xs t learnt_order valid
+  pub learnt-turn : (xs : List Attempt) → InTurn answered now xs false → IsRace (with_heard race family now answer ips) → InTurn (with_heard race family now answer ips) now xs false
+  learnt-turn xs t valid = relearnt-turn answered learnt host now xs t learnt_order valid

@@ -2,6 +2,7 @@ pub mod Aiming
 pub mod Awake
 pub mod Builds
 pub mod Cleaned
+pub mod Copied
 pub mod Counted
 pub mod Driven
 pub mod DueTicks
@@ -13,8 +14,11 @@ pub mod Held
 pub mod Knowing
 pub mod Learnt
 pub mod Listening
+pub mod OfSource
+pub mod Once
 pub mod Onward
 pub mod Races
+pub mod Reached
 pub mod Recorded
 pub mod Replayed
 pub mod Runs
@@ -26,4 +30,5 @@ pub mod Turning
 pub mod Untold
 pub mod Waits
 pub mod Wheels
+pub mod Widening
 pub mod Winning

@@ -13,7 +13,6 @@ use Rattle.he_addr.specs.declared.ip.Family.{Family}
 use Rattle.he_addr.specs.declared.ip.Family.TheVariants as families
 use Rattle.he_addr.specs.declared.ip.Ip.{Ip}
 use Rattle.he_plan.specs.declared.attempts.Attempt.{Attempt}
-use Rattle.he_select.specs.declared.known.Known.{Known}
 use Rattle.he_timeline.specs.Race.{Race, Reply, reply_of}
 use Rattle.he_timeline.proofs.Bools.{not_lt}
 use Rattle.he_race.specs.declared.answers.AnswerSource.{Ghosts as SourceOf}
@@ -28,7 +27,7 @@ use Rattle.he_race.specs.declared.live.Live.{Live}
 use Rattle.he_race.specs.declared.live.Unfinished.{Unfinished}
 use Rattle.he_race.specs.declared.trial.Trial.{Ghosts as TrialOf}
 use Rattle.he_race.specs.Attempt.{Begins}
-use Rattle.he_race.specs.Heard.{HearsFrom, HearsOf, IsSilent, with_heard, with_told}
+use Rattle.he_race.specs.Heard.{AnswerLists, HearsFrom, HearsOf, IsSilent, with_heard, with_told}
 use Rattle.he_race.specs.Listening.{AllListen, HeardListens, Listens, ListensFor, RaceHears, RaceListens, SourceListens, TurnHears, TurnListens}
 use Rattle.he_race.specs.Polling.{AllListenAfter, EndsWith, GoesOn, HeardListensAfter, LeftBy, PollsAt, TurnHearsAfter, TurnListensAfter, TurnsFrom}
 use Rattle.he_race.specs.Recording.{slept}
@@ -112,14 +111,14 @@ module _ {C Conn Run : Type 0} (connector : ConnectorOf C Conn Run) (trial : Tri
   race-listens cx cx' x y was live e f keeps (inl still) = rw (e, f) (inl still)
   race-listens cx cx' x y was live e f keeps (inr all) = rw (e, f) (inr (all_kept cx cx' live.unfinished.items keeps all))
 
-heard : (race : Race) (family : Family) (now : ℕ) (known : List Known) (ips : List Ip) (X : Type 0) → IfNone (reply_of (with_heard race family now known ips) family) X
-heard race families.V6 now known ips X = tt
-heard race families.V4 now known ips X = tt
+heard : (race : Race) (family : Family) (now : ℕ) (answer : AnswerLists) (ips : List Ip) (X : Type 0) → IfNone (reply_of (with_heard race family now answer ips) family) X
+heard race families.V6 now answer ips X = tt
+heard race families.V4 now answer ips X = tt
 
 -- a family that was heard has an answer
-pub heard-family : {A E : Type 0} (r : Result A E) (race new : Race) (family : Family) (now : ℕ) (known : List Known) (ips : List Ip) (X : Type 0) → OnOk r (new ≡ with_heard race family now known ips) → OnOk r (IfNone (reply_of new family) X)
-heard-family (Err e) race new family now known ips X h = tt
-heard-family (Ok x) race new family now known ips X h = subst (λ (z : Race). IfNone (reply_of z family) X) (sym h) (heard race family now known ips X)
+pub heard-family : {A E : Type 0} (r : Result A E) (race new : Race) (family : Family) (now : ℕ) (answer : AnswerLists) (ips : List Ip) (X : Type 0) → OnOk r (new ≡ with_heard race family now answer ips) → OnOk r (IfNone (reply_of new family) X)
+heard-family (Err e) race new family now answer ips X h = tt
+heard-family (Ok x) race new family now answer ips X h = subst (λ (z : Race). IfNone (reply_of z family) X) (sym h) (heard race family now answer ips X)
 
 pub on_ok : {A E : Type 0} (r : Result A E) (X : Type 0) → X → OnOk r X
 on_ok (Err e) X x = tt
@@ -134,9 +133,9 @@ some-none None X e = cc
 some-none (Some a) X e = tt
 
 -- what is told for IPv4 leaves the AAAA answer as it is
-told_four : (race : Race) (now : ℕ) (told : Option (List Known)) → (with_told race families.V4 now told).aaaa ≡ race.aaaa
+told_four : (race : Race) (now : ℕ) (told : Option AnswerLists) → (with_told race families.V4 now told).aaaa ≡ race.aaaa
 told_four race now None = refl
-told_four race now (Some known) = refl
+told_four race now (Some answer) = refl
 
 module _ {S : Type 0} (source : SourceOf S) where
   four_keeps : (s s' : S) (race new : Race) (now : ℕ) → HearsOf source.hears s race families.V4 now s' new → new.aaaa ≡ race.aaaa
@@ -159,11 +158,11 @@ module _ {S : Type 0} (source : SourceOf S) where
   if_none_on X Y (Some reply) f x = tt
 
   -- a family of which nothing more is told stays so
-  silent_on : (s s' : S) (family other : Family) (now : ℕ) (told : Option (List Known)) → source.hears s family now told s' → IsSilent source.hears s other → IsSilent source.hears s' other
+  silent_on : (s s' : S) (family other : Family) (now : ℕ) (told : Option AnswerLists) → source.hears s family now told s' → IsSilent source.hears s other → IsSilent source.hears s' other
   silent_on s s' family other now told step silent = record { at = λ polls. (silent.at ((family, now) ∷ polls) told s' step).1 }
 
   -- a poll for one family leaves the source listening for the other one
-  pub listens_on : (cx cx' : Context) (s s' : S) (family : Family) (now : ℕ) (told : Option (List Known)) → source.hears s family now told s'
+  pub listens_on : (cx cx' : Context) (s s' : S) (family : Family) (now : ℕ) (told : Option AnswerLists) → source.hears s family now told s'
       → ((other : Family) → (other ≡ family → ⊥) → Covers cx (source.needs s other) → Covers cx' (source.needs s' other))
       → (other : Family) → (other ≡ family → ⊥) → ListensFor source cx s other → ListensFor source cx' s' other
   listens_on cx cx' s s' family now told step waits other distinct (inl covers) = inl (waits other distinct covers)

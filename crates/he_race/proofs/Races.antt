@@ -1,5 +1,5 @@
 -- What a poll of a race comes to, by what it did.
-use Rattle.std.proofs.Common.{◌≡◌, ◌+◌, ℕ, Bool, true, false, MatchBool, min, nat_le, List, Option, Some, None, Result, IfSome, IsSomeAnd, Ok, Err, sym, subst, inl, inr}
+use Rattle.std.proofs.Common.{◌≡◌, ◌+◌, ℕ, Bool, true, false, MatchBool, min, nat_le, Option, Some, None, Result, IfSome, IsSomeAnd, Ok, Err, sym, subst, inl, inr}
 use Rattle.std.specs.List.{slice_get}
 use Rattle.std.specs.Option.{option_map}
 use Rattle.futures.specs.Poll.{IfReady, OnPending}
@@ -12,7 +12,6 @@ use Rattle.he_plan.specs.declared.transcript.Outcome3.{Outcome3}
 use Rattle.he_plan.specs.declared.transcript.Outcome3.TheVariants as results
 use Rattle.he_plan.specs.Agreement.{AreAlike}
 use Rattle.he_timeline.specs.Race.{Race}
-use Rattle.he_select.specs.declared.known.Known.{Known}
 use Rattle.he_race.specs.declared.connector.Connector.{Ghosts as ConnectorOf}
 use Rattle.he_race.specs.declared.faults.RaceFault.{RaceFault}
 use Rattle.he_race.specs.declared.faults.RaceFault.TheVariants as faults
@@ -25,8 +24,9 @@ use Rattle.he_race.specs.declared.live.Raced.{Raced}
 use Rattle.he_race.specs.declared.race.RaceFuture.{RaceFuture}
 use Rattle.he_race.specs.declared.ticker.Ticker.{Ghosts as TickerOf}
 use Rattle.he_race.specs.declared.trial.Trial.{Ghosts as TrialOf}
-use Rattle.he_race.specs.Heard.{Hears, Tells}
+use Rattle.he_race.specs.Heard.{AnswerLists, Hears, Tells}
 use Rattle.he_race.specs.Kept.{IsLive}
+use Rattle.he_race.specs.OfSource.{ReplaysHeard}
 use Rattle.he_race.specs.Polling.{TurnsFrom}
 use Rattle.he_race.specs.Racing.{PollsFrom, RacePollsBy, StepOf, fault_of}
 use Rattle.he_race.specs.Recording.{slept}
@@ -35,6 +35,7 @@ use Rattle.he_race.specs.Turns.{GivesBy, PolledAt, PolledFrom, Replays, Turned, 
 use Rattle.he_race.specs.Reach.{ReachAlike}
 use Rattle.he_race.specs.Winner.{EndsAt, GoesAt, MayPoll, WinnerGoes}
 use Rattle.he_race.proofs.Heard.{given-alike, given-later, heard-same, unheard-same}
+use Rattle.he_race.proofs.OfSource.{told-alike, told-before, told-end, told-turn}
 use Rattle.he_race.proofs.Turning.{alike-later, slept-alike}
 use Rattle.he_race.proofs.Winning.{AimedOn}
 
@@ -77,14 +78,14 @@ module _ {C Conn Run T : Type 0} (steps : StepOf C Conn Run) (ticker : TickerOf 
     polls-as old new result h = polls_from old.live old new result h
 
 -- after a poll that goes on: what is said of an end of the race then is said of one before
-pub record GoneOn {C Conn Run : Type 0} (connector : ConnectorOf C Conn Run) (trial : TrialOf Run Conn) (said : Race → Raced Conn → Type 0) (live next : Live C Conn Run) : Type 0 where
+pub record GoneOn {C Conn Run : Type 0} (connector : ConnectorOf C Conn Run) (trial : TrialOf Run Conn) (said after : Race → Raced Conn → Type 0) (live next : Live C Conn Run) : Type 0 where
   pub kept : IsLive connector trial next
-  pub later : (raced : Raced Conn) → said next.recorder.recorded raced → said live.recorder.recorded raced
+  pub later : (raced : Raced Conn) → after next.recorder.recorded raced → said live.recorder.recorded raced
 
--- what a race gives of whose ends this is said
-module _ {C Conn Run T : Type 0} (connector : ConnectorOf C Conn Run) (trial : TrialOf Run Conn) (steps : StepOf C Conn Run) (ticker : TickerOf T) (said : Race → Raced Conn → Type 0)
+-- what a race gives of whose ends this is said, before a poll and after it
+module _ {C Conn Run T : Type 0} (connector : ConnectorOf C Conn Run) (trial : TrialOf Run Conn) (steps : StepOf C Conn Run) (ticker : TickerOf T) (said after : Race → Raced Conn → Type 0)
     (ends : (c c' : C) (live : Live C Conn Run) (now : ℕ) (raced : Raced Conn) → steps c live now c' (after_polls.Ended raced) → said live.recorder.recorded raced)
-    (goes : (c c' : C) (live next : Live C Conn Run) (now tick : ℕ) → IsLive connector trial live → steps c live now c' (after_polls.Waits next tick) → GoneOn connector trial said live next)
+    (goes : (c c' : C) (live next : Live C Conn Run) (now tick : ℕ) → IsLive connector trial live → steps c live now c' (after_polls.Waits next tick) → GoneOn connector trial said after live next)
     (wins : (c c' : C) (live : Live C Conn Run) (now : ℕ) (raced : Raced Conn) → MayPoll connector trial c live → steps c live now c' (after_polls.Ended raced) → WinnerGoes (connector.reaches c) raced)
     (aims : (c c' : C) (live next : Live C Conn Run) (now tick : ℕ) → MayPoll connector trial c live → steps c live now c' (after_polls.Waits next tick) → AimedOn connector trial c c' next) where
   abbrev record_of : Option (Live C Conn Run) → Option Race
@@ -130,23 +131,23 @@ module _ {C Conn Run T : Type 0} (connector : ConnectorOf C Conn Run) (trial : T
       by_result (results.Exhausted tick) h = h
       by_result (results.Limit tick) h = h
 
-  gives_later : (first second : Ip → Conn → Type 0) → ReachAlike first second → (live next : Live C Conn Run) → GoneOn connector trial said live next → (r : Result (Raced Conn) RaceFault) → GivesBy (EndsAt said second) (Some next.recorder.recorded) r → GivesBy (EndsAt said first) (Some live.recorder.recorded) r
+  gives_later : (first second : Ip → Conn → Type 0) → ReachAlike first second → (live next : Live C Conn Run) → GoneOn connector trial said after live next → (r : Result (Raced Conn) RaceFault) → GivesBy (EndsAt after second) (Some next.recorder.recorded) r → GivesBy (EndsAt said first) (Some live.recorder.recorded) r
   gives_later first second e live next g (Ok raced) h = record { end = g.later raced h.end; winner = goes_alike first second e raced raced.winner h.winner }
   gives_later first second e live next g (Err faults.Memory) h = tt
   gives_later first second e live next g (Err faults.Clock) h = tt
   gives_later first second e live next g (Err faults.Over) h = absurd h
 
   same_from : (x : Option (Live C Conn Run)) (old new : RaceFuture C T Conn Run) (result : Poll (Result (Raced Conn) RaceFault)) → IfSome x (MayPoll connector trial old.connector) → PollsFrom steps ticker x old result new
-      → OnPending result ((r : Result (Raced Conn) RaceFault) → GivesBy (EndsAt said (connector.reaches new.connector)) (record_of new.live) r → GivesBy (EndsAt said (connector.reaches old.connector)) (record_of x) r)
+      → OnPending result ((r : Result (Raced Conn) RaceFault) → GivesBy (EndsAt after (connector.reaches new.connector)) (record_of new.live) r → GivesBy (EndsAt said (connector.reaches old.connector)) (record_of x) r)
   same_from None old new Pending is h = cc (h.0)
   same_from None old new (Ready given) is h = tt
   same_from (Some live) old new Pending is h = λ r given.
       gives_later (connector.reaches old.connector) (connector.reaches new.connector) (aims old.connector new.connector live h.asked.next h.asked.now h.asked.tick is h.asked.polled).still live h.asked.next
-      (goes old.connector new.connector live h.asked.next h.asked.now h.asked.tick is.kept h.asked.polled) r (subst (λ (z : Option (Live C Conn Run)). GivesBy (EndsAt said (connector.reaches new.connector)) (record_of z) r) h.next given)
+      (goes old.connector new.connector live h.asked.next h.asked.now h.asked.tick is.kept h.asked.polled) r (subst (λ (z : Option (Live C Conn Run)). GivesBy (EndsAt after (connector.reaches new.connector)) (record_of z) r) h.next given)
   same_from (Some live) old new (Ready given) is h = tt
 
   pub poll-same : (old new : RaceFuture C T Conn Run) (result : Poll (Result (Raced Conn) RaceFault)) → IfSome old.live (MayPoll connector trial old.connector) → RacePollsBy steps ticker old result new
-      → OnPending result ((r : Result (Raced Conn) RaceFault) → GivesBy (EndsAt said (connector.reaches new.connector)) (record_of new.live) r → GivesBy (EndsAt said (connector.reaches old.connector)) (record_of old.live) r)
+      → OnPending result ((r : Result (Raced Conn) RaceFault) → GivesBy (EndsAt after (connector.reaches new.connector)) (record_of new.live) r → GivesBy (EndsAt said (connector.reaches old.connector)) (record_of old.live) r)
   poll-same old new result is h = same_from old.live old new result is h
 
 module _ {C Conn Run : Type 0} (connector : ConnectorOf C Conn Run) (trial : TrialOf Run Conn) where
@@ -171,23 +172,23 @@ module _ {C Conn Run : Type 0} (connector : ConnectorOf C Conn Run) (trial : Tri
   pub polled-ends : (c c' : C) (live : Live C Conn Run) (now : ℕ) (raced : Raced Conn) → PolledAt connector trial c live now c' (after_polls.Ended raced) → Replays live.recorder.recorded raced
   polled-ends c c' live now raced h = ended-gives c c' live (min now (live.recorder.recorded.settings.limit + 1)) raced live.recorder.turn h
 
-  gone : (c c' : C) (live next : Live C Conn Run) (at tick : ℕ) (turn : Option ℕ) → IsLive connector trial live → PolledFrom connector trial turn c live at c' (after_polls.Waits next tick) → GoneOn connector trial Replays live next
+  gone : (c c' : C) (live next : Live C Conn Run) (at tick : ℕ) (turn : Option ℕ) → IsLive connector trial live → PolledFrom connector trial turn c live at c' (after_polls.Waits next tick) → GoneOn connector trial Replays Replays live next
   gone c c' live next at tick None is h = record {
     kept = h.kept;
     later = λ raced g. replays-later live.recorder.recorded next.recorder.recorded raced (alike-later live.recorder.recorded _ next.recorder.recorded (slept-alike live.recorder.recorded live.recorder.due at) h.alike) g;
   }
   gone c c' live next at tick (Some turn) is h = by_test (nat_le at turn) h
     where
-      by_test : (b : Bool) → MatchBool b ((c' ≡ c) × (after_polls.Waits next tick ≡ after_polls.Waits live (turn + 1))) (Turned connector trial c live at c' (after_polls.Waits next tick)) → GoneOn connector trial Replays live next
+      by_test : (b : Bool) → MatchBool b ((c' ≡ c) × (after_polls.Waits next tick ≡ after_polls.Waits live (turn + 1))) (Turned connector trial c live at c' (after_polls.Waits next tick)) → GoneOn connector trial Replays Replays live next
       by_test true h =
           let same : next ≡ live = cc (h.1) in
-          subst (GoneOn connector trial Replays live) (sym same) (record { kept = is; later = λ raced g. g })
+          subst (GoneOn connector trial Replays Replays live) (sym same) (record { kept = is; later = λ raced g. g })
       by_test false h = record {
         kept = h.kept;
         later = λ raced g. replays-later live.recorder.recorded next.recorder.recorded raced (alike-later live.recorder.recorded _ next.recorder.recorded (slept-alike live.recorder.recorded live.recorder.due at) h.alike) g;
       }
 
-  pub polled-goes : (c c' : C) (live next : Live C Conn Run) (now tick : ℕ) → IsLive connector trial live → PolledAt connector trial c live now c' (after_polls.Waits next tick) → GoneOn connector trial Replays live next
+  pub polled-goes : (c c' : C) (live next : Live C Conn Run) (now tick : ℕ) → IsLive connector trial live → PolledAt connector trial c live now c' (after_polls.Waits next tick) → GoneOn connector trial Replays Replays live next
   polled-goes c c' live next now tick is h = gone c c' live next (min now (live.recorder.recorded.settings.limit + 1)) tick live.recorder.turn is h
 
 module _ {S C Conn Run : Type 0} (hears : Tells S) (connector : ConnectorOf C Conn Run) (trial : TrialOf Run Conn) where
@@ -205,42 +206,58 @@ module _ {S C Conn Run : Type 0} (hears : Tells S) (connector : ConnectorOf C Co
   heard_given s s' live now race h =
       given-later live.recorder.recorded (slept live.recorder.recorded live.recorder.due now) race (slept_given live now) (heard-same hears s s' (slept live.recorder.recorded live.recorder.due now) race now h).kept
 
-  heard_ends : (s s' : S) (c c' : C) (live : Live C Conn Run) (now : ℕ) (raced : Raced Conn) → HeardTurn hears connector trial s c live now s' c' (after_polls.Ended raced) → ReplaysGiven live.recorder.recorded raced
-  heard_ends s s' c c' live now raced (inl e) = replays_given live.recorder.recorded _ raced (slept_given live now) e.1.replays
-  heard_ends s s' c c' live now raced (inr e) = replays_given live.recorder.recorded e.race raced (heard_given s s' live now e.race e.heard) e.turns.replays
+  -- what is said of the end of a race with the source in this state
+  abbrev Said : S → Race → Raced Conn → Type 0
+  Said s = ReplaysHeard {S = S} {Conn = Conn} hears s
 
-  heard_goes : (s s' : S) (c c' : C) (live next : Live C Conn Run) (now tick : ℕ) → HeardTurn hears connector trial s c live now s' c' (after_polls.Waits next tick) → GoneOn connector trial ReplaysGiven live next
+  heard_ends : (s s' : S) (c c' : C) (live : Live C Conn Run) (now : ℕ) (raced : Raced Conn) → HeardTurn hears connector trial s c live now s' c' (after_polls.Ended raced) → Said s live.recorder.recorded raced
+  heard_ends s s' c c' live now raced (inl e) = record {
+    replays = replays_given live.recorder.recorded _ raced (slept_given live now) e.1.replays;
+    source = told-end hears s s live.recorder.recorded raced.recorded (told-alike hears s live.recorder.recorded raced.recorded (alike-later live.recorder.recorded _ raced.recorded (slept-alike live.recorder.recorded live.recorder.due now) e.1.replays.alike));
+  }
+  heard_ends s s' c c' live now raced (inr e) = record {
+    replays = replays_given live.recorder.recorded e.race raced (heard_given s s' live now e.race e.heard) e.turns.replays;
+    source = told-end hears s s' live.recorder.recorded raced.recorded (told-turn hears s s' live.recorder.recorded _ e.race raced.recorded now (slept-alike live.recorder.recorded live.recorder.due now) e.heard e.turns.replays.alike);
+  }
+
+  heard_goes : (s s' : S) (c c' : C) (live next : Live C Conn Run) (now tick : ℕ) → HeardTurn hears connector trial s c live now s' c' (after_polls.Waits next tick) → GoneOn connector trial (Said s) (Said s') live next
   heard_goes s s' c c' live next now tick (inl e) = absurd e
   heard_goes s s' c c' live next now tick (inr e) = record {
     kept = e.turns.kept;
-    later = λ raced g. given_later live.recorder.recorded next.recorder.recorded raced (given-later live.recorder.recorded e.race next.recorder.recorded (heard_given s s' live now e.race e.heard) (given-alike e.race next.recorder.recorded e.turns.alike)) g;
+    later = λ raced g. record {
+      replays = given_later live.recorder.recorded next.recorder.recorded raced (given-later live.recorder.recorded e.race next.recorder.recorded (heard_given s s' live now e.race e.heard) (given-alike e.race next.recorder.recorded e.turns.alike)) g.replays;
+      source = told-before hears s s' live.recorder.recorded next.recorder.recorded raced.recorded (told-turn hears s s' live.recorder.recorded _ e.race next.recorder.recorded now (slept-alike live.recorder.recorded live.recorder.due now) e.heard e.turns.alike) g.source;
+    };
   }
 
   -- a poll takes a turn, or nothing changes
-  by_turn : (P : AfterPoll C Conn Run → Type 0) (turn : Option ℕ) (s s' : S) (c c' : C) (live : Live C Conn Run) (at : ℕ) (step : AfterPoll C Conn Run) → ((n : ℕ) → step ≡ after_polls.Waits live (n + 1) → P step) → (HeardTurn hears connector trial s c live at s' c' step → P step) → HeardFrom hears connector trial turn s c live at s' c' step → P step
+  by_turn : (P : AfterPoll C Conn Run → Type 0) (turn : Option ℕ) (s s' : S) (c c' : C) (live : Live C Conn Run) (at : ℕ) (step : AfterPoll C Conn Run) → ((n : ℕ) → s' ≡ s → step ≡ after_polls.Waits live (n + 1) → P step) → (HeardTurn hears connector trial s c live at s' c' step → P step) → HeardFrom hears connector trial turn s c live at s' c' step → P step
   by_turn P None s s' c c' live at step none some h = some h
   by_turn P (Some turn) s s' c c' live at step none some h = by_test (nat_le at turn) h
     where
       by_test : (b : Bool) → MatchBool b ((s' ≡ s) × (c' ≡ c) × (step ≡ after_polls.Waits live (turn + 1))) (HeardTurn hears connector trial s c live at s' c' step) → P step
-      by_test true h = none turn h.2
+      by_test true h = none turn h.0 h.2
       by_test false h = some h
 
-  pub heard-ends : (s s' : S) (c c' : C) (live : Live C Conn Run) (now : ℕ) (raced : Raced Conn) → HeardAt hears connector trial s c live now s' c' (after_polls.Ended raced) → ReplaysGiven live.recorder.recorded raced
+  pub heard-ends : (s s' : S) (c c' : C) (live : Live C Conn Run) (now : ℕ) (raced : Raced Conn) → HeardAt hears connector trial s c live now s' c' (after_polls.Ended raced) → Said s live.recorder.recorded raced
   heard-ends s s' c c' live now raced h =
-      by_turn (λ step. ReplaysGiven live.recorder.recorded raced) live.recorder.turn s s' c c' live (min now (live.recorder.recorded.settings.limit + 1)) (after_polls.Ended raced) (λ n e. cc) (heard_ends s s' c c' live (min now (live.recorder.recorded.settings.limit + 1)) raced) h
+      by_turn (λ step. Said s live.recorder.recorded raced) live.recorder.turn s s' c c' live (min now (live.recorder.recorded.settings.limit + 1)) (after_polls.Ended raced) (λ n same e. cc) (heard_ends s s' c c' live (min now (live.recorder.recorded.settings.limit + 1)) raced) h
 
-  pub heard-goes : (s s' : S) (c c' : C) (live next : Live C Conn Run) (now tick : ℕ) → IsLive connector trial live → HeardAt hears connector trial s c live now s' c' (after_polls.Waits next tick) → GoneOn connector trial ReplaysGiven live next
+  pub heard-goes : (s s' : S) (c c' : C) (live next : Live C Conn Run) (now tick : ℕ) → IsLive connector trial live → HeardAt hears connector trial s c live now s' c' (after_polls.Waits next tick) → GoneOn connector trial (Said s) (Said s') live next
   heard-goes s s' c c' live next now tick is h =
-      by_turn (λ step. GoneOn connector trial ReplaysGiven live next) live.recorder.turn s s' c c' live (min now (live.recorder.recorded.settings.limit + 1)) (after_polls.Waits next tick) (λ n e. still next (same_next n e)) (heard_goes s s' c c' live next (min now (live.recorder.recorded.settings.limit + 1)) tick) h
+      by_turn (λ step. GoneOn connector trial (Said s) (Said s') live next) live.recorder.turn s s' c c' live (min now (live.recorder.recorded.settings.limit + 1)) (after_polls.Waits next tick) (λ n same e. still next (same_next n e) same) (heard_goes s s' c c' live next (min now (live.recorder.recorded.settings.limit + 1)) tick) h
     where
       same_next : (n : ℕ) → after_polls.Waits next tick ≡ after_polls.Waits live (n + 1) → next ≡ live
       same_next n e = cc
 
-      still : (x : Live C Conn Run) → x ≡ live → GoneOn connector trial ReplaysGiven live x
-      still x same = subst (GoneOn connector trial ReplaysGiven live) (sym same) (record { kept = is; later = λ raced g. g })
+      unmoved : (t : S) → t ≡ s → GoneOn connector trial (Said s) (Said t) live live
+      unmoved t same = subst (λ (z : S). GoneOn connector trial (Said s) (Said z) live live) (sym same) (record { kept = is; later = λ raced g. g })
+
+      still : (x : Live C Conn Run) → x ≡ live → s' ≡ s → GoneOn connector trial (Said s) (Said s') live x
+      still x e same = subst (GoneOn connector trial (Said s) (Said s') live) (sym e) (unmoved s' same)
 
   -- over a source that tells nothing the race is the one of which all answers were given
-  module _ (silent : (s : S) (family : Family) (now : ℕ) (told : Option (List Known)) (s' : S) → hears s family now told s' → told ≡ None) where
+  module _ (silent : (s : S) (family : Family) (now : ℕ) (told : Option AnswerLists) (s' : S) → hears s family now told s' → told ≡ None) where
     unheard_turn : (s s' : S) (c c' : C) (live : Live C Conn Run) (now : ℕ) (step : AfterPoll C Conn Run) → HeardTurn hears connector trial s c live now s' c' step → Turned connector trial c live now c' step
     unheard_turn s s' c c' live now (after_polls.Ended raced) (inl e) = inl e.1
     unheard_turn s s' c c' live now (after_polls.Waits next tick) (inl e) = absurd e

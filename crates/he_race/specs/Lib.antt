@@ -1,9 +1,11 @@
 pub mod Answered
 pub mod Attempt
+pub mod Copied
 pub mod Following
 pub mod Heard
 pub mod Kept
 pub mod Listening
+pub mod OfSource
 pub mod Polling
 pub mod Racing
 pub mod Reach

@@ -1,11 +1,10 @@
--- What a turn of a race is whose answers come while it runs, and what the race gives: the public contracts of
+-- What a turn of a race is whose answers come while it runs, and what its record keeps: the public contracts of
 -- `ResolvingRace` cite it.
-use Rattle.std.specs.Prelude.{ℕ, ◌≡◌, ◌+◌, ◌++◌, ◌⊎◌, ⊤, min, nat_le, is_some, MatchBool, List, Option, Some, None, option_map, Result}
-use Rattle.he_addr.specs.declared.ip.Ip.{Ip}
+use Rattle.std.specs.Prelude.{ℕ, ◌≡◌, ◌+◌, ◌++◌, ◌⊎◌, ⊤, min, nat_le, is_some, MatchBool, List, Option, Some, None}
+use Rattle.he_select.specs.Hosts.{HostLists}
 use Rattle.he_timeline.specs.Race.{History, Race, Reply}
 use Rattle.he_plan.specs.Transcript.{IsTranscript}
 use Rattle.he_race.specs.declared.connector.Connector.{Ghosts as ConnectorOf}
-use Rattle.he_race.specs.declared.faults.RaceFault.{RaceFault}
 use Rattle.he_race.specs.declared.live.AfterPoll.{AfterPoll}
 use Rattle.he_race.specs.declared.live.AfterPoll.TheVariants as after_polls
 use Rattle.he_race.specs.declared.live.Live.{Live}
@@ -15,8 +14,7 @@ use Rattle.he_race.specs.declared.trial.Trial.{Ghosts as TrialOf}
 use Rattle.he_race.specs.Heard.{Hears, Tells}
 use Rattle.he_race.specs.Polling.{TurnsFrom}
 use Rattle.he_race.specs.Recording.{is_won}
-use Rattle.he_race.specs.Turns.{EndsLate, GivesBy, Sweep, begun}
-use Rattle.he_race.specs.Winner.{EndsAt}
+use Rattle.he_race.specs.Turns.{EndsLate, Sweep, begun}
 
 module _ {S C Conn Run : Type 0} (hears : Tells S) (connector : ConnectorOf C Conn Run)
     (trial : TrialOf Run Conn) where
@@ -66,12 +64,17 @@ pub record KeepsHistory (history later : History) : Type 0 where
   pub rtts : BeginsWith history.rtts later.rtts
   pub used : BeginsWith history.used later.used
 
--- the second race has the first one's settings, policy and host, its history begins with the first one's, and it has
--- each answer that the first one has
+-- the host's lines stay, and those that are told come after them
+pub record KeepsHost (host later : HostLists) : Type 0 where
+  pub sources : BeginsWith host.sources later.sources
+  pub routes : BeginsWith host.routes later.routes
+
+-- the second race has the first one's settings and policy, its host and its history begin with the first one's, and it
+-- has each answer that the first one has
 pub record KeepsGiven (race later : Race) : Type 0 where
   pub settings : later.settings ≡ race.settings
   pub policy : later.policy ≡ race.policy
-  pub host : later.host ≡ race.host
+  pub host : KeepsHost race.host later.host
   pub history : KeepsHistory race.history later.history
   pub aaaa : KeepsAnswer race.aaaa later.aaaa
   pub a : KeepsAnswer race.a later.a
@@ -82,13 +85,3 @@ pub record ReplaysGiven {Conn : Type 0} (race : Race) (raced : Raced Conn) : Typ
   pub kept : KeepsGiven race raced.recorded
   pub transcript : IsTranscript raced.recorded raced.transcript
   pub winner : is_some raced.winner ≡ is_won raced.transcript.result
-
--- what a race whose answers come may give, with what is recorded so far: an end that replays, with a winner that goes
--- to the address of the line that won
-abbrev pub MayGiveFrom : {Conn : Type 0} → (Ip → Conn → Type 0) → Option Race → Result (Raced Conn) RaceFault → Type 0
-MayGiveFrom {Conn} reaches race result = GivesBy (EndsAt (ReplaysGiven {Conn = Conn}) reaches) race result
-
-abbrev pub MayGive : {C Conn Run : Type 0} → (Ip → Conn → Type 0) → Option (Live C Conn Run)
-    → Result (Raced Conn) RaceFault → Type 0
-MayGive {C} {Conn} {Run} reaches live result =
-    MayGiveFrom {Conn = Conn} reaches (option_map (λ (x : Live C Conn Run). x.recorder.recorded) live) result

@@ -8,12 +8,13 @@ ghost use Rattle.he_timeline.specs.Building.{with_answer};
 ghost use Rattle.he_timeline.specs.Race.{has_ip, reply_of};
 ghost use Rattle.he_timeline.specs.Timeline.{IsRace, are_distinct, are_of, is_of};
 ghost use Rattle.he_plan.specs.RaceState.{IsUnderway};
-ghost use Rattle.he_race.specs.Heard.{Hears, HearsOf, cleaned, ips_of, with_heard};
+ghost use Rattle.he_race.specs.Heard.{Hears, HearsOf, cleaned, ips_of, lists_of, with_heard};
 ghost use Rattle.he_race.specs.Kept.{InTurn};
 ghost use Rattle.he_race.specs.Listening.{ListensFor, SourceListens};
 
-use crate::answers::AnswerSource;
+use crate::answers::{Answer, AnswerSource};
 use crate::learning::add_known;
+use crate::lines::add_lines;
 use crate::recorder::{Recorder, only_memory};
 use futures::task::{Context, Poll};
 use he_addr::{Family, Ip, Memory};
@@ -78,20 +79,22 @@ impl Recorder {
     }
 
     // Records what was told for a family that has no answer, in the turn at the tick.
-    fn answer(&mut self, family: Family, now: u64, told: &[Known]) -> Result<(), Memory>
+    fn answer(&mut self, family: Family, now: u64, told: &Answer) -> Result<(), Memory>
         requires turn { InTurn self.old.recorded now self.old.underway.attempts false }
         requires underway { IsUnderway self.old.recorded self.old.underway }
         requires first { reply_of self.old.recorded family ≡ None }
         requires in_time { now ≤ MAX_LIMIT }
-        ensures recorded { OnOk result (self.new.recorded ≡ with_heard self.old.recorded family now told.now
-            (cleaned family (ips_of told.now))) }
+        ensures recorded { OnOk result (self.new.recorded ≡ with_heard self.old.recorded family now (lists_of told.now)
+            (cleaned family (ips_of told.now.known.items))) }
         ensures attempts { OnOk result (self.new.underway.attempts ≡ self.old.underway.attempts) }
         ensures turn { OnOk result (InTurn self.new.recorded now self.new.underway.attempts false) }
         ensures underway { OnOk result (IsUnderway self.new.recorded self.new.underway) }
     {
-        let addresses = cleaned(self.alloc, family, told)?;
+        let known = told.known.as_slice();
+        let addresses = cleaned(self.alloc, family, known)?;
         add_answer(&mut self.recorded, family, now, &addresses)?;
-        add_known(&mut self.recorded, told, &addresses)?;
+        add_known(&mut self.recorded, known, &addresses)?;
+        add_lines(self.alloc, &mut self.recorded, family, told)?;
         self.underway = again(
             self.alloc,
             self.recorded.timeline(),
@@ -101,7 +104,7 @@ impl Recorder {
     }
 }
 
-fn add_answer(
+pub(crate) fn add_answer(
     recorded: &mut TimelineBuilder,
     family: Family,
     tick: u64,

@@ -3,6 +3,7 @@
 ghost use Rattle.std.specs.Prelude.{if◌then◌else◌, ◌≡◌, ◌∷◌, [], false, true, not, OnOk};
 ghost use Rattle.std.specs.List.{list_all};
 ghost use Rattle.he_select.specs.Selection.{known_of, known_rtt, known_used};
+ghost use Rattle.he_timeline.specs.Building.{with_rtt};
 ghost use Rattle.he_timeline.specs.Race.{has_ip, is_in_answer, is_told};
 ghost use Rattle.he_timeline.specs.Timeline.{IsRace, are_distinct, is_duration};
 ghost use Rattle.he_race.specs.Heard.{counted_rtt, rtt_told, with_history, with_known};
@@ -77,9 +78,21 @@ fn add_rtt(recorded: &mut TimelineBuilder, ip: Ip, rtt: Option<u64>) -> Result<(
     ensures valid { OnOk result (IsRace recorded.new) }
 {
     match rtt {
-        Some(rtt) => only_memory(recorded.rtt_of_known(ip, counted_rtt(rtt))),
+        Some(rtt) => push_rtt(recorded, ip, counted_rtt(rtt)),
         None => Ok(()),
     }
+}
+
+// Records the round trip time of the address, of which none is recorded yet.
+pub(crate) fn push_rtt(recorded: &mut TimelineBuilder, ip: Ip, rtt: u64) -> Result<(), Memory>
+    requires valid { IsRace recorded.old }
+    requires lasts { is_duration rtt ≡ true }
+    requires answered { is_in_answer recorded.old ip ≡ true }
+    requires first { is_told ip recorded.old.history.rtts ≡ false }
+    ensures recorded { OnOk result (recorded.new ≡ with_rtt recorded.old ip rtt) }
+    ensures valid { OnOk result (IsRace recorded.new) }
+{
+    only_memory(recorded.rtt_of_known(ip, rtt))
 }
 
 // A round trip time in the range of those that are recorded.
@@ -90,7 +103,7 @@ fn counted_rtt(rtt: u64) -> u64
     rtt.min(MAX_DURATION).max(MIN_DURATION)
 }
 
-fn add_used(recorded: &mut TimelineBuilder, ip: Ip, used: bool) -> Result<(), Memory>
+pub(crate) fn add_used(recorded: &mut TimelineBuilder, ip: Ip, used: bool) -> Result<(), Memory>
     requires valid { IsRace recorded.old }
     requires answered { is_in_answer recorded.old ip ≡ true }
     requires first { has_ip ip recorded.old.history.used ≡ false }

@@ -56,7 +56,9 @@
 //! A `ResolvingRace` takes the same turns, and in each of them, after the pause and before the attempts, polls its
 //! source for each family that has no answer, IPv6 first. Of what the source tells, the family's addresses, each
 //! once and at most `MAX_ADDRESSES` of them, count as an answer that came at the turn's tick. What the client knows of
-//! these from earlier connections comes with them (RFC 8305 section 4), and the race chooses by it from then on.
+//! these from earlier connections comes with them (RFC 8305 section 4), and so do sources and routes of this machine
+//! by which they are reached (RFC 6724 sections 4 and 5): the race chooses by both from then on. Lines of one family
+//! change nothing for the other's addresses.
 //!
 //! ```text
 //! let mut race = RaceFuture::new(alloc, &timeline, connector, ticker)?;
@@ -105,12 +107,14 @@
 //!   connection exactly where the race was won (`Replays` in `specs/Turns.antt`).
 //! - The winner's connection goes to the address of the transcript's line at the winning place, by what its connector
 //!   says of where connections go (`reaches`; `WinnerGoes` in `specs/Winner.antt`).
-//! - What a `ResolvingRace` gives replays likewise, for every source too: the record has the given settings, policy
-//!   and host, each given answer, and of the other families what the source told, at the tick of the turn in which it
-//!   did; its history begins with the given one, and has then what the source told of the addresses of its answers,
-//!   and of no other; a family that has an answer isn't polled (`ReplaysGiven` and `HeardAt` in
-//!   `specs/Resolving.antt`, `Hears` in `specs/Heard.antt`). One more answer, with what is told of its addresses,
-//!   changes nothing before its tick (`laws::one_more_answer_above`).
+//! - What a `ResolvingRace` gives replays likewise, for every source too: the record has the given settings and policy
+//!   and each given answer; its history and its host begin with the given ones (`ReplaysGiven` in
+//!   `specs/Resolving.antt`). All else of it, but for outcomes and pauses, is what the source told in polls that its
+//!   own relation allows, one after the other from its first state on: of each family without an answer the addresses,
+//!   at the tick of the poll, what is known of these and of no other, and the family's lines (`IsOfSource` in
+//!   `specs/OfSource.antt`, `with_told` in `specs/Heard.antt`). In each turn each family that has no answer is polled
+//!   once, and no other (`HeardAt` in `specs/Resolving.antt`). One more answer, with history and lines, changes nothing
+//!   before its tick (`laws::one_more_answer_above`).
 //! - In a turn each unfinished attempt is polled once, with an answer and a new state that its trial's relation
 //!   allows; how one that answers ended is recorded, with the ticks since its start, and nothing else is; a pause is
 //!   recorded exactly where something was due before the turn, from there to it; the race ends exactly where the
@@ -141,11 +145,13 @@ mod alone;
 pub mod answers;
 pub mod attempt;
 pub mod connector;
+mod copying;
 pub mod faults;
 mod hearing;
 pub mod laws;
 mod learning;
 pub mod limits;
+mod lines;
 mod live;
 pub mod one;
 pub mod race;
@@ -157,11 +163,11 @@ pub mod ticker;
 pub mod trial;
 pub mod wheel;
 
-pub use answers::{AnswerSource, nothing_known};
+pub use answers::{Answer, AnswerSource, nothing_known};
 pub use attempt::{AttemptFuture, Finish};
 pub use connector::Connector;
 pub use faults::{AttemptFault, RaceFault, TickFault};
-pub use he_select::Known;
+pub use he_select::{Known, Route, Source};
 pub use live::Raced;
 pub use one::race_one;
 pub use race::RaceFuture;

@@ -45,7 +45,8 @@ pub(crate) struct Live<C: Connector> {
 pub struct Raced<Conn> {
     /// What the rules of a race make of the record.
     pub transcript: Transcript,
-    /// The given settings, policy, host, answers and history, with what each attempt did and when the client slept.
+    /// The given settings, policy, host, answers and history, with what was heard of a source, what each attempt did
+    /// and when the client slept.
     pub recorded: Timeline,
     /// The winner's connection, where the race was won.
     pub winner: Option<Conn>,

@@ -176,7 +176,7 @@ fn ended_by(is_won: bool, duration: u64) -> Outcome
     }
 }
 
-fn add_pause(recorded: &mut TimelineBuilder, from: u64, to: u64) -> Result<(), Memory>
+pub(crate) fn add_pause(recorded: &mut TimelineBuilder, from: u64, to: u64) -> Result<(), Memory>
     requires valid { IsRace recorded.old }
     requires later { last_end recorded.old.pauses ≤ from }
     requires some { from < to }
@@ -188,7 +188,11 @@ fn add_pause(recorded: &mut TimelineBuilder, from: u64, to: u64) -> Result<(), M
     only_memory(recorded.pause(from, to))
 }
 
-fn add_outcome(recorded: &mut TimelineBuilder, ip: Ip, outcome: Outcome) -> Result<(), Memory>
+pub(crate) fn add_outcome(
+    recorded: &mut TimelineBuilder,
+    ip: Ip,
+    outcome: Outcome,
+) -> Result<(), Memory>
     requires valid { IsRace recorded.old }
     requires lasts { is_duration (duration_of outcome) ≡ true }
     requires known { is_in_answer recorded.old ip ≡ true }

@@ -8,7 +8,8 @@ ghost use Rattle.he_timeline.specs.Building.{unrecorded};
 ghost use Rattle.he_race.specs.contracts.resolving.ResolvingRace.{the_row};
 ghost use Rattle.he_race.specs.Listening.{RaceHears, RaceListens};
 ghost use Rattle.he_race.specs.Racing.{RacePollsBy};
-ghost use Rattle.he_race.specs.Resolving.{HeardAt, MayGive};
+ghost use Rattle.he_race.specs.OfSource.{MayGive};
+ghost use Rattle.he_race.specs.Resolving.{HeardAt};
 ghost use Rattle.he_race.specs.Turns.{IsNew};
 ghost use Rattle.he_race.specs.Winner.{MayPoll};
 
@@ -73,15 +74,17 @@ impl<C: Connector, S: AnswerSource, T: Ticker> Future for ResolvingRace<C, S, T>
 
     ghost can_poll = { λ s. IfSome s.race.live (MayPoll C.Connector C.Run.Trial s.race.connector) };
 
-    ghost gives = { λ s r. MayGive (C.Connector.reaches s.race.connector) s.race.live r };
+    ghost gives = { λ s r. MayGive S.AnswerSource.hears s.source (C.Connector.reaches s.race.connector) s.race.live r };
 
     fn poll(&mut self, cx: &mut Context<'_>) -> Poll<Result<Raced<C::Conn>, RaceFault>>
         requires { IfSome self.old.race.live (MayPoll C.Connector C.Run.Trial self.old.race.connector) }
-        ensures value { IfReady result (MayGive (C.Connector.reaches self.old.race.connector) self.old.race.live) }
+        ensures value { IfReady result (MayGive S.hears self.old.source (C.Connector.reaches self.old.race.connector)
+            self.old.race.live) }
         ensures again { OnPending result (IfSome self.new.race.live (MayPoll C.Connector C.Run.Trial
             self.new.race.connector)) }
-        ensures same { OnPending result ((x : _) → MayGive (C.Connector.reaches self.new.race.connector)
-            self.new.race.live x → MayGive (C.Connector.reaches self.old.race.connector) self.old.race.live x) }
+        ensures same { OnPending result ((x : _) → MayGive S.hears self.new.source
+            (C.Connector.reaches self.new.race.connector) self.new.race.live x → MayGive S.hears self.old.source
+            (C.Connector.reaches self.old.race.connector) self.old.race.live x) }
         ensures registered { OnPending result (Covers cx.new (λ _. ⊥)) }
         ensures kept { Keeps cx.old cx.new }
         ensures over { IfReady result (λ _. self.new.race.live ≡ None) }

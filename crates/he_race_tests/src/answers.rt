@@ -7,7 +7,7 @@ use futures::task::{Context, Doorbell, Poll, Solo};
 use he_addr::{Family, Ip, Memory};
 use he_plan::{Mark, Outcome3};
 use he_race::{
-    AnswerSource, Known, RaceFault, Raced, ResolvingRace, Scripted, TickFault, Ticker,
+    Answer, AnswerSource, Known, RaceFault, Raced, ResolvingRace, Scripted, TickFault, Ticker,
     nothing_known,
 };
 use he_timeline::{Outcome, Timeline};
@@ -57,7 +57,7 @@ impl AnswerSource for Telling {
 
     ghost hears = { λ _ _ _ _ _. ⊤ };
 
-    fn poll_answer(&mut self, family: Family, now: u64, cx: &mut Context<'_>) -> Poll<Vec<Known>> {
+    fn poll_answer(&mut self, family: Family, now: u64, cx: &mut Context<'_>) -> Poll<Answer> {
         let told = match family {
             Family::V6 => self.six,
             Family::V4 => self.four,
@@ -65,7 +65,7 @@ impl AnswerSource for Telling {
         if let Some((from, told)) = told {
             if from <= now {
                 if let Ok(known) = addresses(self.alloc, told) {
-                    return Poll::Ready(known);
+                    return Poll::Ready(Answer::without_lines(known));
                 }
             }
         }

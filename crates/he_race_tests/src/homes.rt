@@ -23,19 +23,29 @@ const V4_B: Ip = Ip::V4(0xc633_6402);
 pub const V4_A: Ip = Ip::V4(0xc633_6401);
 
 fn source(ip: Ip, plen: u8) -> Source {
+    source_on(1, ip, plen)
+}
+
+/// A source on this interface.
+pub fn source_on(interface: u16, ip: Ip, plen: u8) -> Source {
     Source {
         ip,
         plen,
-        interface: 1,
+        interface,
         deprecated: false,
         temporary: false,
     }
 }
 
 fn route(prefix: Prefix) -> Route {
+    route_on(1, prefix)
+}
+
+/// A route to this interface.
+pub fn route_on(interface: u16, prefix: Prefix) -> Route {
     Route {
         prefix,
-        interface: 1,
+        interface,
         tunnel: false,
     }
 }
@@ -160,6 +170,12 @@ pub fn known_race(alloc: Global, known: &Known) -> Result<Timeline, Fail> {
     let mut builder = empty(alloc, Settings::new(50, 250, 1, 30_000)?, host(alloc)?)?;
     let filled = fill_known(&mut builder, known);
     finished(builder, filled)
+}
+
+/// A race on a host of which no line is known, without answers.
+pub fn bare_race(alloc: Global) -> Result<Timeline, Fail> {
+    let host = Host::new(alloc, &[], &[])?;
+    Ok(empty(alloc, Settings::new(50, 250, 1, 30_000)?, host)?.finish())
 }
 
 /// A race whose IPv4 address has come, was used before and answers within 40; the IPv6 addresses have not.

@@ -8,7 +8,7 @@ use crate::races::{Stepping, drive};
 use futures::task::{Context, Doorbell, Poll, Solo};
 use he_addr::{Family, Ip};
 use he_race::{
-    AnswerSource, Known, RaceFault, Raced, ResolvingRace, Scripted, WheelTicker, race_one,
+    Answer, AnswerSource, Known, RaceFault, Raced, ResolvingRace, Scripted, WheelTicker, race_one,
 };
 use he_timeline::Timeline;
 use std::alloc::{AllocError, Global};
@@ -43,13 +43,13 @@ impl AnswerSource for Remembering {
 
     ghost hears = { λ _ _ _ _ _. ⊤ };
 
-    fn poll_answer(&mut self, family: Family, _now: u64, cx: &mut Context<'_>) -> Poll<Vec<Known>> {
+    fn poll_answer(&mut self, family: Family, _now: u64, cx: &mut Context<'_>) -> Poll<Answer> {
         let told = match family {
             Family::V6 => self.six,
             Family::V4 => self.four,
         };
         match known_of(self.alloc, told) {
-            Ok(known) => Poll::Ready(known),
+            Ok(known) => Poll::Ready(Answer::without_lines(known)),
             Err(_) => cx.yield_now(),
         }
     }

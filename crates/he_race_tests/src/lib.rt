@@ -1,6 +1,7 @@
 //! Tests of `he_race`: what one attempt comes to, a ticker that jumps, a race over tickers that misbehave, a race
-//! whose answers come while it runs, with what is known of their addresses, connectors of a user's own, and where the
-//! winner goes. Recorded races from their first turn to their end are run by the crate `cases`.
+//! whose answers come while it runs, with what is known of their addresses and lines of the machine, connectors of a
+//! user's own, and where the winner goes. Recorded races from their first turn to their end are run by the crate
+//! `cases`.
 #![tactic(auto)]
 
 #[cfg(test)]
@@ -13,6 +14,8 @@ mod homes;
 mod known;
 #[cfg(test)]
 mod learnt;
+#[cfg(test)]
+mod lines;
 #[cfg(test)]
 mod named;
 #[cfg(test)]

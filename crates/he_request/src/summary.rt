@@ -31,7 +31,7 @@ For the example of `he draw --help` it writes (the second line is one line):
   attempts: 2, at most 2 in a race
   the Resolution Delay was waited out in 0 races
   failed or silent most often:
-    1 of 1 attempt to 2001:db8:1::1";
+    0 failed, 1 silent of 1 attempt to 2001:db8:1::1";
 
 pub(crate) fn command<'a>(alloc: Global) -> Result<Command<'a>, AllocError> {
     let args = vec![in alloc;

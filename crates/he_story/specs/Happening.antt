@@ -32,8 +32,7 @@ cause_text (causes.AttemptDelay place delay) =
 cause_text (causes.Floor place floor) =
     concat (codes "all before have failed, and the floor of " ∷ decimal floor ∷ codes " ms after attempt "
     ∷ decimal (place + 1) ∷ codes " is over" ∷ [])
-cause_text (causes.LastFailure tick) =
-    concat (codes "all before have failed, the last one at " ∷ decimal tick ∷ codes " ms" ∷ [])
+cause_text (causes.LastFailure tick) = codes "all before have failed"
 cause_text (causes.LaterAnswer families.V6) = codes "it came with the AAAA answer"
 cause_text (causes.LaterAnswer families.V4) = codes "it came with the A answer"
 

@@ -47,14 +47,7 @@ fn write_cause<A: Allocator + Copy>(cause: Cause, text: &mut Vec<u8, A>) -> Resu
             ],
             text,
         ),
-        Cause::LastFailure(tick) => write_parts(
-            &[
-                LinePart::Words(b"all before have failed, the last one at "),
-                LinePart::Number(tick),
-                LinePart::Words(b" ms"),
-            ],
-            text,
-        ),
+        Cause::LastFailure(_) => write_parts(&[LinePart::Words(b"all before have failed")], text),
         Cause::LaterAnswer(Family::V6) => write_words(b"it came with the AAAA answer", text),
         Cause::LaterAnswer(Family::V4) => write_words(b"it came with the A answer", text),
     }

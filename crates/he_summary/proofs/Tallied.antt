@@ -1,5 +1,5 @@
 -- The tallies with one attempt more.
-use Rattle.std.proofs.Common.{ℕ, ◌≡◌, ◌+◌, ◌<◌, ◌&&◌, ◌++◌, Bool, true, false, cond, List, [], ◌∷◌, length, map, take, get_or, Option, Some, refl, sym, ◌∙◌, ap, subst, add-zero, append_assoc}
+use Rattle.std.proofs.Common.{ℕ, ◌≡◌, ◌+◌, ◌<◌, ◌&&◌, ◌++◌, Bool, true, false, cond, List, [], ◌∷◌, length, map, take, get_or, Option, Some, None, refl, sym, ◌∙◌, ap, subst, add-zero, append_assoc}
 use Rattle.std.specs.List.{IsDistinct, count_by}
 use Rattle.std.specs.Map.{keys_of, lookup}
 use Rattle.std.specs.Option.{unwrap_or}
@@ -14,11 +14,13 @@ use Rattle.he_timeline.proofs.Ranges.{same_ip-sym}
 use Rattle.he_timeline.specs.Race.{Race}
 use Rattle.he_plan.specs.declared.transcript.Line.{Line}
 use Rattle.he_summary.specs.Counting.{tried}
-use Rattle.he_summary.specs.Tries.{AreTallies, Try, is_lost, tally_at, tally_of, try_of}
+use Rattle.he_summary.specs.Tries.{AreTallies, Try, is_failed, is_silent, loss_of, tally_at, tally_of, try_of}
+use Rattle.he_summary.specs.declared.tallies.Loss.{Loss}
+use Rattle.he_summary.specs.declared.tallies.Loss.TheVariants as losses
 use Rattle.he_summary.specs.declared.tallies.Tally.{Tally}
 
-abbrev tally_with : ℕ → ℕ → Tally
-tally_with failed attempts = record { failed = failed; attempts = attempts }
+abbrev tally_with : ℕ → ℕ → ℕ → Tally
+tally_with failed silent attempts = record { failed = failed; silent = silent; attempts = attempts }
 
 -- the equality of addresses is that of the code
 pub same_eq : eq-value.it ≡ same_ip
@@ -31,48 +33,53 @@ no_tallies tallies none once = record {
 }
 
 -- of one address: the attempts with one more
-one_try : (tries : List Try) (one : Try) (ip : Ip) → tally_of (tries ++ one ∷ []) ip ≡ cond (same_ip ip one.ip) (tried (tally_of tries ip) one.is_lost) (tally_of tries ip)
+one_try : (tries : List Try) (one : Try) (ip : Ip) → tally_of (tries ++ one ∷ []) ip ≡ cond (same_ip ip one.ip) (tried (tally_of tries ip) one.loss) (tally_of tries ip)
 one_try tries one ip =
-    (λ i. record { failed = sum_by_push (λ (x : Try). cond (same_ip ip x.ip && x.is_lost) 1 0) tries one i; attempts = sum_by_push (λ (x : Try). cond (same_ip ip x.ip) 1 0) tries one i })
-    ∙ by (same_ip ip one.ip) one.is_lost (count_by (λ x. same_ip ip x.ip && x.is_lost) tries) (count_by (λ x. same_ip ip x.ip) tries)
+    (λ i. record {
+      failed = sum_by_push (λ (x : Try). cond (same_ip ip x.ip && is_failed x.loss) 1 0) tries one i;
+      silent = sum_by_push (λ (x : Try). cond (same_ip ip x.ip && is_silent x.loss) 1 0) tries one i;
+      attempts = sum_by_push (λ (x : Try). cond (same_ip ip x.ip) 1 0) tries one i;
+    })
+    ∙ by (same_ip ip one.ip) one.loss (count_by (λ x. same_ip ip x.ip && is_failed x.loss) tries) (count_by (λ x. same_ip ip x.ip && is_silent x.loss) tries) (count_by (λ x. same_ip ip x.ip) tries)
   where
-    by : (same lost : Bool) (f a : ℕ) → tally_with (f + cond (same && lost) 1 0) (a + cond same 1 0) ≡ cond same (tried (tally_with f a) lost) (tally_with f a)
-    by true true f a = refl
-    by true false f a = ap (λ (n : ℕ). tally_with n (a + 1)) (add-zero f)
-    by false lost f a = (λ i. tally_with (add-zero f i) (add-zero a i))
+    by : (same : Bool) (loss : Option Loss) (f s a : ℕ) → tally_with (f + cond (same && is_failed loss) 1 0) (s + cond (same && is_silent loss) 1 0) (a + cond same 1 0) ≡ cond same (tried (tally_with f s a) loss) (tally_with f s a)
+    by true (Some losses.Failed) f s a = ap (λ (n : ℕ). tally_with (f + 1) n (a + 1)) (add-zero s)
+    by true (Some losses.Silent) f s a = ap (λ (n : ℕ). tally_with n (s + 1) (a + 1)) (add-zero f)
+    by true None f s a = (λ i. tally_with (add-zero f i) (add-zero s i) (a + 1))
+    by false loss f s a = (λ i. tally_with (add-zero f i) (add-zero s i) (add-zero a i))
 
 -- what is known of each address where one is written
-at_each : (old new : List (Ip × Tally)) (ip q : Ip) (is_lost : Bool) (tries : List Try)
-    → lookup (same_ip q) new ≡ cond (same_ip ip q) (Some (tried (tally_at old ip) is_lost)) (lookup (same_ip q) old)
-    → ((x : Ip) → tally_at old x ≡ tally_of tries x) → tally_at new q ≡ cond (same_ip q ip) (tried (tally_of tries q) is_lost) (tally_of tries q)
-at_each old new ip q is_lost tries found each =
-    ap (λ (o : Option Tally). unwrap_or o (tally_with 0 0)) found ∙ by (same_ip ip q) (same_ip q ip) refl (same_ip-sym ip q)
+at_each : (old new : List (Ip × Tally)) (ip q : Ip) (loss : Option Loss) (tries : List Try)
+    → lookup (same_ip q) new ≡ cond (same_ip ip q) (Some (tried (tally_at old ip) loss)) (lookup (same_ip q) old)
+    → ((x : Ip) → tally_at old x ≡ tally_of tries x) → tally_at new q ≡ cond (same_ip q ip) (tried (tally_of tries q) loss) (tally_of tries q)
+at_each old new ip q loss tries found each =
+    ap (λ (o : Option Tally). unwrap_or o (tally_with 0 0 0)) found ∙ by (same_ip ip q) (same_ip q ip) refl (same_ip-sym ip q)
   where
     by : (b c : Bool) → same_ip ip q ≡ b → b ≡ c
-        → unwrap_or (cond b (Some (tried (tally_at old ip) is_lost)) (lookup (same_ip q) old)) (tally_with 0 0) ≡ cond c (tried (tally_of tries q) is_lost) (tally_of tries q)
-    by true true same e = ap (λ (t : Tally). tried t is_lost) (each ip ∙ ap (tally_of tries) (same_ip-is ip q same))
+        → unwrap_or (cond b (Some (tried (tally_at old ip) loss)) (lookup (same_ip q) old)) (tally_with 0 0 0) ≡ cond c (tried (tally_of tries q) loss) (tally_of tries q)
+    by true true same e = ap (λ (t : Tally). tried t loss) (each ip ∙ ap (tally_of tries) (same_ip-is ip q same))
     by false false same e = each q
     by true false same e = cc
     by false true same e = cc
 
-pub inserted : (kept old new : List (Ip × Tally)) (ip : Ip) (is_lost : Bool) (tally one : Tally) → kept ≡ old → tally ≡ tally_at old ip → one ≡ tried tally is_lost
+pub inserted : (kept old new : List (Ip × Tally)) (ip : Ip) (loss : Option Loss) (tally one : Tally) → kept ≡ old → tally ≡ tally_at old ip → one ≡ tried tally loss
     → IsDistinct eq-value.it (keys_of new) → ((q : Ip) → lookup (eq-value.it q) new ≡ cond (eq-value.it ip q) (Some one) (lookup (eq-value.it q) kept))
-    → (tries : List Try) → AreTallies tries old → AreTallies (tries ++ record { ip = ip; is_lost = is_lost } ∷ []) new
-inserted kept old new ip is_lost tally one same had with_one once found tries are = record {
+    → (tries : List Try) → AreTallies tries old → AreTallies (tries ++ record { ip = ip; loss = loss } ∷ []) new
+inserted kept old new ip loss tally one same had with_one once found tries are = record {
   once = subst (λ (eq : Ip → Ip → Bool). IsDistinct eq (keys_of new)) same_eq once;
   each = λ q.
-      let lost : one ≡ tried (tally_at old ip) is_lost = with_one ∙ ap (λ (t : Tally). tried t is_lost) had in
+      let lost : one ≡ tried (tally_at old ip) loss = with_one ∙ ap (λ (t : Tally). tried t loss) had in
       let at : lookup (same_ip q) new ≡ cond (same_ip ip q) (Some one) (lookup (same_ip q) kept) =
       subst (λ (eq : Ip → Ip → Bool). lookup (eq q) new ≡ cond (eq ip q) (Some one) (lookup (eq q) kept)) same_eq (found q) in
       let at_old = at ∙ (λ i. cond (same_ip ip q) (Some (lost i)) (lookup (same_ip q) (same i))) in
-      at_each old new ip q is_lost tries at_old are.each ∙ sym (one_try tries (record { ip = ip; is_lost = is_lost }) q);
+      at_each old new ip q loss tries at_old are.each ∙ sym (one_try tries (record { ip = ip; loss = loss }) q);
 }
 
 -- the attempts of one line more
-pub tries_on : (race : Race) (lines : List Line) (i : ℕ) (d : Line) (tries : List Try) (lost : Bool) → i < length lines → lost ≡ is_lost race (get_or lines i d)
-    → (tries ++ map (try_of race) (take i lines)) ++ record { ip = (get_or lines i d).ip; is_lost = lost } ∷ [] ≡ tries ++ map (try_of race) (take (i + 1) lines)
-tries_on race lines i d tries lost lt is =
+pub tries_on : (race : Race) (lines : List Line) (i : ℕ) (d : Line) (tries : List Try) (loss : Option Loss) → i < length lines → loss ≡ loss_of race (get_or lines i d)
+    → (tries ++ map (try_of race) (take i lines)) ++ record { ip = (get_or lines i d).ip; loss = loss } ∷ [] ≡ tries ++ map (try_of race) (take (i + 1) lines)
+tries_on race lines i d tries loss lt is =
     append_assoc tries _ _
     ∙ ap (λ (t : List Try). tries ++ t)
-    ((λ j. map (try_of race) (take i lines) ++ record { ip = (get_or lines i d).ip; is_lost = is j } ∷ [])
+    ((λ j. map (try_of race) (take i lines) ++ record { ip = (get_or lines i d).ip; loss = is j } ∷ [])
     ∙ sym (map-append (try_of race) (take i lines) (get_or lines i d ∷ [])) ∙ ap (map (try_of race)) (sym (take_more lines i d lt)))

@@ -1,5 +1,5 @@
 -- Mirrors the code: how one race, or one attempt, more is counted. What is counted stands in `Courses` and `Tries`.
-use Rattle.std.specs.Prelude.{ℕ, ◌+◌, ◌<◌, ◌^◌, if◌then◌else◌, Bool, List, length, max, Some, None}
+use Rattle.std.specs.Prelude.{ℕ, ◌+◌, ◌<◌, ◌^◌, if◌then◌else◌, List, length, max, Option, Some, None}
 use Rattle.he_addr.specs.declared.ip.Family.TheVariants as families
 use Rattle.he_addr.specs.declared.ip.Ip.{Ip}
 use Rattle.he_summary.specs.Tries.{AreTallies, Try}
@@ -7,6 +7,8 @@ use Rattle.he_summary.specs.declared.counts.Counts.{Counts}
 use Rattle.he_summary.specs.declared.course.Course.{Course}
 use Rattle.he_summary.specs.declared.course.Ending.{Ending}
 use Rattle.he_summary.specs.declared.course.Ending.TheVariants.{Won, Exhausted, Limit}
+use Rattle.he_summary.specs.declared.tallies.Loss.{Loss}
+use Rattle.he_summary.specs.declared.tallies.Loss.TheVariants as losses
 use Rattle.he_summary.specs.declared.tallies.Tally.{Tally}
 
 -- one race more can be counted, of so many attempts
@@ -39,9 +41,10 @@ counted counts course =
     }
 
 -- a tally with one attempt more
-abbrev pub tried : Tally → Bool → Tally
-tried tally is_lost =
-    record { failed = (if is_lost then tally.failed + 1 else tally.failed); attempts = tally.attempts + 1 }
+abbrev pub tried : Tally → Option Loss → Tally
+tried tally None = record tally { attempts = tally.attempts + 1 }
+tried tally (Some losses.Failed) = record tally { failed = tally.failed + 1; attempts = tally.attempts + 1 }
+tried tally (Some losses.Silent) = record tally { silent = tally.silent + 1; attempts = tally.attempts + 1 }
 
 -- so many attempts more can be counted
 abbrev pub MayTally : List (Ip × Tally) → ℕ → Type 0

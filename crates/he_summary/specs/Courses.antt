@@ -1,5 +1,5 @@
 -- How races went, by their transcripts, and what is counted of them.
-use Rattle.std.specs.Prelude.{ℕ, ◌==◌, Bool, true, false, List, [], ◌∷◌, length, count_by, find, max, option_map, nat_lt, Option, Some, None}
+use Rattle.std.specs.Prelude.{ℕ, ◌==◌, ◌&&◌, Bool, true, false, List, [], ◌∷◌, length, count_by, find, max, option_map, nat_lt, Option, Some, None}
 use Rattle.std.specs.List.{sum_by}
 use Rattle.he_addr.specs.Ip.{family_of}
 use Rattle.he_addr.specs.declared.ip.Family.{Family}
@@ -35,11 +35,16 @@ abbrev pub is_missing : Race → ℕ → Option Reply → Bool
 is_missing race t None = true
 is_missing race t (Some reply) = nat_lt t (seen race reply.tick)
 
--- the Resolution Delay was waited out (RFC 8305 section 3): the AAAA answer is not seen by the start of the first
--- attempt
+-- the answer is seen before t
+abbrev pub is_seen_before : Race → ℕ → Option Reply → Bool
+is_seen_before race t None = false
+is_seen_before race t (Some reply) = nat_lt (seen race reply.tick) t
+
+-- the Resolution Delay was waited out (RFC 8305 section 3): the A answer is seen before the start of the first attempt,
+-- and the AAAA answer is not seen by then. Where both are at one tick nothing was waited for
 abbrev pub has_waited : Race → List Line → Bool
 has_waited race [] = false
-has_waited race (first ∷ more) = is_missing race first.tick race.aaaa
+has_waited race (first ∷ more) = is_seen_before race first.tick race.a && is_missing race first.tick race.aaaa
 
 abbrev pub course_of : Raced → Course
 course_of raced =

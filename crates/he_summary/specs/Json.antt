@@ -18,7 +18,8 @@ abbrev pub tally_json : Ip × Tally → List ℕ
 tally_json tallied =
     codes "{\"address\":\""
     ++ (printed tallied.0
-    ++ filled (codes "\",\"failed\":#,\"attempts\":#}") (tallied.1.failed ∷ tallied.1.attempts ∷ []))
+    ++ filled (codes "\",\"failed\":#,\"silent\":#,\"attempts\":#}")
+    (tallied.1.failed ∷ tallied.1.silent ∷ tallied.1.attempts ∷ []))
 
 abbrev pub more_json : Ip × Tally → List ℕ
 more_json tallied = codes "," ++ tally_json tallied

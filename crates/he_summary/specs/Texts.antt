@@ -14,11 +14,13 @@ spread_text (Some spread) =
     filled (codes "time to connect: median # ms, 90 of 100 within # ms, 99 of 100 within # ms, greatest # ms\n")
     (spread.median ∷ spread.p90 ∷ spread.p99 ∷ spread.greatest ∷ [])
 
--- FAILED of ATTEMPTS attempts to ADDRESS
+-- FAILED failed, SILENT silent of ATTEMPTS attempts to ADDRESS
 abbrev pub tally_text : Ip × Tally → List ℕ
 tally_text tallied =
-    filled (words_for tallied.1.attempts (codes "  # of # attempt to ") (codes "  # of # attempts to "))
-    (tallied.1.failed ∷ tallied.1.attempts ∷ [])
+    filled
+    (words_for tallied.1.attempts (codes "  # failed, # silent of # attempt to ")
+    (codes "  # failed, # silent of # attempts to "))
+    (tallied.1.failed ∷ tallied.1.silent ∷ tallied.1.attempts ∷ [])
     ++ (printed tallied.0 ++ codes "\n")
 
 -- nothing where no attempt failed or was silent

@@ -62,15 +62,19 @@ fn family_at(lines: &[Line], place: usize) -> Option<Family>
         .map(|line| line.ip.family())
 }
 
-// Whether the first attempt starts before the AAAA answer is seen: then it waited for the Resolution Delay.
+// Whether the first attempt waited for the Resolution Delay: the A answer is seen before its start, and the AAAA answer
+// is not seen by then.
 fn has_waited<A: Allocator>(race: &Timeline<A>, lines: &[Line]) -> bool
     ensures value { result ≡ has_waited race.now lines.now }
     ensures race { IsRace race.now }
 {
-    let answer = race.answer(Family::V6);
-    match (lines.first(), answer) {
-        (Some(first), Some(answer)) => first.tick < race.seen(answer.0),
-        (Some(_), None) => true,
-        (None, _) => false,
+    let aaaa = race.answer(Family::V6);
+    let a = race.answer(Family::V4);
+    match (lines.first(), a, aaaa) {
+        (Some(first), Some(a), Some(aaaa)) => {
+            race.seen(a.0) < first.tick && first.tick < race.seen(aaaa.0)
+        }
+        (Some(first), Some(a), None) => race.seen(a.0) < first.tick,
+        _ => false,
     }
 }

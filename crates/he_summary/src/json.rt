@@ -97,8 +97,8 @@ fn write_tally<A: Allocator + Copy>(
     text.extend_from_slice(b"{\"address\":\"")?;
     write_ip(ip, text)?;
     write_filled(
-        b"\",\"failed\":#,\"attempts\":#}",
-        &[tally.failed, tally.attempts],
+        b"\",\"failed\":#,\"silent\":#,\"attempts\":#}",
+        &[tally.failed, tally.silent, tally.attempts],
         text,
     )
 }

@@ -9,15 +9,15 @@
 //! attempts: 2610, at most 6 in a race
 //! the Resolution Delay was waited out in 17 races
 //! failed or silent most often:
-//!   120 of 340 attempts to 2001:db8:1::1
-//!   9 of 9 attempts to 198.51.100.1
+//!   20 failed, 100 silent of 340 attempts to 2001:db8:1::1
+//!   9 failed, 0 silent of 9 attempts to 198.51.100.1
 //! ```
 //!
 //! Proved, whatever the inputs: what is written tells of the transcripts of all races of the inputs, each input up to
 //! its first fault, which is the result (`specs/Summed`). The counts are of these transcripts (`specs/Courses`). A
 //! time to connect is the least one within which so many of 100 of the races that are won connect (`specs/Times`). The
-//! addresses are the ten to which most attempts failed or were silent, each with the number of these attempts and of
-//! all attempts to it (`specs/Tries`). The texts are exact (`specs/Texts`, `specs/Json`).
+//! addresses are the ten to which most attempts failed or were silent, each with the number of those that failed, of
+//! those that were silent and of all attempts to it (`specs/Tries`). The texts are exact (`specs/Texts`, `specs/Json`).
 //!
 //! Not proved: that a call succeeds where memory is granted.
 #![tactic(auto)]

@@ -95,10 +95,10 @@ fn write_tally<A: Allocator + Copy>(
 {
     let words = words_for(
         tally.attempts,
-        b"  # of # attempt to ",
-        b"  # of # attempts to ",
+        b"  # failed, # silent of # attempt to ",
+        b"  # failed, # silent of # attempts to ",
     );
-    write_filled(words, &[tally.failed, tally.attempts], text)?;
+    write_filled(words, &[tally.failed, tally.silent, tally.attempts], text)?;
     write_ip(ip, text)?;
     text.push(b'\n')?;
     Ok(())

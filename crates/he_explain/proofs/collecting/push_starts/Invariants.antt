@@ -1,5 +1,5 @@
 use Rattle.std.proofs.Common.{◌≡◌, ◌++◌, drop}
-use Rattle.std.specs.Prelude.{None}
+use Rattle.std.specs.Prelude.{None, Some}
 use Rattle.he_plan.specs.Planning.{interlaced_list}
 use Rattle.he_explain.specs.Events.{start_events}
 use Rattle.he_explain.proofs.collecting.push_starts.Given as goal
@@ -8,4 +8,4 @@ abbrev pub invariant-loop-line : goal.invariant-loop-line
 invariant-loop-line g l =
     (l.list.ips.items ≡ interlaced_list l.timeline l.list.v6 l.list.v4)
     × (l.events.items ++ start_events l.timeline l.last l.failed (drop l.line-index l.lines)
-    ≡ l.initial.events.items ++ start_events l.timeline None 0 l.lines)
+    ≡ l.initial.events.items ++ start_events l.timeline None (Some 0) l.lines)

@@ -4,10 +4,10 @@ use Rattle.he_race.proofs.Learnt.{heard-attempts, heard-order, heard-starts}
 use Rattle.he_race.proofs.laws.one_more_answer_above.Goals as goal
 
 pub returns-clause-starts : goal.returns-clause-starts
-returns-clause-starts c = λ race family now known r none. heard-starts race r family none now known (cleaned family (ips_of known)) (cleaned-own family (ips_of known))
+returns-clause-starts c = λ race family now answer r none. heard-starts race r family none now answer (cleaned family (ips_of answer.known)) (cleaned-own family (ips_of answer.known))
 
 pub returns-clause-order : goal.returns-clause-order
-returns-clause-order c = λ race family now known r none. heard-order race r family none now known (cleaned family (ips_of known)) (cleaned-own family (ips_of known))
+returns-clause-order c = λ race family now answer r none. heard-order race r family none now answer (cleaned family (ips_of answer.known)) (cleaned-own family (ips_of answer.known))
 
 pub returns-clause-attempts : goal.returns-clause-attempts
-returns-clause-attempts c = λ race family now known r none. heard-attempts race r family none now known (cleaned family (ips_of known)) (cleaned-own family (ips_of known))
+returns-clause-attempts c = λ race family now answer r none. heard-attempts race r family none now answer (cleaned family (ips_of answer.known)) (cleaned-own family (ips_of answer.known))

@@ -1,9 +1,8 @@
-use Rattle.std.proofs.Common.{◌-◌, length}
-use Rattle.he_check.specs.Steps.{HasCounted}
+use Rattle.he_check.specs.Steps.{HasGone, IsOpen, steps_left}
 use Rattle.he_check.proofs.counting.Counted.go_on.Given as goal
 
-abbrev pub invariant-loop-race : goal.invariant-loop-race
-invariant-loop-race g l = HasCounted l.bytes l.self.reader l.self.warnings.items
+abbrev pub invariant-loop : goal.invariant-loop
+invariant-loop g l = HasGone l.ending l.bytes l.fn.self l.self × IsOpen l.self
 
-abbrev pub decreases-loop-race : goal.decreases-loop-race
-decreases-loop-race g l = length l.bytes - l.self.reader.end
+abbrev pub decreases-loop : goal.decreases-loop
+decreases-loop g l = steps_left l.bytes l.self

@@ -9,15 +9,15 @@ returns-clause-turn g c =
 
 pub returns-clause-value : goal.returns-clause-value
 returns-clause-value g c =
-    poll-gives g.C.Connector g.C.Run.Trial (PolledAt g.C.Connector g.C.Run.Trial) g.T.Ticker Replays (polled-ends g.C.Connector g.C.Run.Trial) (polled-goes g.C.Connector g.C.Run.Trial) (polled-winner-goes g.C.Connector g.C.Run.Trial) (polled-aims-on g.C.Connector g.C.Run.Trial) c.args.self.now _ c.poll_hearing.result c.requires (returns-clause-turn g c)
+    poll-gives g.C.Connector g.C.Run.Trial (PolledAt g.C.Connector g.C.Run.Trial) g.T.Ticker Replays Replays (polled-ends g.C.Connector g.C.Run.Trial) (polled-goes g.C.Connector g.C.Run.Trial) (polled-winner-goes g.C.Connector g.C.Run.Trial) (polled-aims-on g.C.Connector g.C.Run.Trial) c.args.self.now _ c.poll_hearing.result c.requires (returns-clause-turn g c)
 
 pub returns-clause-again : goal.returns-clause-again
 returns-clause-again g c =
-    poll-again g.C.Connector g.C.Run.Trial (PolledAt g.C.Connector g.C.Run.Trial) g.T.Ticker Replays (polled-ends g.C.Connector g.C.Run.Trial) (polled-goes g.C.Connector g.C.Run.Trial) (polled-winner-goes g.C.Connector g.C.Run.Trial) (polled-aims-on g.C.Connector g.C.Run.Trial) c.args.self.now _ c.poll_hearing.result c.requires (returns-clause-turn g c)
+    poll-again g.C.Connector g.C.Run.Trial (PolledAt g.C.Connector g.C.Run.Trial) g.T.Ticker Replays Replays (polled-ends g.C.Connector g.C.Run.Trial) (polled-goes g.C.Connector g.C.Run.Trial) (polled-winner-goes g.C.Connector g.C.Run.Trial) (polled-aims-on g.C.Connector g.C.Run.Trial) c.args.self.now _ c.poll_hearing.result c.requires (returns-clause-turn g c)
 
 pub returns-clause-same : goal.returns-clause-same
 returns-clause-same g c =
-    poll-same g.C.Connector g.C.Run.Trial (PolledAt g.C.Connector g.C.Run.Trial) g.T.Ticker Replays (polled-ends g.C.Connector g.C.Run.Trial) (polled-goes g.C.Connector g.C.Run.Trial) (polled-winner-goes g.C.Connector g.C.Run.Trial) (polled-aims-on g.C.Connector g.C.Run.Trial) c.args.self.now _ c.poll_hearing.result c.requires (returns-clause-turn g c)
+    poll-same g.C.Connector g.C.Run.Trial (PolledAt g.C.Connector g.C.Run.Trial) g.T.Ticker Replays Replays (polled-ends g.C.Connector g.C.Run.Trial) (polled-goes g.C.Connector g.C.Run.Trial) (polled-winner-goes g.C.Connector g.C.Run.Trial) (polled-aims-on g.C.Connector g.C.Run.Trial) c.args.self.now _ c.poll_hearing.result c.requires (returns-clause-turn g c)
 
 pub poll_hearing-requires : goal.poll_hearing-requires
 poll_hearing-requires g c = kept-of g.C.Connector g.C.Run.Trial c.args.self.now.connector c.args.self.now.live c.requires

@@ -1,3 +1,4 @@
+use Rattle.he_race.specs.Heard.{lists_of}
 use Rattle.he_race.proofs.Listening.{heard-family, if-none, listens_on, on_ok}
 use Rattle.he_race.proofs.recorder.Recorder.hear_of.Goals as goal
 
@@ -6,7 +7,7 @@ returns-in-Pending-clause-waits g c = if-none _ _ c.in-Pending.ensures.waits
 
 pub returns-in-Ready-clause-waits : goal.returns-in-Ready-clause-waits
 returns-in-Ready-clause-waits g c =
-    heard-family c.answer-in-Ready.result _ _ c.args.family _ _ _ _ c.answer-in-Ready.ensures.recorded
+    heard-family c.answer-in-Ready.result _ _ c.args.family _ (lists_of c.in-Ready.told) _ _ c.answer-in-Ready.ensures.recorded
 
 pub returns-in-Pending-clause-other : goal.returns-in-Pending-clause-other
 returns-in-Pending-clause-other g c =

@@ -16,7 +16,7 @@ add_try-requires g c =
 pub loop-line-preserved : goal.loop-line-preserved
 loop-line-preserved g c = λ tries are.
     let before = tries ++ map (try_of c.args.race.now) (take c.loop-line.line-index c.attempts-line-items.result.now) in
-    subst (λ (t : List Try). AreTallies t c.add_try.new.self) (tries_on c.args.race.now c.attempts-line-items.result.now c.loop-line.line-index _ tries c.is_lost.result c.loop-line-test.true c.is_lost.ensures)
+    subst (λ (t : List Try). AreTallies t c.add_try.new.self) (tries_on c.args.race.now c.attempts-line-items.result.now c.loop-line.line-index _ tries c.loss_of.result c.loop-line-test.true c.loss_of.ensures)
     (c.in_ok-add_try.ensures before (c.loop-line.invariant tries are))
 
 pub returns : goal.returns

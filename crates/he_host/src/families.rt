@@ -1,0 +1,89 @@
+// Which families this machine can use.
+//
+// Proved is that it is safe and ends; what the system answers is in no contract.
+
+use crate::if_inet6::{make_source, read_address_line};
+use crate::ipv4_route::read_v4_line;
+use crate::kernel::{NO_SCOPE, ROOT_SERVER_V4, ROOT_SERVER_V6, ask_source};
+use crate::lines::read_lines;
+use crate::machine::MachineFault;
+use crate::taken::read_link_in;
+use he_addr::prefix::V6_BITS;
+use he_addr::{Family, Ip};
+use std::alloc::AllocGlobal;
+use std::fs::File;
+use std::io::Read;
+use std::net::Net;
+use std::rt::Files as FileSystem;
+
+// How many bytes of a file of routes or addresses are read: those of a machine that has some stand at its head.
+const MOST_BYTES: u64 = 8_192;
+
+// The scope of a link and of the loopback interface (RFC 6724 section 3.1).
+const LINK_SCOPE: u8 = 2;
+
+// The first bytes of a file, up to a line's end; none where it isn't there.
+fn read_head<R: FileSystem + AllocGlobal>(rt: &R, path: &str) -> Result<Vec<u8>, MachineFault> {
+    let mut head = Vec::new(rt.alloc());
+    if let Ok(file) = File::open(rt, path) {
+        file.take(MOST_BYTES).read_to_end(&mut head)?;
+    }
+    let end = head.iter().rposition(|byte| *byte == b'\n').unwrap_or(0);
+    head.truncate(end);
+    Ok(head)
+}
+
+fn is_wide(ip: Ip) -> bool {
+    ip.is_usable() && ip.scope() > LINK_SCOPE
+}
+
+// Whether an IPv6 address beyond the scope of a link is in use, on a network.
+fn has_v6_network<R: FileSystem + AllocGlobal>(rt: &R) -> Result<bool, MachineFault> {
+    let text = read_head(rt, "/proc/net/if_inet6")?;
+    for line in read_lines(rt.alloc(), &text)?.iter() {
+        if let Some(read) = read_address_line(line.text) {
+            let source = make_source(read, read_link_in(rt, line.text)?);
+            if source.is_ok_and(|source| source.plen < V6_BITS && is_wide(source.ip)) {
+                return Ok(true);
+            }
+        }
+    }
+    Ok(false)
+}
+
+// Whether there is an IPv4 route that leads to a network.
+fn has_v4_network<R: FileSystem + AllocGlobal>(rt: &R) -> Result<bool, MachineFault> {
+    let text = read_head(rt, "/proc/net/route")?;
+    for line in read_lines(rt.alloc(), &text)?.iter() {
+        if let Some(read) = read_v4_line(line.text) {
+            if !read.nowhere && is_wide(Ip::V4(read.destination)) {
+                return Ok(true);
+            }
+        }
+    }
+    Ok(false)
+}
+
+/// Whether this machine can use a family: it has a source of it beyond loopback and the scope of a link, and a way
+/// (AI_ADDRCONFIG of RFC 3493 section 6.1, with a route beside the address). The kernel is asked from where it reaches
+/// the internet, which sends nothing; where it does not, a network of this machine's own will do.
+///
+/// # Errors
+///
+/// [`MachineFault::Memory`]: an allocation was refused.
+pub fn can_use<R: FileSystem + Net + AllocGlobal>(
+    rt: &R,
+    family: Family,
+) -> Result<bool, MachineFault> {
+    let far = match family {
+        Family::V6 => ROOT_SERVER_V6,
+        Family::V4 => ROOT_SERVER_V4,
+    };
+    if ask_source(rt, far, NO_SCOPE).is_some_and(is_wide) {
+        return Ok(true);
+    }
+    match family {
+        Family::V6 => has_v6_network(rt),
+        Family::V4 => has_v4_network(rt),
+    }
+}
