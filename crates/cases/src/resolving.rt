@@ -7,7 +7,9 @@ use futures::Future;
 use futures::task::{Context, Poll, Solo};
 use he_addr::{Family, Ip, Memory};
 use he_plan::{Transcript, transcript_of};
-use he_race::{Answer, AnswerSource, Known, RaceFault, Raced, ResolvingRace, Scripted, TickFault, Ticker};
+use he_race::{
+    Answer, AnswerSource, Known, RaceFault, Raced, ResolvingRace, Scripted, TickFault, Ticker,
+};
 use he_timeline::{Timeline, TimelineBuilder};
 use std::alloc::Global;
 use std::mem::drop;
