@@ -1,6 +1,6 @@
 -- What is written of an input: a text of each of its races up to the first fault, and the fault.
 use Rattle.std.specs.Prelude.{ℕ, ◌≡◌, false, List, Option}
-use Rattle.he_explain.specs.Course.{IsExplanation}
+use Rattle.he_course.specs.Course.{IsExplanation}
 use Rattle.he_timeline.specs.Race.{Race}
 use Rattle.he_plan.specs.Transcript.{IsTranscript, Report}
 use Rattle.he_inputs.specs.declared.input_fault.InputFault.{InputFault}

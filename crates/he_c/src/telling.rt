@@ -1,13 +1,13 @@
 // The races of an input, told one after the other.
 
 ghost use Rattle.std.specs.Prelude.{◌≡◌, ◌++◌, IfOk, OnOk};
-ghost use Rattle.he_explain.specs.Course.{IsExplanation};
+ghost use Rattle.he_course.specs.Course.{IsExplanation};
 ghost use Rattle.he_write.specs.Written.{transcript_text};
 ghost use Rattle.he_c.specs.Outputs.{IsOrderText, IsOutput, IsTextOf, IsTranscriptText};
 ghost use Rattle.he_c.specs.Telling.{WritesRace};
 
 use he_addr::Memory;
-use he_explain::write_explanation;
+use he_course::write_explanation;
 use he_inputs::{Ending, InputFault, RaceReader, RaceReaderFault};
 use he_plan::{Transcript, transcript_of};
 use he_timeline::Timeline;

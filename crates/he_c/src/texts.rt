@@ -1,7 +1,7 @@
 // The exported functions that write what an input comes to.
 
 ghost use Rattle.std.specs.Prelude.{◌≡◌, ◌≢◌};
-ghost use Rattle.he_explain.specs.Course.{IsExplanation};
+ghost use Rattle.he_course.specs.Course.{IsExplanation};
 ghost use Rattle.he_c.specs.Answers.{LeavesNothing};
 ghost use Rattle.he_c.specs.Checks.{LeavesCheck};
 ghost use Rattle.he_c.specs.Outputs.{IsOrderText, IsTextOf, IsTranscriptText, LeavesOutput};

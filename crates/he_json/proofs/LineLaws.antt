@@ -17,16 +17,16 @@ use Rattle.he_plan.specs.declared.transcript.Outcome3.TheVariants as results
 use Rattle.he_select.specs.declared.deciding.DestinationRule.{DestinationRule}
 use Rattle.he_select.specs.declared.deciding.DestinationRule.TheVariants as rules
 use Rattle.he_select.specs.declared.attributes.DestinationAttributes.{DestinationAttributes}
-use Rattle.he_explain.specs.declared.cause.Cause.{Cause}
-use Rattle.he_explain.specs.declared.cause.Cause.TheVariants as causes
-use Rattle.he_explain.specs.declared.events.Event.{Event}
-use Rattle.he_explain.specs.declared.events.EventKind.{EventKind}
-use Rattle.he_explain.specs.declared.events.EventKind.TheVariants as kinds
-use Rattle.he_explain.specs.declared.listing.Listed.{Listed}
-use Rattle.he_explain.specs.declared.listing.Turn.{Turn}
-use Rattle.he_explain.specs.declared.listing.Turn.TheVariants as whose
-use Rattle.he_explain.specs.Course.{course}
-use Rattle.he_explain.specs.Reasons.{Decision, all_attributes_of}
+use Rattle.he_course.specs.declared.cause.Cause.{Cause}
+use Rattle.he_course.specs.declared.cause.Cause.TheVariants as causes
+use Rattle.he_course.specs.declared.events.Event.{Event}
+use Rattle.he_course.specs.declared.events.EventKind.{EventKind}
+use Rattle.he_course.specs.declared.events.EventKind.TheVariants as kinds
+use Rattle.he_course.specs.declared.listing.Listed.{Listed}
+use Rattle.he_course.specs.declared.listing.Turn.{Turn}
+use Rattle.he_course.specs.declared.listing.Turn.TheVariants as whose
+use Rattle.he_course.specs.Course.{course}
+use Rattle.he_course.specs.Reasons.{Decision, all_attributes_of}
 use Rattle.he_json.specs.Events.{cause_members, event_json, event_named, family_name, kind_members, listed_members, number_member, turn_name}
 use Rattle.he_json.specs.Explanation.{explanation_json, explanation_object}
 use Rattle.he_json.specs.Json.{address, address_or_null, member, number_or_null, object, truth}

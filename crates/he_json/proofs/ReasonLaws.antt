@@ -12,7 +12,7 @@ use Rattle.he_select.specs.Deciding.{deciding_rule}
 use Rattle.he_select.specs.Selection.{SelectionInput}
 use Rattle.he_select.specs.Attributes.{rule_between, attributes_of}
 use Rattle.he_select.proofs.DecidedRules.{deciding_is}
-use Rattle.he_explain.specs.Reasons.{Decision, rule_text, all_attributes_of}
+use Rattle.he_course.specs.Reasons.{Decision, rule_text, all_attributes_of}
 use Rattle.he_json.specs.Json.{object}
 use Rattle.he_json.specs.Orders.{place_members}
 use Rattle.he_json.specs.Reasons.{behind_members, name_of, number_of, order_reasons, reason_members, reasoned_json, reasoned_places}

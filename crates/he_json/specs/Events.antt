@@ -2,15 +2,15 @@
 use Rattle.std.specs.Prelude.{ℕ, ◌++◌, Bool, List, [], ◌∷◌, decimal, codes}
 use Rattle.he_addr.specs.declared.ip.Family.{Family}
 use Rattle.he_addr.specs.declared.ip.Family.TheVariants as families
-use Rattle.he_explain.specs.declared.cause.Cause.{Cause}
-use Rattle.he_explain.specs.declared.cause.Cause.TheVariants as causes
-use Rattle.he_explain.specs.declared.events.Event.{Event}
-use Rattle.he_explain.specs.declared.events.EventKind.{EventKind}
-use Rattle.he_explain.specs.declared.events.EventKind.TheVariants as kinds
-use Rattle.he_explain.specs.declared.events.Start.{Start}
-use Rattle.he_explain.specs.declared.listing.Listed.{Listed}
-use Rattle.he_explain.specs.declared.listing.Turn.{Turn}
-use Rattle.he_explain.specs.declared.listing.Turn.TheVariants as turns
+use Rattle.he_course.specs.declared.cause.Cause.{Cause}
+use Rattle.he_course.specs.declared.cause.Cause.TheVariants as causes
+use Rattle.he_course.specs.declared.events.Event.{Event}
+use Rattle.he_course.specs.declared.events.EventKind.{EventKind}
+use Rattle.he_course.specs.declared.events.EventKind.TheVariants as kinds
+use Rattle.he_course.specs.declared.events.Start.{Start}
+use Rattle.he_course.specs.declared.listing.Listed.{Listed}
+use Rattle.he_course.specs.declared.listing.Turn.{Turn}
+use Rattle.he_course.specs.declared.listing.Turn.TheVariants as turns
 use Rattle.he_json.specs.Json.{address, member, object, quoted, truth}
 
 abbrev pub words_member : List ℕ → List ℕ → List ℕ

@@ -2,7 +2,7 @@
 use Rattle.std.specs.Prelude.{ℕ, ◌≡◌, ◌++◌, List, [], ◌∷◌, codes, map}
 use Rattle.he_timeline.specs.Race.{Race}
 use Rattle.he_plan.specs.Transcript.{IsTranscript, Report}
-use Rattle.he_explain.specs.Course.{course}
+use Rattle.he_course.specs.Course.{course}
 use Rattle.he_json.specs.Events.{event_json}
 use Rattle.he_json.specs.Json.{array, member, object}
 use Rattle.he_json.specs.Reasons.{order_reasons}

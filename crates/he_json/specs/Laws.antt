@@ -6,7 +6,7 @@ use Rattle.he_addr.specs.Printing.{printed}
 use Rattle.he_timeline.specs.Race.{Race}
 use Rattle.he_plan.specs.Transcript.{Report}
 use Rattle.he_select.specs.declared.deciding.DestinationRule.{DestinationRule}
-use Rattle.he_explain.specs.Reasons.{rule_text}
+use Rattle.he_course.specs.Reasons.{rule_text}
 use Rattle.he_json.specs.Explanation.{explanation_json}
 use Rattle.he_json.specs.Orders.{order_json}
 use Rattle.he_json.specs.Reasons.{name_of, number_of}

@@ -3,7 +3,7 @@ use Rattle.std.specs.Prelude.{ℕ, ◌≡◌, ◌+◌, ◌++◌, List, [], ◌�
 use Rattle.he_timeline.specs.Race.{Race}
 use Rattle.he_select.specs.declared.attributes.DestinationAttributes.{DestinationAttributes}
 use Rattle.he_select.specs.Attributes.{sourced_from}
-use Rattle.he_explain.specs.Reasons.{all_attributes_of}
+use Rattle.he_course.specs.Reasons.{all_attributes_of}
 use Rattle.he_json.specs.Json.{address, address_or_null, array, member, object}
 
 -- an address at its place, with the source that the host uses for it, or null where the host does not reach it

@@ -5,7 +5,7 @@ use Rattle.he_select.specs.declared.deciding.DestinationRule.{DestinationRule}
 use Rattle.he_select.specs.declared.deciding.DestinationRule.TheVariants as rules
 use Rattle.he_select.specs.declared.attributes.DestinationAttributes.{DestinationAttributes}
 use Rattle.he_select.specs.Deciding.{deciding_rule}
-use Rattle.he_explain.specs.Reasons.{Decision, of_source, all_attributes_of}
+use Rattle.he_course.specs.Reasons.{Decision, of_source, all_attributes_of}
 use Rattle.he_json.specs.Json.{member, number_or_null, object, quoted}
 use Rattle.he_json.specs.Orders.{place_members}
 

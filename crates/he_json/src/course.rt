@@ -1,7 +1,7 @@
 // The events of a race as JSON.
 
 ghost use Rattle.std.specs.Prelude.{◌≡◌, ◌++◌, ◌∷◌, [], codes, map, OnOk};
-ghost use Rattle.he_explain.specs.Reasons.{all_attributes_of};
+ghost use Rattle.he_course.specs.Reasons.{all_attributes_of};
 ghost use Rattle.he_json.specs.Events.{answered_members, attempt_members, cause_members, delay_members, event_json, family_name, kind_members, listed_members, start_members, turn_name, words_member};
 ghost use Rattle.he_json.specs.Explanation.{course_json};
 ghost use Rattle.he_json.specs.Json.{array};
@@ -9,7 +9,7 @@ ghost use Rattle.he_json.specs.Members.{parted};
 
 use crate::members::{Member, Value, write_members, write_words};
 use he_addr::{Family, Memory};
-use he_explain::{
+use he_course::{
     Cause, Event, EventKind, Listed, Start, Turn, collect_events, end_tick, sort_events,
 };
 use he_plan::Transcript;

@@ -13,7 +13,7 @@ use he_timeline::Timeline;
 use std::alloc::Allocator;
 
 // The addresses are sorted once: the order is told of them, and the course takes its lists from it.
-#[tactic(auto, unfolding(he_explain::specs::Reasons::all_attributes_of))]
+#[tactic(auto, unfolding(he_course::specs::Reasons::all_attributes_of))]
 fn write_explained<A: Allocator + Copy, B: Allocator, C: Allocator>(
     alloc: A,
     timeline: &Timeline<B>,
@@ -45,7 +45,7 @@ fn explanation_text<A: Allocator + Copy, B: Allocator>(
 
 /// Appends what explains the race as one JSON object and a line end: its usable addresses in order of preference,
 /// each with what puts it behind the one before, and its events up to its end in order of ticks, as
-/// [`he_explain::write_explanation`] writes them line by line. (It stands on one line.)
+/// [`he_course::write_explanation`] writes them line by line. (It stands on one line.)
 ///
 /// ```text
 /// {"order":[{"place":0,"address":"2001:db8:1::1","source":"2001:db8::2"},

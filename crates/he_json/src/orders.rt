@@ -71,7 +71,7 @@ fn write_order<A: Allocator + Copy>(
 }
 
 // The order in a text of its own, so that nothing is appended of one that memory does not suffice for.
-#[tactic(auto, unfolding(he_explain::specs::Reasons::all_attributes_of))]
+#[tactic(auto, unfolding(he_course::specs::Reasons::all_attributes_of))]
 fn order_text<A: Allocator + Copy, B: Allocator>(
     alloc: A,
     timeline: &Timeline<B>,

@@ -2,7 +2,7 @@
 
 ghost use Rattle.std.specs.Prelude.{◌≡◌, ◌++◌, ◌∷◌, [], codes, decimal, None, OnOk};
 ghost use Rattle.he_select.specs.Attributes.{rule_between};
-ghost use Rattle.he_explain.specs.Reasons.{of_source};
+ghost use Rattle.he_course.specs.Reasons.{of_source};
 ghost use Rattle.he_json.specs.Json.{member, number_or_null};
 ghost use Rattle.he_json.specs.Members.{parted};
 ghost use Rattle.he_json.specs.Orders.{place_members};

@@ -2,7 +2,7 @@
 use Rattle.std.proofs.Common.{ℕ, ◌≡◌, ◌++◌, List, Bool, true, false, Option, ap, sym, ◌∙◌, subst}
 use Rattle.he_draw.specs.Picture.{picture_text}
 use Rattle.he_draw.specs.Svg.{IsSvg, svg_text}
-use Rattle.he_explain.specs.Course.{explanation_text}
+use Rattle.he_course.specs.Course.{explanation_text}
 use Rattle.he_json.specs.Explanation.{explanation_json}
 use Rattle.he_json.specs.Transcripts.{transcript_json}
 use Rattle.he_page.specs.Page.{section_text}

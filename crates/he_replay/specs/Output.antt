@@ -2,7 +2,7 @@
 use Rattle.std.specs.Prelude.{ℕ, ◌≡◌, ◌+◌, ◌++◌, Bool, true, false, List, [], ◌∷◌, Option}
 use Rattle.he_draw.specs.Picture.{IsPicture}
 use Rattle.he_draw.specs.Svg.{IsSvg}
-use Rattle.he_explain.specs.Course.{IsExplanation}
+use Rattle.he_course.specs.Course.{IsExplanation}
 use Rattle.he_json.specs.Explanation.{IsExplanationJson}
 use Rattle.he_json.specs.Orders.{IsOrderJson}
 use Rattle.he_json.specs.Transcripts.{IsTranscriptJson}

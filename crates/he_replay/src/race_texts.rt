@@ -7,7 +7,7 @@ ghost use Rattle.he_replay.specs.Rounds.{IsAsked, WritesText};
 use crate::limits::TEXT_ROOM;
 use he_addr::Memory;
 use he_draw::{Look, write_picture, write_svg};
-use he_explain::write_explanation;
+use he_course::write_explanation;
 use he_json::{write_explanation_json, write_order_json, write_transcript_json};
 use he_page::write_section;
 use he_plan::{Transcript, transcript_of};

@@ -14,7 +14,7 @@ use Rattle.he_select.specs.Deciding.{deciding_rule}
 use Rattle.he_select.specs.Selection.{SelectionInput}
 use Rattle.he_select.specs.Attributes.{rule_between, attributes_of}
 use Rattle.he_select.proofs.DecidedRules.{deciding_is}
-use Rattle.he_explain.specs.Reasons.{Decision, all_attributes_of}
+use Rattle.he_course.specs.Reasons.{Decision, all_attributes_of}
 use Rattle.he_story.specs.Parts.{right_aligned}
 use Rattle.he_story.specs.Preferred.{address_line, address_lines, behind_text, is_routed, kind_text, listed_text, preferred_text, reached_text, reason_text, title_text}
 

@@ -10,7 +10,7 @@ use Rattle.he_timeline.specs.Seen.{seen}
 use Rattle.he_timeline.specs.Race.{Race, Reply}
 use Rattle.he_timeline.specs.Timeline.{is_of}
 use Rattle.he_plan.specs.Transcript.{Report}
-use Rattle.he_explain.specs.Events.{end_event}
+use Rattle.he_course.specs.Events.{end_event}
 
 abbrev pub name_of : Family → List ℕ
 name_of families.V6 = codes "AAAA"

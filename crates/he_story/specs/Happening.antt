@@ -9,17 +9,17 @@ use Rattle.he_addr.specs.Printing.{printed}
 use Rattle.he_plan.specs.declared.transcript.Line.{Line}
 use Rattle.he_timeline.specs.Race.{Race, reply_of}
 use Rattle.he_plan.specs.Transcript.{Report}
-use Rattle.he_explain.specs.declared.cause.Cause.{Cause}
-use Rattle.he_explain.specs.declared.cause.Cause.TheVariants as causes
-use Rattle.he_explain.specs.declared.events.Event.{Event}
-use Rattle.he_explain.specs.declared.events.EventKind.{EventKind}
-use Rattle.he_explain.specs.declared.events.EventKind.TheVariants as kinds
-use Rattle.he_explain.specs.declared.events.Start.{Start}
-use Rattle.he_explain.specs.declared.listing.Listed.{Listed}
-use Rattle.he_explain.specs.declared.listing.Turn.{Turn}
-use Rattle.he_explain.specs.declared.listing.Turn.TheVariants as turns
-use Rattle.he_explain.specs.Course.{course}
-use Rattle.he_explain.specs.Events.{end_event, is_seen_by}
+use Rattle.he_course.specs.declared.cause.Cause.{Cause}
+use Rattle.he_course.specs.declared.cause.Cause.TheVariants as causes
+use Rattle.he_course.specs.declared.events.Event.{Event}
+use Rattle.he_course.specs.declared.events.EventKind.{EventKind}
+use Rattle.he_course.specs.declared.events.EventKind.TheVariants as kinds
+use Rattle.he_course.specs.declared.events.Start.{Start}
+use Rattle.he_course.specs.declared.listing.Listed.{Listed}
+use Rattle.he_course.specs.declared.listing.Turn.{Turn}
+use Rattle.he_course.specs.declared.listing.Turn.TheVariants as turns
+use Rattle.he_course.specs.Course.{course}
+use Rattle.he_course.specs.Events.{end_event, is_seen_by}
 use Rattle.he_story.specs.Parts.{counted, right_aligned, unless}
 
 -- why an attempt starts now (RFC 8305 sections 3 and 5, and the floor of our own)

@@ -14,7 +14,7 @@ use Rattle.he_select.specs.declared.selection.LabelledSource.{LabelledSource}
 use Rattle.he_select.specs.declared.attributes.DestinationAttributes.{DestinationAttributes}
 use Rattle.he_select.specs.Deciding.{deciding_rule}
 use Rattle.he_select.specs.Selection.{serves}
-use Rattle.he_explain.specs.Reasons.{Decision, of_source, all_attributes_of}
+use Rattle.he_course.specs.Reasons.{Decision, of_source, all_attributes_of}
 use Rattle.he_story.specs.Parts.{right_aligned}
 
 -- what an address stands for, by its prefix: 64:ff9b::/96 (RFC 6052), 2002::/16 (RFC 3056), 2001::/32 (RFC 4380)

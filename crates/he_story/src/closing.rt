@@ -5,12 +5,12 @@ ghost use Rattle.std.specs.List.{list_any};
 ghost use Rattle.he_addr.specs.Ip.{is_usable};
 ghost use Rattle.he_timeline.specs.Race.{reply_of};
 ghost use Rattle.he_timeline.specs.Timeline.{is_of};
-ghost use Rattle.he_explain.specs.Events.{end_event};
+ghost use Rattle.he_course.specs.Events.{end_event};
 ghost use Rattle.he_story.specs.Closing.{answer_text, closing_text, first_of, gap_text, missing_text, name_of, seen_text};
 
 use crate::parts::{LinePart, write_parts};
 use he_addr::{Family, Ip, Memory};
-use he_explain::end_tick;
+use he_course::end_tick;
 use he_plan::{Line, Transcript};
 use he_timeline::Timeline;
 use std::alloc::Allocator;

@@ -5,15 +5,15 @@ ghost use Rattle.std.specs.List.{concat, flat_map};
 ghost use Rattle.he_addr.specs.Ip.{family_of};
 ghost use Rattle.he_addr.specs.Printing.{printed};
 ghost use Rattle.he_timeline.specs.Race.{reply_of};
-ghost use Rattle.he_explain.specs.Events.{is_seen_by};
-ghost use Rattle.he_explain.specs.Reasons.{all_attributes_of};
+ghost use Rattle.he_course.specs.Events.{is_seen_by};
+ghost use Rattle.he_course.specs.Reasons.{all_attributes_of};
 ghost use Rattle.he_story.specs.Happening.{answer_of, answered_text, became_text, cause_text, event_line, events_text, happening_text, held_text, kind_text, listed_text, other_of, other_text, start_text, still_missing, taken, tick_width, turn_text};
 
 use crate::parts::{
     LinePart, unless, width_of, write_aligned, write_counted, write_parts, write_words,
 };
 use he_addr::{Family, Memory};
-use he_explain::{
+use he_course::{
     Cause, Event, EventKind, Listed, Start, Turn, collect_events, end_tick, sort_events,
 };
 use he_plan::{Line, Transcript};

@@ -3,7 +3,7 @@
 ghost use Rattle.std.specs.Prelude.{◌≡◌, ◌++◌, ◌+◌, decimal, length, None, OnOk};
 ghost use Rattle.he_select.specs.Selection.{serves};
 ghost use Rattle.he_select.specs.Attributes.{rule_between};
-ghost use Rattle.he_explain.specs.Reasons.{of_source, all_attributes_of};
+ghost use Rattle.he_course.specs.Reasons.{of_source, all_attributes_of};
 ghost use Rattle.he_story.specs.Preferred.{address_line, address_lines, behind_text, is_routed, kind_text, listed_text, preferred_text, reached_text, reason_text, rtts_text, title_text, unlike_text, values_text};
 
 use crate::parts::{LinePart, width_of, write_aligned, write_parts, write_words};

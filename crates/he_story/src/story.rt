@@ -1,7 +1,7 @@
 // The story of a race, for a person to read.
 
 ghost use Rattle.std.specs.Prelude.{◌≡◌, ◌++◌, [], IfOk, OnOk, OnErr};
-ghost use Rattle.he_explain.specs.Reasons.{all_attributes_of};
+ghost use Rattle.he_course.specs.Reasons.{all_attributes_of};
 ghost use Rattle.he_story.specs.Story.{IsStory, Tells, story_text};
 
 use crate::closing::write_closing;
@@ -14,7 +14,7 @@ use he_plan::{Transcript, sorted_attributes, transcript_of};
 use he_timeline::Timeline;
 use std::alloc::Allocator;
 
-#[tactic(auto, unfolding(he_explain::specs::Reasons::all_attributes_of))]
+#[tactic(auto, unfolding(he_course::specs::Reasons::all_attributes_of))]
 fn write_told<A: Allocator + Copy, B: Allocator, C: Allocator>(
     alloc: A,
     timeline: &Timeline<B>,

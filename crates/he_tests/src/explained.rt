@@ -3,7 +3,7 @@
 
 use crate::explanations::RACES;
 use he_addr::Memory;
-use he_explain::write_explanation;
+use he_course::write_explanation;
 use he_text::{TextKind, read_race};
 use he_timeline::Timeline;
 use refusing::{Refusing, refused_in_turn};

@@ -1,7 +1,7 @@
 use Rattle.std.proofs.Common.{◌≡◌, ℕ, List, [], ◌∷◌, ◌++◌, ◌∙◌, subst, codes}
 use Rattle.std.specs.Prelude.{None, OnOk}
 use Rattle.he_select.specs.Attributes.{rule_between}
-use Rattle.he_explain.specs.Reasons.{all_attributes_of}
+use Rattle.he_course.specs.Reasons.{all_attributes_of}
 use Rattle.he_json.specs.Explanation.{course_json}
 use Rattle.he_json.specs.Json.{array, member, object}
 use Rattle.he_json.specs.Reasons.{reasoned_places}

@@ -1,0 +1,12 @@
+mod CauseLaws
+mod CourseLaws
+mod EventLaws
+mod FloorCauses
+mod FloorLaws
+mod InterlacedLaws
+mod LaterLaws
+mod LeastFloor
+mod ListedLaws
+mod OneRule
+mod SortLaws
+mod StartLaws
