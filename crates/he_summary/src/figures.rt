@@ -1,8 +1,10 @@
 //! What is told of races, figure by figure.
-ghost use Rattle.std.specs.Prelude.{◌≡◌, ◌++◌, OnOk};
+ghost use Rattle.std.specs.Prelude.{◌≡◌, ◌++◌, ◌<◌, [], ◌∷◌, OnOk};
 ghost use Rattle.std.specs.List.{flat_map};
 ghost use Rattle.he_print.specs.Parts.{fact_of};
-ghost use Rattle.he_summary.specs.Figures.{count_facts, end_facts, figure_facts, share, share_facts, spread_facts, tally_facts, time_facts, lost_facts, totals_facts};
+ghost use Rattle.he_print.specs.declared.part.Fact.TheVariants as facts;
+ghost use Rattle.he_summary.specs.declared.figures.Said.TheVariants.{NoOne};
+ghost use Rattle.he_summary.specs.Figures.{count_facts, end_facts, figure_facts, lost_facts, share, share_facts, tally_facts, time_facts, told, totals_facts};
 
 use crate::kept::Loss;
 use crate::tallies::Tally;
@@ -28,7 +30,7 @@ pub enum Said {
     Races,
     Are(Kind),
     /// No race has such a number.
-    None(Value),
+    NoOne(Value),
     Count(Value),
     Total(Value),
     Median(Value),
@@ -75,12 +77,12 @@ fn push_counts<A: Allocator>(
     push_figures(
         form,
         &[
-            figure(Said::Races, races, 0),
-            figure(Said::Are(Kind::Won), counts.won, races),
-            figure(Said::Are(Kind::WonBy(Family::V6)), counts.by_v6, races),
-            figure(Said::Are(Kind::WonBy(Family::V4)), counts.by_v4, races),
-            figure(Said::Are(Kind::Exhausted), counts.exhausted, races),
-            figure(Said::Are(Kind::Limit), counts.limit, races),
+            told(Said::Races, races, 0),
+            told(Said::Are(Kind::Won), counts.won, races),
+            told(Said::Are(Kind::WonBy(Family::V6)), counts.by_v6, races),
+            told(Said::Are(Kind::WonBy(Family::V4)), counts.by_v4, races),
+            told(Said::Are(Kind::Exhausted), counts.exhausted, races),
+            told(Said::Are(Kind::Limit), counts.limit, races),
         ],
         text,
     )
@@ -98,10 +100,10 @@ fn push_times<A: Allocator>(
         Some(times) => push_figures(
             form,
             &[
-                figure(Said::Median(value), times.median, 0),
-                figure(Said::P90(value), times.p90, 0),
-                figure(Said::P99(value), times.p99, 0),
-                figure(Said::Greatest(value), times.greatest, 0),
+                told(Said::Median(value), times.median, 0),
+                told(Said::P90(value), times.p90, 0),
+                told(Said::P99(value), times.p99, 0),
+                told(Said::Greatest(value), times.greatest, 0),
             ],
             text,
         ),
@@ -123,10 +125,10 @@ fn push_lost<A: Allocator>(
         Some(lost) => push_figures(
             form,
             &[
-                figure(Said::Count(value), lost.count, won),
-                figure(Said::Total(value), lost.total, 0),
-                figure(Said::Median(value), lost.median, 0),
-                figure(Said::Greatest(value), lost.greatest, 0),
+                told(Said::Count(value), lost.count, won),
+                told(Said::Total(value), lost.total, 0),
+                told(Said::Median(value), lost.median, 0),
+                told(Said::Greatest(value), lost.greatest, 0),
             ],
             text,
         ),
@@ -139,9 +141,9 @@ fn push_none<A: Allocator>(
     value: Value,
     text: &mut Vec<Part<Said>, A>,
 ) -> Result<(), Memory>
-    ensures { OnOk result (flat_map fact_of text.new.items ≡ flat_map fact_of text.old.items ++ none_facts value) }
+    ensures { OnOk result (flat_map fact_of text.new.items ≡ flat_map fact_of text.old.items ++ facts.Said (NoOne value) ∷ []) }
 {
-    let said = Said::None(value);
+    let said = Said::NoOne(value);
     push_parts(&[Part::Says(said, before(form, said))], text)
 }
 
@@ -162,9 +164,9 @@ fn push_end<A: Allocator>(
     push_figures(
         form,
         &[
-            figure(Said::Total(value), total, 0),
-            figure(Said::Greatest(value), greatest, 0),
-            figure(Said::Are(Kind::Waited), counts.waited, counts.races),
+            told(Said::Total(value), total, 0),
+            told(Said::Greatest(value), greatest, 0),
+            told(Said::Are(Kind::Waited), counts.waited, counts.races),
         ],
         text,
     )
@@ -173,26 +175,38 @@ fn push_end<A: Allocator>(
 // Tells of the attempts to an address.
 pub(crate) fn push_tally<A: Allocator>(
     form: Form,
-    ip: Ip,
-    tally: Tally,
+    tallied: (Ip, Tally),
     text: &mut Vec<Part<Said>, A>,
 ) -> Result<(), Memory>
-    ensures { OnOk result (flat_map fact_of text.new.items ≡ flat_map fact_of text.old.items ++ tally_facts form ip tally) }
+    ensures { OnOk result (flat_map fact_of text.new.items ≡ flat_map fact_of text.old.items ++ tally_facts form tallied) }
 {
-    push_address(form, ip, text)?;
+    let (ip, tally) = tallied;
     push_figures(
         form,
         &[
-            figure(Said::Failed, tally.failed, 0),
-            figure(Said::Silent, tally.silent, 0),
-            figure(Said::Attempts, tally.attempts, 0),
+            told(Said::Failed, tally.failed, 0),
+            told(Said::Silent, tally.silent, 0),
+            told(Said::Attempts, tally.attempts, 0),
         ],
         text,
-    )
+    )?;
+    match form {
+        Form::Text => push_parts(&[Part::Words(b" to "), Part::Ip(ip), Part::Words(b"\n")], text),
+        Form::Json => {
+            push_parts(
+                &[
+                    Part::Words(b",\"address\":\""),
+                    Part::Ip(ip),
+                    Part::Words(b"\"}"),
+                ],
+                text,
+            )
+        }
+    }
 }
 
-fn figure(said: Said, number: u64, of: u64) -> Figure
-    ensures { result ≡ record { said = said; number = number; of = of } }
+fn told(said: Said, number: u64, of: u64) -> Figure
+    ensures { result ≡ told said number of }
 {
     Figure { said, number, of }
 }

@@ -2,12 +2,16 @@
 #![tactic(auto)]
 
 mod adding;
+pub mod figures;
 pub mod kept;
 pub mod races;
 pub mod tallies;
-pub mod totals;
 pub mod times;
+pub mod totals;
+mod words;
+mod writing;
 
+pub use figures::{Form, Said};
 pub use kept::{Ending, Kept, Loss, Place};
 pub use races::Races;
 pub use tallies::Tally;
