@@ -1,5 +1,5 @@
 -- What a summary says: figures, each with what it says, in their order.
-use Rattle.std.specs.Prelude.{ℕ, suc, ◌+◌, ◌*◌, ◌/◌, ◌%◌, ◌++◌, List, [], ◌∷◌, min, Option, Some, None}
+use Rattle.std.specs.Prelude.{ℕ, zero, suc, ◌+◌, ◌*◌, ◌/◌, ◌%◌, ◌++◌, List, [], ◌∷◌, min, Option, Some, None}
 use Rattle.std.specs.List.{flat_map}
 use Rattle.std.specs.Option.{option_map_or}
 use Rattle.he_addr.specs.declared.ip.Family.TheVariants as families
@@ -31,7 +31,7 @@ share_facts number of = facts.Number (share number of / 10) ∷ facts.Number (sh
 
 -- in lines alone, and of none
 abbrev pub shown_share : Form → ℕ → ℕ → List (Fact Said)
-shown_share forms.Text number 0 = []
+shown_share forms.Text number zero = []
 shown_share forms.Text number (suc of) = share_facts number (suc of)
 shown_share forms.Json number of = []
 

@@ -270,7 +270,7 @@ fn push_share<A: Allocator>(
 }
 
 // Of a thousand, rounded to the nearest, and at most all of them.
-pub(crate) fn share(number: u64, of: u64) -> u64
+pub fn share(number: u64, of: u64) -> u64
     requires { 0 < of }
     ensures { result ≡ share number of }
 {

@@ -141,7 +141,7 @@ impl<A: Allocator + Copy> Races<A> {
         &self,
         form: Form,
         slowest: usize,
-        names: &[&str],
+        names: &[String],
         text: &mut Vec<u8, A>,
     ) -> Result<(), Memory>
         ensures { (runs : List Run) → HasSummed self.now runs

@@ -27,7 +27,7 @@ pub(crate) fn write_summary<A: Allocator + Copy>(
     races: &Races<A>,
     form: Form,
     slowest: usize,
-    names: &[&str],
+    names: &[String],
     text: &mut Vec<u8, A>,
 ) -> Result<(), Memory>
     ensures { (runs : List Run) → HasSummed races.now runs
@@ -112,7 +112,7 @@ fn write_slowest<A: Allocator + Copy>(
     alloc: A,
     form: Form,
     slow: &[Kept],
-    names: &[&str],
+    names: &[String],
     text: &mut Vec<u8, A>,
 ) -> Result<(), Memory>
     ensures { OnOk result (TellsSlow slow.now text.old.items text.new.items) }
@@ -127,12 +127,19 @@ fn write_slowest<A: Allocator + Copy>(
         if index > 0 && form == Form::Json {
             text.push(b',')?;
         }
-        let name = names.get(race.place.file).copied().unwrap_or("-");
-        write_name(form, name, text)?;
+        write_name(form, name_of(race.place.file, names), text)?;
         write_slow(alloc, form, race, text)?;
     }
     text.extend_from_slice(end)?;
     Ok(())
+}
+
+/// The name of this place; `-` where there is none.
+pub fn name_of(place: usize, names: &[String]) -> &str {
+    match names.get(place) {
+        Some(name) => name.as_str(),
+        None => "-",
+    }
 }
 
 // Appends the name of a file, which is as it may be shown.
