@@ -8,5 +8,6 @@ mod LaterLaws
 mod LeastFloor
 mod ListedLaws
 mod OneRule
+mod SoonerLaws
 mod SortLaws
 mod StartLaws
