@@ -13,3 +13,4 @@ mod OneRule
 mod SoonerLaws
 mod SortLaws
 mod StartLaws
+mod WaitLaws

@@ -7,7 +7,7 @@ use Rattle.he_addr.specs.Ip.{family_of, is_usable, same_ip}
 use Rattle.he_plan.specs.declared.attempts.Attempt.{Attempt}
 use Rattle.he_plan.specs.Attempts.{HasWaited, HaveFailed, IsAnswered, IsNext, is_tried, is_untried, last_of, order_at, received}
 use Rattle.he_timeline.specs.Seen.{IsFree, IsLeast, seen}
-use Rattle.he_timeline.specs.Race.{Race, reply_of}
+use Rattle.he_timeline.specs.Race.{Race, Reply, reply_of}
 use Rattle.he_timeline.specs.Timeline.{IsRace}
 use Rattle.he_plan.specs.declared.transcript.Line.{Line}
 use Rattle.he_plan.specs.declared.transcript.Mark.{Mark}
@@ -23,7 +23,7 @@ use Rattle.he_course.specs.declared.events.EventKind.TheVariants.{Started, Won, 
 use Rattle.he_course.specs.declared.cause.Cause.TheVariants.{AaaaAnswer, BothAnswers, ResolutionDelay, AttemptDelay, Floor, LastFailure, LaterAnswer}
 use Rattle.he_course.specs.Causes.{cause_of, due_of, last_failure}
 use Rattle.he_course.specs.Course.{events_in}
-use Rattle.he_course.specs.Events.{events_by_kind, start_event, start_events}
+use Rattle.he_course.specs.Events.{events_by_kind, is_waiting, start_event, start_events}
 use Rattle.he_course.specs.Listing.{listed_at}
 
 -- one rule decides between the two, and it is the one that is named
@@ -189,3 +189,10 @@ abbrev pub LinesStand : Type 0
 LinesStand =
     (race : Race) → IsRace race → (report : Report) → IsTranscript race report → (n : ℕ) (line : Line)
     → slice_get report.lines n ≡ Some line → HasStartAndEnd (events_in race report) line
+
+-- where the A answer has a usable address, the client waits for the AAAA answer just where the first attempt starts
+-- after the A answer is seen
+abbrev pub WaitsStand : Type 0
+WaitsStand =
+    (race : Race) → IsRace race → (a : Reply) → race.a ≡ Some a → IsTrue (list_any is_usable a.addresses)
+    → (next : Attempt) → IsNext race [] next → IsTrue (is_waiting race a) ↔ (seen race a.tick < next.tick)

@@ -1,6 +1,6 @@
 // Laws of the definitions. Each is the contract of a function that does nothing.
 
-ghost use Rattle.he_course.specs.Laws.{CausesStand, CourseStands, DuesStand, FloorsStand, LinesStand, OneRuleDecides, PlacesStand, StartsStand};
+ghost use Rattle.he_course.specs.Laws.{CausesStand, CourseStands, DuesStand, FloorsStand, LinesStand, OneRuleDecides, PlacesStand, StartsStand, WaitsStand};
 
 /// Between two members of a list just one rule decides, and that is the one which is named of their addresses.
 pub fn one_rule_decides()
@@ -35,4 +35,9 @@ pub fn starts_stand()
 /// just one end, as its mark says.
 pub fn lines_stand()
     ensures { LinesStand }
+{}
+
+/// A wait for the AAAA answer stands in a course just where it made the first attempt start later.
+pub fn waits_stand()
+    ensures { WaitsStand }
 {}
