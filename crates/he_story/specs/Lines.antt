@@ -1,5 +1,5 @@
 -- What the lines of a story say: a race's addresses in order of preference, and its events.
-use Rattle.std.specs.Prelude.{ℕ, ◌+◌, ◌-◌, ◌*◌, ◌^◌, ◌==◌, ◌&&◌, ◌×◌, ◌++◌, if◌then◌else◌, Bool, true, false, List, [], ◌∷◌, find, nat_le, nat_lt, option_map, slice_get, Option, Some, None}
+use Rattle.std.specs.Prelude.{ℕ, ◌+◌, ◌-◌, ◌*◌, ◌^◌, ◌==◌, ◌&&◌, ◌++◌, if◌then◌else◌, Bool, true, false, List, [], ◌∷◌, find, nat_le, nat_lt, option_map, slice_get, Option, Some, None}
 use Rattle.std.specs.List.{flat_map}
 use Rattle.std.specs.Option.{option_map_or}
 use Rattle.he_addr.specs.Bits.{agrees}
@@ -112,15 +112,15 @@ abbrev pub is_short : ℕ → EventKind → Bool
 is_short tick (kinds.Paused end) = nat_lt (end - tick) LEAST_PAUSE
 is_short tick _ = false
 
-abbrev pub ends_at : ℕ → EventKind → Bool
-ends_at tick (kinds.Paused end) = end == tick
-ends_at tick _ = false
+-- such a pause up to this tick
+abbrev pub is_short_to : ℕ → ℕ → EventKind → Bool
+is_short_to until tick (kinds.Paused end) = nat_lt (end - tick) LEAST_PAUSE && end == until
+is_short_to until tick _ = false
 
--- how long the client slept up to the tick, where that is too short for a line: what it sees then is so late at most
+-- how long the client slept up to a tick, where that is too short for a line: what it sees then is so late at most
 abbrev pub late_at : List Event → ℕ → Option ℕ
-late_at events tick =
-    option_map (λ pause. tick - pause.tick)
-    (find (λ event. is_short event.tick event.kind && ends_at tick event.kind) events)
+late_at events until =
+    option_map (λ pause. until - pause.tick) (find (λ event. is_short_to until event.tick event.kind) events)
 
 abbrev pub late_facts : Option ℕ → List (Fact Said)
 late_facts None = []
@@ -178,13 +178,17 @@ abbrev pub answered_facts : Family → Option ℕ → ℕ → List (Fact Said)
 answered_facts family late count = say (says.Answered family) ++ (late_facts late ++ number count)
 
 module _ {A : Type 0} (course : Course A) where
-  abbrev pub kind_facts : ℕ → Option ℕ → EventKind → List (Fact Said)
-  kind_facts tick late (kinds.Paused end) = facts.Said says.Paused ∷ facts.Number end ∷ []
-  kind_facts tick late (kinds.Answered family count) =
+  -- what the client meets: its pauses, the answers, and the wait for the AAAA answer
+  abbrev pub met_facts : ℕ → Option ℕ → EventKind → List (Fact Said)
+  met_facts tick late (kinds.Paused end) = facts.Said says.Paused ∷ facts.Number end ∷ []
+  met_facts tick late (kinds.Answered family count) =
       answered_facts family late count
       ++ other_facts (other_of family) (is_seen_by tick (answer_of course (other_of family)))
-  kind_facts tick late (kinds.Waits end) = facts.Said says.Waits ∷ facts.Number end ∷ []
-  kind_facts tick late kinds.DelayOver = say says.DelayOver ++ late_facts late
+  met_facts tick late (kinds.Waits end) = facts.Said says.Waits ∷ facts.Number end ∷ []
+  met_facts tick late kinds.DelayOver = say says.DelayOver ++ late_facts late
+  met_facts tick late _ = []
+
+  abbrev pub kind_facts : ℕ → Option ℕ → EventKind → List (Fact Said)
   kind_facts tick late (kinds.Failed place) =
       became_facts place (say says.Failed) (taken course.transcript.lines place tick) late
   kind_facts tick late (kinds.Started start) = start_facts start late
@@ -194,6 +198,7 @@ module _ {A : Type 0} (course : Course A) where
   kind_facts tick late kinds.Limit = say says.Limit
   kind_facts tick late (kinds.Cancelled place) =
       became_facts place (say says.Cancelled) (taken course.transcript.lines place tick) None
+  kind_facts tick late kind = met_facts tick late kind
 
   -- an event with its tick
   abbrev pub event_facts : Event → List (Fact Said)

@@ -1,5 +1,5 @@
 -- The story of a race, for a person to read.
-use Rattle.std.specs.Prelude.{ℕ, ◌≡◌, ◌-◌, ◌==◌, ◌&&◌, ◌×◌, ◌++◌, if◌then◌else◌, not, Bool, true, false, List, [], ◌∷◌, find, length, nat_le, nat_lt, take, Option, Some, None}
+use Rattle.std.specs.Prelude.{ℕ, ◌≡◌, ◌-◌, ◌==◌, ◌&&◌, ◌++◌, if◌then◌else◌, not, Bool, true, false, List, [], ◌∷◌, find, length, nat_le, nat_lt, take, Option, Some, None}
 use Rattle.std.specs.List.{flat_map, list_any}
 use Rattle.he_addr.specs.Ip.{is_v6}
 use Rattle.he_addr.specs.declared.ip.Family.{Family}

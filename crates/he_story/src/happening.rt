@@ -1,9 +1,9 @@
 // The course of a race: its events, a line each.
 
-ghost use Rattle.std.specs.Prelude.{◌≡◌, ◌++◌, option_map, OnOk};
+ghost use Rattle.std.specs.Prelude.{◌≡◌, ◌++◌, OnOk};
 ghost use Rattle.std.specs.List.{flat_map};
 ghost use Rattle.he_print.specs.Parts.{fact_of};
-ghost use Rattle.he_story.specs.Lines.{answered_facts, became_facts, cause_facts, event_facts, happening_facts, held_facts, is_seen_by, is_short, is_short_to, kind_facts, late_at, late_facts, listed_facts, met_facts, other_facts, other_of, paused_to, start_facts, taken, told};
+ghost use Rattle.he_story.specs.Lines.{answered_facts, became_facts, cause_facts, event_facts, happening_facts, held_facts, is_seen_by, is_short, is_short_to, kind_facts, late_at, late_facts, listed_facts, met_facts, other_facts, other_of, start_facts, taken, told};
 
 use crate::preferred::width_of;
 use crate::said::Said;
@@ -27,29 +27,26 @@ fn is_short(event: &Event) -> bool
     }
 }
 
-fn is_short_to(tick: u64, event: &Event) -> bool
-    ensures { result ≡ is_short_to tick event.now }
+// Whether it is such a pause up to this tick.
+fn is_short_to(until: u64, event: &Event) -> bool
+    ensures { result ≡ is_short_to until event.now.tick event.now.kind }
 {
     match event.kind {
-        EventKind::Paused(end) => is_short(event) && end == tick,
+        EventKind::Paused(end) => end.saturating_sub(event.tick) < LEAST_PAUSE && end == until,
         _ => false,
     }
 }
 
-fn paused_to(events: &[Event], tick: u64) -> Option<&Event>
-    ensures { option_map (λ event. event.now) result.entry ≡ paused_to tick events.now }
+// How long the client slept up to a tick, where that is too short for a line.
+fn late_at(events: &[Event], until: u64) -> Option<u64>
+    ensures { result ≡ late_at events.now until }
 {
-    events.iter().find(|event| is_short_to(tick, event))
-}
-
-// How long the client slept up to the tick, where that is too short for a line.
-fn late_at(events: &[Event], tick: u64) -> Option<u64>
-    ensures { result ≡ late_at events.now tick }
-{
-    match paused_to(events, tick) {
-        Some(pause) => Some(tick.saturating_sub(pause.tick)),
-        None => None,
+    for event in events {
+        if is_short_to(until, event) {
+            return Some(until.saturating_sub(event.tick));
+        }
     }
+    None
 }
 
 fn push_late<A: Allocator>(
@@ -375,7 +372,10 @@ fn push_kind<A: Allocator, B: Allocator>(
             &[Part::Says(Said::Limit, b"the limit: the race is given up")],
             story,
         ),
-        _ => push_met(course, event, late, story),
+        EventKind::Paused(_)
+        | EventKind::Answered(_, _)
+        | EventKind::Waits(_)
+        | EventKind::DelayOver => push_met(course, event, late, story),
     }
 }
 
