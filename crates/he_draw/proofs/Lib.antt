@@ -1,2 +1,0 @@
-mod RepeatLaws
-mod TextLaws

@@ -1,65 +1,100 @@
 // The first line of a picture: which race it is, and how it ended.
 
 ghost use Rattle.std.specs.Prelude.{◌≡◌, ◌++◌, OnOk};
-ghost use Rattle.he_draw.specs.Heading.{ending_text, heading_text};
+ghost use Rattle.std.specs.List.{flat_map};
+ghost use Rattle.he_print.specs.Parts.{fact_of};
+ghost use Rattle.he_draw.specs.Facts.{ending_facts, heading_facts, won_facts};
 
-use crate::parts::{LinePart, write_parts};
+use crate::said::Said;
 use he_addr::Memory;
-use he_plan::Outcome3;
+use he_course::Course;
+use he_plan::{Line, Outcome3};
+use he_print::{Part, push_parts};
 use std::alloc::Allocator;
 
-fn write_ending<A: Allocator + Copy>(ending: Outcome3, text: &mut Vec<u8, A>) -> Result<(), Memory>
-    ensures { OnOk result (text.new.items ≡ text.old.items ++ ending_text ending) }
+// race NUMBER, line LINE: ENDING
+#[tactic(auto, unfolding(crate::specs::Facts::heading_facts))]
+pub(crate) fn push_heading<A: Allocator, B: Allocator>(
+    course: &Course<B>,
+    parts: &mut Vec<Part<Said>, A>,
+) -> Result<(), Memory>
+    ensures { OnOk result (flat_map fact_of parts.new.items ≡ flat_map fact_of parts.old.items
+        ++ heading_facts course.now) }
+{
+    let place = [
+        Part::Words(b"race "),
+        Part::Number(course.number as u64),
+        Part::Words(b", line "),
+        Part::Number(course.line),
+        Part::Words(b": "),
+    ];
+    push_parts(&place, parts)?;
+    let ended = course.ended;
+    push_ending(ended.attempts, ended.winner, ended.result, parts)
+}
+
+// How it ended, in the words of a story (he_story).
+fn push_ending<A: Allocator>(
+    attempts: usize,
+    winner: Option<Line>,
+    ending: Outcome3,
+    parts: &mut Vec<Part<Said>, A>,
+) -> Result<(), Memory>
+    ensures { OnOk result (flat_map fact_of parts.new.items ≡ flat_map fact_of parts.old.items
+        ++ ending_facts attempts winner ending) }
 {
     match ending {
-        Outcome3::Won(place, tick) => write_parts(
+        Outcome3::Won(_, tick) => push_won(tick, attempts, winner, parts),
+        Outcome3::Exhausted(tick) => push_parts(
             &[
-                LinePart::Words(b"won after "),
-                LinePart::Number(tick),
-                LinePart::Words(b" ms by attempt "),
-                LinePart::Place(place),
-                LinePart::Words(b"\n"),
+                Part::Says(Said::NothingLeft, b"not connected: nothing is left to try after "),
+                Part::Number(tick),
+                Part::Words(b" ms and "),
+                Part::Number(attempts as u64),
+                Part::Words(attempts_word(attempts)),
             ],
-            text,
+            parts,
         ),
-        Outcome3::Exhausted(tick) => write_parts(
+        Outcome3::Limit(tick) => push_parts(
             &[
-                LinePart::Words(b"nothing left to try after "),
-                LinePart::Number(tick),
-                LinePart::Words(b" ms\n"),
+                Part::Says(Said::GivenUp, b"not connected by the limit of "),
+                Part::Number(tick),
+                Part::Words(b" ms, after "),
+                Part::Number(attempts as u64),
+                Part::Words(attempts_word(attempts)),
             ],
-            text,
-        ),
-        Outcome3::Limit(tick) => write_parts(
-            &[
-                LinePart::Words(b"given up at the limit of "),
-                LinePart::Number(tick),
-                LinePart::Words(b" ms\n"),
-            ],
-            text,
+            parts,
         ),
     }
 }
 
-// race NUMBER, line LINE: ENDING
-#[tactic(auto, unfolding(crate::specs::Heading::heading_text))]
-pub(crate) fn write_heading<A: Allocator + Copy>(
-    number: usize,
-    line: u64,
-    ending: Outcome3,
-    text: &mut Vec<u8, A>,
+fn attempts_word(count: usize) -> &'static [u8] {
+    if count == 1 { b" attempt" } else { b" attempts" }
+}
+
+fn push_won<A: Allocator>(
+    tick: u64,
+    attempts: usize,
+    winner: Option<Line>,
+    parts: &mut Vec<Part<Said>, A>,
 ) -> Result<(), Memory>
-    ensures { OnOk result (text.new.items ≡ text.old.items ++ heading_text number line ending) }
+    ensures { OnOk result (flat_map fact_of parts.new.items ≡ flat_map fact_of parts.old.items
+        ++ won_facts tick attempts winner) }
 {
-    write_parts(
+    let Some(winner) = winner else {
+        return Ok(());
+    };
+    push_parts(
         &[
-            LinePart::Words(b"race "),
-            LinePart::Number(number as u64),
-            LinePart::Words(b", line "),
-            LinePart::Number(line),
-            LinePart::Words(b": "),
+            Part::Says(Said::Connected, b"connected to "),
+            Part::Ip(winner.ip),
+            Part::Words(b" after "),
+            Part::Number(tick),
+            Part::Words(b" ms, by attempt "),
+            Part::Place(winner.place),
+            Part::Words(b" of "),
+            Part::Number(attempts as u64),
         ],
-        text,
-    )?;
-    write_ending(ending, text)
+        parts,
+    )
 }
