@@ -7,8 +7,8 @@ use Rattle.he_print.specs.declared.part.Fact.{Fact}
 use Rattle.he_print.specs.declared.part.Fact.TheVariants.{Said, Number, Times}
 use Rattle.he_draw.specs.declared.rows.Row.{Row}
 use Rattle.he_draw.specs.declared.rows.Row.TheVariants as rows
-use Rattle.he_draw.specs.declared.said.Said.{Said as Words}
-use Rattle.he_draw.specs.declared.said.Said.TheVariants as says
+use Rattle.he_story.specs.declared.said.Said.{Said as Words}
+use Rattle.he_story.specs.declared.said.Said.TheVariants as says
 use Rattle.he_draw.specs.Facts.{became, heading_facts, label_fact, stop_of_mark, words_facts}
 use Rattle.he_draw.specs.Rows.{end_of, rows_of}
 
@@ -38,10 +38,10 @@ times n = Times (n / 8) ∷ Times (n % 8) ∷ []
 
 -- what stands in so many columns and one more: an answer in the first, what became of an attempt in the last
 abbrev pub bar_facts : Row → ℕ → List (Fact Words)
-bar_facts (rows.Answered family tick usable) more = Said (says.Answer family) ∷ []
-bar_facts (rows.Waits from to usable) more = Said (says.Answer families.V4) ∷ times more
+bar_facts (rows.Answered family tick usable) more = Said (says.Answered family) ∷ []
+bar_facts (rows.Waits from to usable) more = Said (says.Answered families.V4) ∷ times more
 bar_facts (rows.Missing family) more = []
-bar_facts (rows.Paused from to) more = Said says.Pause ∷ times more
+bar_facts (rows.Paused from to) more = Said says.Paused ∷ times more
 bar_facts (rows.Tried line) more = times more ++ Said (became line.mark) ∷ []
 
 -- all columns of a row: those before its start, its own, and those after its end

@@ -6,7 +6,7 @@ use Rattle.he_print.specs.declared.part.Fact.{Fact}
 use Rattle.he_print.specs.declared.part.Fact.TheVariants.{Said, Number}
 use Rattle.he_draw.specs.declared.rows.Row.{Row}
 use Rattle.he_draw.specs.declared.rows.Row.TheVariants as rows
-use Rattle.he_draw.specs.declared.said.Said.{Said as Words}
+use Rattle.he_story.specs.declared.said.Said.{Said as Words}
 use Rattle.he_draw.specs.declared.shapes.TheConstants.{COLUMNS, LEFT, ROW, SIGN}
 use Rattle.he_draw.specs.Facts.{became, heading_facts, label_fact, stop_of_mark, words_facts}
 use Rattle.he_draw.specs.Picture.{column}

@@ -10,11 +10,11 @@ ghost use Rattle.he_draw.specs.Facts.{label_fact};
 use crate::frame::{Frame, column};
 use crate::look::{Look, Sign, eight, one};
 use crate::rows::Row;
-use crate::said::Said;
 use crate::words::{became, label, push_words, stop_of_mark};
 use he_addr::{Family, Memory};
 use he_plan::Mark;
 use he_print::{Part, push_parts};
+use he_story::Said;
 use std::alloc::Allocator;
 
 // How many signs are written at once.
@@ -92,14 +92,14 @@ fn push_bar<A: Allocator>(
     ensures { OnOk result (flat_map fact_of parts.new.items ≡ flat_map fact_of parts.old.items ++ bar_facts row more) }
 {
     match row {
-        Row::Answered(family, _, _) => push_sign(look, Sign::Answer, Said::Answer(family), parts),
+        Row::Answered(family, _, _) => push_sign(look, Sign::Answer, Said::Answered(family), parts),
         Row::Waits(_, _, _) => {
-            push_sign(look, Sign::Answer, Said::Answer(Family::V4), parts)?;
+            push_sign(look, Sign::Answer, Said::Answered(Family::V4), parts)?;
             push_times(look, Sign::Wait, more, parts)
         }
         Row::Missing(_) => push_parts(&[Part::Words(b" ")], parts),
         Row::Paused(_, _) => {
-            push_sign(look, Sign::Pause, Said::Pause, parts)?;
+            push_sign(look, Sign::Pause, Said::Paused, parts)?;
             push_times(look, Sign::Pause, more, parts)
         }
         Row::Tried(line) => {

@@ -5,10 +5,10 @@ ghost use Rattle.he_draw.specs.Picture.{column};
 
 use crate::look::Look;
 use crate::rows::Row;
-use crate::said::Said;
 use crate::words::{label, push_words};
 use he_addr::Memory;
 use he_print::{Part, write_parts};
+use he_story::Said;
 use std::alloc::Allocator;
 
 /// What all rows of a picture have in common: their look, how wide their labels are, how many columns the time has, and

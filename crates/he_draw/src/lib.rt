@@ -7,7 +7,7 @@
 //! themselves. Ticks are milliseconds.
 //!
 //! ```text
-//! race 1, line 1: connected to 198.51.100.1 after 340 ms, by attempt 2 of 2
+//! race 1, line 1: connected to 198.51.100.1 after 340 ms
 //! AAAA answer   |      o                                 | 60 ms, 1 usable
 //! A answer      |  o~~~~                                 | 25-60 ms wait, 1 usable
 //! 2001:db8:1::1 |      =====================x            | 60-240 ms failed
@@ -15,27 +15,37 @@
 //!                0                                 340 ms
 //! ```
 //!
+//! A page of races has [`write_head`], of each race [`write_section`], its rows as bars of HTML and its story
+//! (he_story), and [`write_tail`], with the totals; [`write_name`] writes the name of a text above its races. Races
+//! are written as they come. A page needs nothing from elsewhere and runs no script.
+//!
 //! Proved, for every race: the rows are those of `specs/Rows`, both answers, the pauses that begin before the end, and
 //! each attempt once, by place. What is appended says the facts of `specs/Picture` or `specs/Svg` in this order: how the
 //! race ended, and of each row whose it is, the columns before, in and after its bar, its ticks, and what became of it
-//! (`specs/Facts`). Where memory is refused, the vector is as it was.
+//! (`specs/Facts`). Where memory is refused, the vector is as it was. A section has the same rows with their ticks, and
+//! totals their numbers (`specs/Page`); no byte of a name or a story is read as a tag (`specs/Escaping`).
 //!
 //! Not proved: the words, signs and colours, that lines are as wide as the terminal, and how a viewer shows an image.
 #![tactic(auto)]
 
 mod drawing;
+pub mod escaping;
 mod frame;
 mod heading;
 pub mod look;
+pub mod page;
 pub mod picture;
 pub mod rows;
-pub mod said;
+pub mod section;
 mod shapes;
 pub mod svg;
+pub mod totals;
 mod words;
 
 pub use look::Look;
+pub use page::{write_head, write_name, write_tail};
 pub use picture::write_picture;
 pub use rows::{Row, collect_rows};
-pub use said::Said;
+pub use section::write_section;
 pub use svg::write_svg;
+pub use totals::{Times, Totals};

@@ -12,10 +12,10 @@ use crate::frame::{Frame, LEAST_COLUMNS, frame_of};
 use crate::heading::push_heading;
 use crate::look::Look;
 use crate::rows::collect_rows;
-use crate::said::Said;
 use he_addr::Memory;
 use he_course::Course;
 use he_print::{Part, push_parts, write_parts};
+use he_story::Said;
 use std::alloc::Allocator;
 
 /// Appends the picture of the race: a line on how it ended; a row for each answer, each pause that begins before the

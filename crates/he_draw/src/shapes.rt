@@ -10,11 +10,11 @@ use crate::drawing::sign_of_mark;
 use crate::frame::column;
 use crate::look::{Look, one};
 use crate::rows::Row;
-use crate::said::Said;
 use crate::words::{became, label, push_words, stop_of_mark};
 use he_addr::Memory;
 use he_plan::{Line, Mark};
 use he_print::{Part, push_parts};
+use he_story::Said;
 use std::alloc::Allocator;
 
 /// The time's first column in an image, how many it has, how high a row is, and how far after its bar what became of

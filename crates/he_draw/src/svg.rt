@@ -9,11 +9,11 @@ ghost use Rattle.he_draw.specs.Svg.{svg_facts, top_of};
 
 use crate::heading::push_heading;
 use crate::rows::collect_rows;
-use crate::said::Said;
 use crate::shapes::{push_shapes, top_of};
 use he_addr::Memory;
 use he_course::Course;
 use he_print::{Part, push_parts, write_parts};
+use he_story::Said;
 use std::alloc::Allocator;
 
 /// Appends the picture of the race as one SVG image: its title says how the race ended, and it has the rows of

@@ -6,10 +6,10 @@ ghost use Rattle.he_print.specs.Parts.{fact_of};
 ghost use Rattle.he_draw.specs.Facts.{became, label_fact, stop_of_mark, words_facts};
 
 use crate::rows::Row;
-use crate::said::Said;
 use he_addr::{Family, Memory};
 use he_plan::Mark;
 use he_print::{Part, push_parts};
+use he_story::Said;
 use std::alloc::Allocator;
 
 /// Of what a row is.
@@ -18,10 +18,10 @@ pub(crate) fn label(row: Row) -> Part<Said>
 {
     match row {
         Row::Answered(family, _, _) | Row::Missing(family) => {
-            Part::Says(Said::Answer(family), answer_words(family))
+            Part::Says(Said::Answered(family), answer_words(family))
         }
-        Row::Waits(_, _, _) => Part::Says(Said::Answer(Family::V4), answer_words(Family::V4)),
-        Row::Paused(_, _) => Part::Says(Said::Pause, b"pause"),
+        Row::Waits(_, _, _) => Part::Says(Said::Answered(Family::V4), answer_words(Family::V4)),
+        Row::Paused(_, _) => Part::Says(Said::Paused, b"pause"),
         Row::Tried(line) => Part::Ip(line.ip),
     }
 }
@@ -76,7 +76,7 @@ pub(crate) fn push_words<A: Allocator>(
                 Part::Number(tick),
                 Part::Words(b" ms, "),
                 Part::Number(usable as u64),
-                Part::Says(Said::Usable, b" usable"),
+                Part::Says(Said::ToTry, b" usable"),
             ],
             parts,
         ),
@@ -85,13 +85,13 @@ pub(crate) fn push_words<A: Allocator>(
                 Part::Number(from),
                 Part::Words(b"-"),
                 Part::Number(to),
-                Part::Says(Said::Wait, b" ms wait, "),
+                Part::Says(Said::Waits, b" ms wait, "),
                 Part::Number(usable as u64),
-                Part::Says(Said::Usable, b" usable"),
+                Part::Says(Said::ToTry, b" usable"),
             ],
             parts,
         ),
-        Row::Missing(_) => push_parts(&[Part::Says(Said::NoAnswer, b"none by the end")], parts),
+        Row::Missing(family) => push_parts(&[Part::Says(Said::NoAnswer(family), b"none by the end")], parts),
         Row::Paused(from, to) => push_parts(
             &[
                 Part::Number(from),

@@ -1,7 +1,7 @@
 use Rattle.std.proofs.Common.{◌≡◌, ◌++◌, drop}
 use Rattle.std.specs.List.{flat_map}
-use Rattle.he_page.specs.Page.{escaped}
-use Rattle.he_page.proofs.names.write_escaped.Given as goal
+use Rattle.he_draw.specs.Escaping.{escaped}
+use Rattle.he_draw.proofs.escaping.write_each.Given as goal
 
 abbrev pub invariant-loop-byte : goal.invariant-loop-byte
 invariant-loop-byte g l =
