@@ -12,6 +12,7 @@ use crate::setup::{Setup, set_up};
 use crate::source::{FamilyFaults, HostAnswers, LookupFaults};
 use crate::telling::Telling;
 use crate::tried::write_tried;
+use he_course::Course;
 use he_live::{Dialed, ResolvingRequest, Steps, resolving_race_on};
 use he_race::Raced;
 use he_resolver::{Lookup, NamesFault, SystemResolver, Wanted};
@@ -185,7 +186,8 @@ fn explain(alloc: Global, is_asked: bool, recorded: &Timeline) -> Result<Vec<u8>
 {
     let mut story = Vec::new(alloc);
     if is_asked {
-        write_story(alloc, recorded, 1, 1, &mut story)?;
+        let course = Course::of(alloc, recorded, 1, 1)?;
+        write_story(alloc, &course, &mut story)?;
     }
     Ok(story)
 }

@@ -1,34 +1,20 @@
-// The last lines of a story: answers that the race did not have, and how long an answer waited for an attempt.
+// The last lines of a story: answers that the race did not have, how long an answer waited for an attempt, and what a
+// floor would have changed.
 
 ghost use Rattle.std.specs.Prelude.{◌≡◌, ◌++◌, OnOk};
-ghost use Rattle.std.specs.List.{list_any};
-ghost use Rattle.he_addr.specs.Ip.{is_usable};
-ghost use Rattle.he_timeline.specs.Race.{reply_of};
+ghost use Rattle.he_story.specs.Story.{answer_facts, closing_facts, first_of, gap_facts, seen_facts, sooner_facts};
+ghost use Rattle.he_story.specs.Lines.{told};
 ghost use Rattle.he_timeline.specs.Timeline.{is_of};
-ghost use Rattle.he_course.specs.Events.{end_event};
-ghost use Rattle.he_story.specs.Closing.{answer_text, closing_text, first_of, gap_text, missing_text, name_of, seen_text};
 
-use crate::parts::{LinePart, write_parts};
+use crate::heading::push_ending;
+use crate::said::Said;
+use crate::words::of_family;
 use he_addr::{Family, Ip, Memory};
-use he_course::end_tick;
-use he_plan::{Line, Transcript};
-use he_timeline::Timeline;
+use he_course::{Course, Ended, Seen};
+use he_plan::Line;
+use he_print::{Part, push_parts};
+use he_timeline::limits::MIN_FLOOR;
 use std::alloc::Allocator;
-
-fn name_of(family: Family) -> &'static [u8]
-    ensures { result.now ≡ name_of family }
-{
-    match family {
-        Family::V6 => b"AAAA",
-        Family::V4 => b"A",
-    }
-}
-
-fn has_usable(ips: &[Ip]) -> bool
-    ensures { result ≡ list_any is_usable ips.now }
-{
-    ips.iter().any(|ip| ip.is_usable())
-}
 
 fn is_of(family: Family, ip: Ip) -> bool
     ensures { result ≡ is_of family ip }
@@ -49,107 +35,124 @@ fn first_of(family: Family, lines: &[Line]) -> Option<Line>
 }
 
 // How long an answer, seen at this tick, waited for the first attempt at one of its addresses.
-fn write_gap<A: Allocator + Copy>(
+fn push_gap<A: Allocator>(
     family: Family,
     seen: u64,
     first: Option<Line>,
-    text: &mut Vec<u8, A>,
+    story: &mut Vec<Part<Said>, A>,
 ) -> Result<(), Memory>
-    ensures { OnOk result (text.new.items ≡ text.old.items ++ gap_text family seen first) }
+    ensures { OnOk result (told story.new.items ≡ told story.old.items ++ gap_facts family seen first) }
 {
-    let name = LinePart::Words(name_of(family));
     match first {
-        Some(line) if seen < line.tick => write_parts(
-            &[
-                LinePart::Number(line.tick - seen),
-                LinePart::Words(b" ms passed between the "),
-                name,
-                LinePart::Words(b" answer and the first attempt at one of its addresses\n"),
-            ],
-            text,
-        ),
-        Some(_) => Ok(()),
-        None => write_parts(
-            &[
-                LinePart::Words(b"no address of the "),
-                name,
-                LinePart::Words(b" answer was tried\n"),
-            ],
-            text,
-        ),
+        Some(line) => {
+            if seen >= line.tick {
+                return Ok(());
+            }
+            let words = of_family(
+                family,
+                b" ms passed between the AAAA answer and the first attempt at one of its addresses",
+                b" ms passed between the A answer and the first attempt at one of its addresses",
+            );
+            push_parts(
+                &[
+                    Part::Words(b"\n"),
+                    Part::Number(line.tick - seen),
+                    Part::Says(Said::Passed(family), words),
+                ],
+                story,
+            )
+        }
+        None => {
+            let words = of_family(
+                family,
+                b"\nno address of the AAAA answer was tried",
+                b"\nno address of the A answer was tried",
+            );
+            push_parts(&[Part::Says(Said::Untried(family), words)], story)
+        }
     }
 }
 
-// An answer that is seen at this tick, in a race that ended at `end`.
-fn write_seen<A: Allocator + Copy>(
+// An answer that is seen, in a race that ended at `end`.
+fn push_seen<A: Allocator>(
     family: Family,
     end: u64,
     lines: &[Line],
-    seen: u64,
-    ips: &[Ip],
-    text: &mut Vec<u8, A>,
+    seen: Seen,
+    story: &mut Vec<Part<Said>, A>,
 ) -> Result<(), Memory>
-    ensures { OnOk result (text.new.items ≡ text.old.items ++ seen_text family end lines.now seen ips.now) }
+    ensures { OnOk result (told story.new.items ≡ told story.old.items ++ seen_facts family end lines.now seen) }
 {
-    if end < seen {
-        let name = LinePart::Words(name_of(family));
-        return write_parts(
+    if end < seen.tick {
+        let words = of_family(
+            family,
+            b"\nthe AAAA answer came at ",
+            b"\nthe A answer came at ",
+        );
+        return push_parts(
             &[
-                LinePart::Words(b"the "),
-                name,
-                LinePart::Words(b" answer came at "),
-                LinePart::Number(seen),
-                LinePart::Words(b" ms, after the end\n"),
+                Part::Says(Said::AfterEnd(family), words),
+                Part::Number(seen.tick),
+                Part::Words(b" ms, after the end"),
             ],
-            text,
+            story,
         );
     }
-    if !has_usable(ips) {
+    if seen.usable == 0 {
         return Ok(());
     }
-    write_gap(family, seen, first_of(family, lines), text)
+    push_gap(family, seen.tick, first_of(family, lines), story)
 }
 
-// An answer that never comes.
-fn write_missing<A: Allocator + Copy>(family: Family, text: &mut Vec<u8, A>) -> Result<(), Memory>
-    ensures { OnOk result (text.new.items ≡ text.old.items ++ missing_text family) }
-{
-    let name = LinePart::Words(name_of(family));
-    write_parts(
-        &[
-            LinePart::Words(b"no "),
-            name,
-            LinePart::Words(b" answer came\n"),
-        ],
-        text,
-    )
-}
-
-fn write_answer<A: Allocator + Copy, B: Allocator>(
-    timeline: &Timeline<B>,
+fn push_answer<A: Allocator, B: Allocator>(
+    course: &Course<B>,
     family: Family,
-    end: u64,
-    lines: &[Line],
-    text: &mut Vec<u8, A>,
+    story: &mut Vec<Part<Said>, A>,
 ) -> Result<(), Memory>
-    ensures { OnOk result (text.new.items ≡ text.old.items ++ answer_text timeline.now family end lines.now
-        (reply_of timeline.now family)) }
+    ensures { OnOk result (told story.new.items ≡ told story.old.items ++ answer_facts course.now family) }
 {
-    match timeline.answer(family) {
-        Some((tick, ips)) => write_seen(family, end, lines, timeline.seen(tick), ips, text),
-        None => write_missing(family, text),
+    match course.answer(family) {
+        Some(seen) => push_seen(
+            family,
+            course.end(),
+            course.transcript.attempts(),
+            seen,
+            story,
+        ),
+        None => {
+            let words = of_family(family, b"\nno AAAA answer came", b"\nno A answer came");
+            push_parts(&[Part::Says(Said::NoAnswer(family), words)], story)
+        }
     }
 }
 
-pub(crate) fn write_closing<A: Allocator + Copy, B: Allocator, C: Allocator>(
-    timeline: &Timeline<B>,
-    transcript: &Transcript<C>,
-    text: &mut Vec<u8, A>,
+pub(crate) fn push_closing<A: Allocator, B: Allocator>(
+    course: &Course<B>,
+    story: &mut Vec<Part<Said>, A>,
 ) -> Result<(), Memory>
-    ensures { OnOk result (text.new.items ≡ text.old.items ++ closing_text timeline.now transcript.now) }
+    ensures { OnOk result (told story.new.items ≡ told story.old.items ++ closing_facts course.now) }
 {
-    let end = end_tick(transcript.result());
-    let lines = transcript.attempts();
-    write_answer(timeline, Family::V6, end, lines, text)?;
-    write_answer(timeline, Family::V4, end, lines, text)
+    push_answer(course, Family::V6, story)?;
+    push_answer(course, Family::V4, story)
+}
+
+// How the race would have ended with the least floor, where that is sooner.
+pub(crate) fn push_sooner<A: Allocator>(
+    sooner: Option<Ended>,
+    story: &mut Vec<Part<Said>, A>,
+) -> Result<(), Memory>
+    ensures { OnOk result (told story.new.items ≡ told story.old.items ++ sooner_facts sooner) }
+{
+    let Some(ended) = sooner else {
+        return Ok(());
+    };
+    push_parts(
+        &[
+            Part::Says(Said::WithFloor, b"\nwith `set floor "),
+            Part::Number(MIN_FLOOR),
+            Part::Words(b"`: "),
+        ],
+        story,
+    )?;
+    push_ending(ended, story)
 }

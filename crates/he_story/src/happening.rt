@@ -1,122 +1,206 @@
-// What happened in a race: its events, a line each.
+// The course of a race: its events, a line each.
 
-ghost use Rattle.std.specs.Prelude.{◌≡◌, ◌++◌, ◌∷◌, ◌+◌, [], codes, decimal, length, map, OnOk};
-ghost use Rattle.std.specs.List.{concat, flat_map};
-ghost use Rattle.he_addr.specs.Ip.{family_of};
-ghost use Rattle.he_addr.specs.Printing.{printed};
-ghost use Rattle.he_timeline.specs.Race.{reply_of};
-ghost use Rattle.he_course.specs.Events.{is_seen_by};
-ghost use Rattle.he_course.specs.Reasons.{all_attributes_of};
-ghost use Rattle.he_story.specs.Happening.{answer_of, answered_text, became_text, cause_text, event_line, events_text, happening_text, held_text, kind_text, listed_text, other_of, other_text, start_text, still_missing, taken, tick_width, turn_text};
+ghost use Rattle.std.specs.Prelude.{◌≡◌, ◌++◌, OnOk};
+ghost use Rattle.std.specs.List.{flat_map};
+ghost use Rattle.he_print.specs.Parts.{fact_of};
+ghost use Rattle.he_story.specs.Lines.{answered_facts, became_facts, cause_facts, event_facts, happening_facts, held_facts, is_seen_by, is_short, is_short_to, kind_facts, late_at, late_facts, listed_facts, met_facts, other_facts, other_of, start_facts, taken, told};
 
-use crate::parts::{
-    LinePart, unless, width_of, write_aligned, write_counted, write_parts, write_words,
-};
+use crate::preferred::width_of;
+use crate::said::Said;
+use crate::words::{noun, of_family};
 use he_addr::{Family, Memory};
-use he_course::{
-    Cause, Event, EventKind, Listed, Start, Turn, collect_events, end_tick, sort_events,
-};
-use he_plan::{Line, Transcript};
-use he_select::DestinationAttributes;
-use he_timeline::Timeline;
+use he_course::{Cause, Course, Event, EventKind, Listed, Seen, Start, Turn};
+use he_plan::Line;
+use he_print::{Part, push_parts};
 use std::alloc::Allocator;
 
-// Why an attempt starts now.
-fn write_cause<A: Allocator + Copy>(cause: Cause, text: &mut Vec<u8, A>) -> Result<(), Memory>
-    ensures { OnOk result (text.new.items ≡ text.old.items ++ cause_text cause) }
+/// A pause of fewer milliseconds is no line of a story.
+pub const LEAST_PAUSE: u64 = 5;
+
+// Whether it is a pause that is too short for a line.
+fn is_short(event: &Event) -> bool
+    ensures { result ≡ is_short event.now.tick event.now.kind }
 {
-    match cause {
-        Cause::AaaaAnswer => write_words(b"the AAAA answer is there", text),
-        Cause::BothAnswers => write_words(b"both answers are there", text),
-        Cause::ResolutionDelay => write_words(b"the wait for the AAAA answer is over", text),
-        Cause::AttemptDelay(place, delay) => write_parts(
-            &[
-                LinePart::Number(delay),
-                LinePart::Words(b" ms after the start of attempt "),
-                LinePart::Place(place),
-            ],
-            text,
-        ),
-        Cause::Floor(place, floor) => write_parts(
-            &[
-                LinePart::Words(b"all before have failed, and the floor of "),
-                LinePart::Number(floor),
-                LinePart::Words(b" ms after attempt "),
-                LinePart::Place(place),
-                LinePart::Words(b" is over"),
-            ],
-            text,
-        ),
-        Cause::LastFailure(_) => write_parts(&[LinePart::Words(b"all before have failed")], text),
-        Cause::LaterAnswer(Family::V6) => write_words(b"it came with the AAAA answer", text),
-        Cause::LaterAnswer(Family::V4) => write_words(b"it came with the A answer", text),
+    match event.kind {
+        EventKind::Paused(end) => end.saturating_sub(event.tick) < LEAST_PAUSE,
+        _ => false,
     }
 }
 
-fn held_text(held: bool) -> &'static [u8]
-    ensures { result.now ≡ held_text held }
+// Whether it is such a pause up to this tick.
+fn is_short_to(until: u64, event: &Event) -> bool
+    ensures { result ≡ is_short_to until event.now.tick event.now.kind }
 {
-    if held {
-        b", late because of a pause"
-    } else {
-        b""
+    match event.kind {
+        EventKind::Paused(end) => end.saturating_sub(event.tick) < LEAST_PAUSE && end == until,
+        _ => false,
+    }
+}
+
+// How long the client slept up to a tick, where that is too short for a line.
+fn late_at(events: &[Event], until: u64) -> Option<u64>
+    ensures { result ≡ late_at events.now until }
+{
+    for event in events {
+        if is_short_to(until, event) {
+            return Some(until.saturating_sub(event.tick));
+        }
+    }
+    None
+}
+
+fn push_late<A: Allocator>(
+    late: Option<u64>,
+    story: &mut Vec<Part<Said>, A>,
+) -> Result<(), Memory>
+    ensures { OnOk result (told story.new.items ≡ told story.old.items ++ late_facts late) }
+{
+    match late {
+        Some(late) => push_parts(
+            &[
+                Part::Words(b" ("),
+                Part::Number(late),
+                Part::Says(Said::Late, b" ms late)"),
+            ],
+            story,
+        ),
+        None => Ok(()),
+    }
+}
+
+// Why an attempt starts now.
+fn push_cause<A: Allocator>(cause: Cause, story: &mut Vec<Part<Said>, A>) -> Result<(), Memory>
+    ensures { OnOk result (told story.new.items ≡ told story.old.items ++ cause_facts cause) }
+{
+    match cause {
+        Cause::AaaaAnswer => push_parts(
+            &[Part::Says(Said::AaaaThere, b"the AAAA answer is there")],
+            story,
+        ),
+        Cause::BothAnswers => push_parts(
+            &[Part::Says(Said::BothThere, b"both answers are there")],
+            story,
+        ),
+        Cause::ResolutionDelay => push_parts(
+            &[Part::Says(
+                Said::WaitIsOver,
+                b"the wait for the AAAA answer is over",
+            )],
+            story,
+        ),
+        Cause::AttemptDelay(place, delay) => push_parts(
+            &[
+                Part::Number(delay),
+                Part::Says(Said::AfterStart, b" ms after the start of attempt "),
+                Part::Place(place),
+            ],
+            story,
+        ),
+        Cause::Floor(place, floor) => push_parts(
+            &[
+                Part::Says(Said::FloorIsOver, b"all before have failed, and the floor of "),
+                Part::Number(floor),
+                Part::Words(b" ms after attempt "),
+                Part::Place(place),
+                Part::Words(b" is over"),
+            ],
+            story,
+        ),
+        Cause::LastFailure(_) => push_parts(
+            &[Part::Says(Said::AllFailed, b"all before have failed")],
+            story,
+        ),
+        Cause::LaterAnswer(family) => {
+            let words = of_family(
+                family,
+                b"it came with the AAAA answer",
+                b"it came with the A answer",
+            );
+            push_parts(&[Part::Says(Said::CameWith(family), words)], story)
+        }
+    }
+}
+
+// Whether a pause held the attempt back, and for how long where that pause has no line.
+fn push_held<A: Allocator>(
+    held: bool,
+    late: Option<u64>,
+    story: &mut Vec<Part<Said>, A>,
+) -> Result<(), Memory>
+    ensures { OnOk result (told story.new.items ≡ told story.old.items ++ held_facts held late) }
+{
+    if !held {
+        return Ok(());
+    }
+    match late {
+        Some(_) => push_late(late, story),
+        None => push_parts(
+            &[Part::Says(Said::HeldBack, b", late because of a pause")],
+            story,
+        ),
     }
 }
 
 // Which address it is that comes next in the list.
-fn turn_text(turn: Turn, family: Family) -> &'static [u8]
-    ensures { result.now ≡ turn_text turn family }
-{
-    match (turn, family) {
-        (Turn::Leads, Family::V6) => b", IPv6 first",
-        (Turn::Leads, Family::V4) => b", IPv4 first",
-        (Turn::InTurn, _) => b", IPv6 and IPv4 in turn",
-        (Turn::RunOut, Family::V6) => b", IPv6 alone is left",
-        (Turn::RunOut, Family::V4) => b", IPv4 alone is left",
+fn turn_words(turn: Turn, family: Family) -> &'static [u8] {
+    match turn {
+        Turn::Leads => of_family(family, b" known, IPv6 first", b" known, IPv4 first"),
+        Turn::InTurn => b" known, IPv6 and IPv4 in turn",
+        Turn::RunOut => of_family(
+            family,
+            b" known, IPv6 alone is left",
+            b" known, IPv4 alone is left",
+        ),
     }
 }
 
 // The place of an attempt's address in the list of those that are known.
-fn write_listed<A: Allocator + Copy>(
+fn push_listed<A: Allocator>(
     listed: Listed,
     family: Family,
-    text: &mut Vec<u8, A>,
+    story: &mut Vec<Part<Said>, A>,
 ) -> Result<(), Memory>
-    ensures { OnOk result (text.new.items ≡ text.old.items ++ listed_text listed family) }
+    ensures { OnOk result (told story.new.items ≡ told story.old.items ++ listed_facts listed) }
 {
     if listed.count == 1 {
-        return write_words(b"; the only address known", text);
+        return push_parts(
+            &[Part::Says(Said::OnlyOne, b"; the only address known")],
+            story,
+        );
     }
-    write_parts(
+    push_parts(
         &[
-            LinePart::Words(b"; number "),
-            LinePart::Place(listed.place),
-            LinePart::Words(b" of "),
-            LinePart::Number(listed.count as u64),
-            LinePart::Words(b" known"),
-            LinePart::Words(turn_text(listed.turn, family)),
+            Part::Words(b"; number "),
+            Part::Place(listed.place),
+            Part::Words(b" of "),
+            Part::Number(listed.count as u64),
+            Part::Says(Said::Turn(listed.turn), turn_words(listed.turn, family)),
         ],
-        text,
+        story,
     )
 }
 
 // attempt PLACE to ADDRESS: CAUSE; LISTED
-fn write_start<A: Allocator + Copy>(start: Start, text: &mut Vec<u8, A>) -> Result<(), Memory>
-    ensures { OnOk result (text.new.items ≡ text.old.items ++ start_text start) }
+fn push_start<A: Allocator>(
+    start: Start,
+    late: Option<u64>,
+    story: &mut Vec<Part<Said>, A>,
+) -> Result<(), Memory>
+    ensures { OnOk result (told story.new.items ≡ told story.old.items ++ start_facts start late) }
 {
-    write_parts(
+    push_parts(
         &[
-            LinePart::Words(b"attempt "),
-            LinePart::Place(start.place),
-            LinePart::Words(b" to "),
-            LinePart::Address(start.ip),
-            LinePart::Words(b": "),
+            Part::Says(Said::Starts, b"attempt "),
+            Part::Place(start.place),
+            Part::Words(b" to "),
+            Part::Ip(start.ip),
+            Part::Words(b": "),
         ],
-        text,
+        story,
     )?;
-    write_cause(start.cause, text)?;
-    write_words(held_text(start.held), text)?;
-    write_listed(start.listed, start.ip.family(), text)
+    push_cause(start.cause, story)?;
+    push_held(start.held, late, story)?;
+    push_listed(start.listed, start.ip.family(), story)
 }
 
 // The time from the start of an attempt to a tick.
@@ -129,44 +213,28 @@ fn taken(lines: &[Line], place: usize, tick: u64) -> u64
     }
 }
 
-// What became of an attempt, and after which time.
-fn write_became<A: Allocator + Copy>(
-    lines: &[Line],
-    tick: u64,
+// attempt PLACE WHAT after N ms
+fn push_became<A: Allocator>(
     place: usize,
-    what: &[u8],
-    text: &mut Vec<u8, A>,
+    what: Part<Said>,
+    taken: u64,
+    late: Option<u64>,
+    story: &mut Vec<Part<Said>, A>,
 ) -> Result<(), Memory>
-    ensures { OnOk result (text.new.items ≡ text.old.items ++ became_text lines.now tick place what.now) }
+    ensures { OnOk result (told story.new.items ≡ told story.old.items ++ became_facts place (fact_of what) taken late) }
 {
-    write_parts(
+    push_parts(
         &[
-            LinePart::Words(b"attempt "),
-            LinePart::Place(place),
-            LinePart::Words(what),
-            LinePart::Number(taken(lines, place, tick)),
-            LinePart::Words(b" ms"),
+            Part::Words(b"attempt "),
+            Part::Place(place),
+            what,
+            Part::Words(b" after "),
+            Part::Number(taken),
+            Part::Words(b" ms"),
         ],
-        text,
-    )
-}
-
-fn is_seen_by<A: Allocator>(timeline: &Timeline<A>, family: Family, tick: u64) -> bool
-    ensures { result ≡ is_seen_by timeline.now tick (reply_of timeline.now family) }
-{
-    match timeline.answer(family) {
-        Some((answer, _)) => timeline.seen(answer) <= tick,
-        None => false,
-    }
-}
-
-fn answer_of(family: Family) -> &'static [u8]
-    ensures { result.now ≡ answer_of family }
-{
-    match family {
-        Family::V6 => b"AAAA answer: ",
-        Family::V4 => b"A answer: ",
-    }
+        story,
+    )?;
+    push_late(late, story)
 }
 
 fn other_of(family: Family) -> Family
@@ -178,168 +246,182 @@ fn other_of(family: Family) -> Family
     }
 }
 
-// The answer of the other family is still to come.
-fn still_missing(family: Family) -> &'static [u8]
-    ensures { result.now ≡ still_missing family }
+fn is_seen_by(seen: Option<Seen>, tick: u64) -> bool
+    ensures { result ≡ is_seen_by tick seen }
 {
-    match family {
-        Family::V6 => b"; the A answer is not there yet",
-        Family::V4 => b"; the AAAA answer is not there yet",
+    match seen {
+        Some(seen) => seen.tick <= tick,
+        None => false,
     }
 }
 
-fn write_name<A: Allocator + Copy>(family: Family, text: &mut Vec<u8, A>) -> Result<(), Memory>
-    ensures { OnOk result (text.new.items ≡ text.old.items ++ answer_of family) }
-{
-    write_words(answer_of(family), text)
-}
-
-// Whether the answer of the other family is still to come at the tick.
-fn write_other<A: Allocator + Copy, B: Allocator>(
-    timeline: &Timeline<B>,
-    tick: u64,
+// The answer of the family, where it is still to come.
+fn push_other<A: Allocator>(
     family: Family,
-    text: &mut Vec<u8, A>,
+    is_seen: bool,
+    story: &mut Vec<Part<Said>, A>,
 ) -> Result<(), Memory>
-    ensures { OnOk result (text.new.items ≡ text.old.items ++ other_text timeline.now tick family) }
+    ensures { OnOk result (told story.new.items ≡ told story.old.items ++ other_facts family is_seen) }
 {
-    let is_seen = is_seen_by(timeline, other_of(family), tick);
-    write_words(unless(is_seen, still_missing(family)), text)
+    if is_seen {
+        return Ok(());
+    }
+    let words = of_family(
+        family,
+        b"; the AAAA answer is not there yet",
+        b"; the A answer is not there yet",
+    );
+    push_parts(&[Part::Says(Said::StillMissing(family), words)], story)
 }
 
-// An answer with so many addresses, and whether the other one is still to come.
-fn write_answered<A: Allocator + Copy, B: Allocator>(
-    timeline: &Timeline<B>,
-    tick: u64,
+// An answer with so many addresses.
+fn push_answer<A: Allocator>(
     family: Family,
+    late: Option<u64>,
     count: usize,
-    text: &mut Vec<u8, A>,
+    story: &mut Vec<Part<Said>, A>,
 ) -> Result<(), Memory>
-    ensures { OnOk result (text.new.items ≡ text.old.items ++ answered_text timeline.now tick family count) }
+    ensures { OnOk result (told story.new.items ≡ told story.old.items ++ answered_facts family late count) }
 {
-    write_name(family, text)?;
-    write_counted(count, b" address to try", b" addresses to try", text)?;
-    write_other(timeline, tick, family, text)
-}
-
-fn write_kind<A: Allocator + Copy, B: Allocator>(
-    timeline: &Timeline<B>,
-    lines: &[Line],
-    event: Event,
-    text: &mut Vec<u8, A>,
-) -> Result<(), Memory>
-    ensures { OnOk result (text.new.items ≡ text.old.items ++ kind_text timeline.now lines.now event.tick event.kind) }
-{
-    let tick = event.tick;
-    match event.kind {
-        EventKind::Paused(end) => write_until(
-            b"pause: the client sees and starts nothing until ",
-            end,
-            b" ms",
-            text,
-        ),
-        EventKind::Answered(family, count) => write_answered(timeline, tick, family, count, text),
-        EventKind::Waits(end) => write_until(
-            b"wait for the AAAA answer until ",
-            end,
-            b" ms (Resolution Delay)",
-            text,
-        ),
-        EventKind::DelayOver => write_words(b"the wait is over, without the AAAA answer", text),
-        EventKind::Failed(place) => write_became(lines, tick, place, b" failed after ", text),
-        EventKind::Started(start) => write_start(start, text),
-        EventKind::Won(place) => write_became(lines, tick, place, b" connected after ", text),
-        EventKind::Exhausted => write_words(b"nothing is left to try", text),
-        EventKind::Limit => write_words(b"the limit: the race is given up", text),
-        EventKind::Cancelled(place) => write_became(lines, tick, place, b" cancelled after ", text),
-    }
-}
-
-fn write_until<'t, A: Allocator + Copy>(
-    before: &'t [u8],
-    end: u64,
-    behind: &'t [u8],
-    text: &mut Vec<u8, A>,
-) -> Result<(), Memory>
-    ensures { OnOk result (text.new.items ≡ text.old.items ++ concat (before.now ∷ decimal end ∷ behind.now ∷ [])) }
-{
-    write_parts(
+    let words = of_family(family, b"AAAA answer", b"A answer");
+    push_parts(&[Part::Says(Said::Answered(family), words)], story)?;
+    push_late(late, story)?;
+    push_parts(
         &[
-            LinePart::Words(before),
-            LinePart::Number(end),
-            LinePart::Words(behind),
+            Part::Words(b": "),
+            Part::Number(count as u64),
+            Part::Words(noun(count, b" address to try", b" addresses to try")),
         ],
-        text,
+        story,
     )
 }
 
-// TICK ms  EVENT
-fn write_event<A: Allocator + Copy, B: Allocator>(
-    timeline: &Timeline<B>,
-    lines: &[Line],
-    width: usize,
+// What the client meets: its pauses, answers and waits.
+fn push_met<A: Allocator, B: Allocator>(
+    course: &Course<B>,
     event: Event,
-    text: &mut Vec<u8, A>,
+    late: Option<u64>,
+    story: &mut Vec<Part<Said>, A>,
 ) -> Result<(), Memory>
-    ensures { OnOk result (text.new.items ≡ text.old.items ++ event_line timeline.now lines.now width event) }
+    ensures { OnOk result (told story.new.items ≡ told story.old.items ++ met_facts course.now event.tick late
+        event.kind) }
 {
-    write_aligned(width, event.tick, text)?;
-    write_words(b" ms  ", text)?;
-    write_kind(timeline, lines, event, text)?;
-    write_words(b"\n", text)
+    match event.kind {
+        EventKind::Paused(end) => push_parts(
+            &[
+                Part::Says(
+                    Said::Paused,
+                    b"pause: the client sees and starts nothing until ",
+                ),
+                Part::Number(end),
+                Part::Words(b" ms"),
+            ],
+            story,
+        ),
+        EventKind::Answered(family, count) => {
+            let other = other_of(family);
+            push_answer(family, late, count, story)?;
+            push_other(other, is_seen_by(course.answer(other), event.tick), story)
+        }
+        EventKind::Waits(end) => push_parts(
+            &[
+                Part::Says(Said::Waits, b"wait for the AAAA answer until "),
+                Part::Number(end),
+                Part::Words(b" ms (Resolution Delay)"),
+            ],
+            story,
+        ),
+        EventKind::DelayOver => {
+            let words = b"the wait is over, without the AAAA answer";
+            push_parts(&[Part::Says(Said::DelayOver, words)], story)?;
+            push_late(late, story)
+        }
+        _ => Ok(()),
+    }
 }
 
-fn write_events<A: Allocator + Copy, B: Allocator>(
-    timeline: &Timeline<B>,
-    lines: &[Line],
-    width: usize,
-    events: &[&Event],
-    text: &mut Vec<u8, A>,
+fn push_kind<A: Allocator, B: Allocator>(
+    course: &Course<B>,
+    event: Event,
+    late: Option<u64>,
+    story: &mut Vec<Part<Said>, A>,
 ) -> Result<(), Memory>
-    ensures { OnOk result (text.new.items ≡ text.old.items ++ flat_map (event_line timeline.now lines.now width) (map
-        (λ event. event.now) events.now)) }
+    ensures { OnOk result (told story.new.items ≡ told story.old.items ++ kind_facts course.now event.tick late
+        event.kind) }
 {
-    for event in events {
-        write_event(timeline, lines, width, **event, text)?;
+    let lines = course.transcript.attempts();
+    match event.kind {
+        EventKind::Started(start) => push_start(start, late, story),
+        EventKind::Failed(place) => {
+            let what = Part::Says(Said::Failed, b" failed");
+            push_became(place, what, taken(lines, place, event.tick), late, story)
+        }
+        EventKind::Won(place) => {
+            let what = Part::Says(Said::Won, b" connected");
+            push_became(place, what, taken(lines, place, event.tick), late, story)
+        }
+        EventKind::Cancelled(place) => {
+            let what = Part::Says(Said::Cancelled, b" cancelled");
+            push_became(place, what, taken(lines, place, event.tick), None, story)
+        }
+        EventKind::Exhausted => push_parts(
+            &[Part::Says(Said::Exhausted, b"nothing is left to try")],
+            story,
+        ),
+        EventKind::Limit => push_parts(
+            &[Part::Says(Said::Limit, b"the limit: the race is given up")],
+            story,
+        ),
+        EventKind::Paused(_)
+        | EventKind::Answered(_, _)
+        | EventKind::Waits(_)
+        | EventKind::DelayOver => push_met(course, event, late, story),
+    }
+}
+
+// TICK ms  EVENT
+fn push_event<A: Allocator, B: Allocator>(
+    course: &Course<B>,
+    width: usize,
+    event: Event,
+    story: &mut Vec<Part<Said>, A>,
+) -> Result<(), Memory>
+    ensures { OnOk result (told story.new.items ≡ told story.old.items ++ event_facts course.now event) }
+{
+    if is_short(&event) {
+        return Ok(());
+    }
+    push_parts(
+        &[
+            Part::Words(b"\n"),
+            Part::Aligned(width, event.tick),
+            Part::Words(b" ms  "),
+        ],
+        story,
+    )?;
+    push_kind(course, event, late_at(&course.events, event.tick), story)
+}
+
+fn push_events<A: Allocator, B: Allocator>(
+    course: &Course<B>,
+    story: &mut Vec<Part<Said>, A>,
+) -> Result<(), Memory>
+    ensures { OnOk result (told story.new.items ≡ told story.old.items ++ flat_map (event_facts course.now)
+        course.now.events.items) }
+{
+    let width = width_of(course.end());
+    for event in &course.events {
+        push_event(course, width, *event, story)?;
     }
     Ok(())
 }
 
-// How wide the ticks of the events are.
-fn tick_width<A: Allocator>(transcript: &Transcript<A>) -> usize
-    ensures { result ≡ tick_width transcript.now }
-{
-    width_of(end_tick(transcript.result())) + 2
-}
-
-// The events of a race in order of ticks; its sorted addresses are given.
-#[tactic(auto, unfolding(crate::specs::Happening::events_text))]
-fn write_course<A: Allocator + Copy, B: Allocator, C: Allocator>(
-    alloc: A,
-    timeline: &Timeline<B>,
-    sorted: &[DestinationAttributes],
-    transcript: &Transcript<C>,
-    text: &mut Vec<u8, A>,
+pub(crate) fn push_happening<A: Allocator, B: Allocator>(
+    course: &Course<B>,
+    story: &mut Vec<Part<Said>, A>,
 ) -> Result<(), Memory>
-    requires { sorted.now ≡ all_attributes_of timeline.now }
-    ensures { OnOk result (text.new.items ≡ text.old.items ++ events_text timeline.now transcript.now) }
+    ensures { OnOk result (told story.new.items ≡ told story.old.items ++ happening_facts course.now) }
 {
-    let width = tick_width(transcript);
-    let events = collect_events(alloc, timeline, sorted, transcript)?;
-    let by_tick = sort_events(alloc, &events, end_tick(transcript.result()))?;
-    write_events(timeline, transcript.attempts(), width, &by_tick, text)
-}
-
-pub(crate) fn write_happening<A: Allocator + Copy, B: Allocator, C: Allocator>(
-    alloc: A,
-    timeline: &Timeline<B>,
-    sorted: &[DestinationAttributes],
-    transcript: &Transcript<C>,
-    text: &mut Vec<u8, A>,
-) -> Result<(), Memory>
-    requires { sorted.now ≡ all_attributes_of timeline.now }
-    ensures { OnOk result (text.new.items ≡ text.old.items ++ happening_text timeline.now transcript.now) }
-{
-    write_words(b"what happened:\n", text)?;
-    write_course(alloc, timeline, sorted, transcript, text)
+    push_parts(&[Part::Says(Said::Course, b"\ncourse:")], story)?;
+    push_events(course, story)
 }

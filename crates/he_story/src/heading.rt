@@ -1,111 +1,99 @@
-// The first line of a story: which race it is, and how it ended.
+// The first line of a story: which race it is, how it ended, and what it lost.
 
-ghost use Rattle.std.specs.Prelude.{◌≡◌, ◌++◌, option_map, OnOk};
-ghost use Rattle.he_story.specs.Heading.{ending_text, heading_text, not_connected_text, won_text};
+ghost use Rattle.std.specs.Prelude.{◌≡◌, ◌++◌, OnOk};
+ghost use Rattle.he_story.specs.Story.{ending_facts, heading_facts, won_facts};
+ghost use Rattle.he_story.specs.Lines.{told};
 
-use crate::parts::{LinePart, unless, write_counted, write_parts, write_words};
+use crate::said::Said;
+use crate::verdict::push_verdict;
+use crate::words::noun;
 use he_addr::Memory;
-use he_plan::{Line, Outcome3, Transcript};
+use he_course::{Course, Ended};
+use he_plan::{Line, Outcome3};
+use he_print::{Part, push_parts};
 use std::alloc::Allocator;
 
-fn write_won<A: Allocator + Copy>(
+fn push_won<A: Allocator>(
     tick: u64,
-    count: usize,
-    winner: Option<&Line>,
-    text: &mut Vec<u8, A>,
+    winner: Option<Line>,
+    story: &mut Vec<Part<Said>, A>,
 ) -> Result<(), Memory>
-    ensures { OnOk result (text.new.items ≡ text.old.items ++ won_text tick count (option_map
-        (λ line. line.now) winner.entry)) }
+    ensures { OnOk result (told story.new.items ≡ told story.old.items ++ won_facts tick winner) }
 {
-    let Some(line) = winner else {
-        return Ok(());
-    };
-    write_parts(
-        &[
-            LinePart::Words(b"connected to "),
-            LinePart::Address(line.ip),
-            LinePart::Words(b" after "),
-            LinePart::Number(tick),
-            LinePart::Words(b" ms, by attempt "),
-            LinePart::Place(line.place),
-            LinePart::Words(b" of "),
-            LinePart::Number(count as u64),
-        ],
-        text,
-    )
-}
-
-// How the race ended without a connection, at a tick, and after how many attempts.
-fn write_not_connected<'t, A: Allocator + Copy>(
-    how: &'t [u8],
-    tick: u64,
-    between: &'t [u8],
-    count: usize,
-    text: &mut Vec<u8, A>,
-) -> Result<(), Memory>
-    ensures { OnOk result (text.new.items ≡ text.old.items ++ not_connected_text how.now tick between.now count) }
-{
-    let parts = [
-        LinePart::Words(how),
-        LinePart::Number(tick),
-        LinePart::Words(between),
-    ];
-    write_parts(&parts, text)?;
-    write_counted(count, b" attempt", b" attempts", text)
-}
-
-fn write_ending<A: Allocator + Copy>(
-    lines: &[Line],
-    ending: Outcome3,
-    text: &mut Vec<u8, A>,
-) -> Result<(), Memory>
-    ensures { OnOk result (text.new.items ≡ text.old.items ++ ending_text lines.now ending) }
-{
-    let count = lines.len();
-    match ending {
-        Outcome3::Won(place, tick) => write_won(tick, count, lines.get(place), text),
-        Outcome3::Exhausted(tick) => {
-            let how = b"not connected: nothing is left to try after ";
-            write_not_connected(how, tick, b" ms and ", count, text)
-        }
-        Outcome3::Limit(tick) => {
-            let how = b"not connected by the limit of ";
-            write_not_connected(how, tick, b" ms, after ", count, text)
-        }
+    match winner {
+        Some(line) => push_parts(
+            &[
+                Part::Says(Said::Connected, b"connected to "),
+                Part::Ip(line.ip),
+                Part::Words(b" after "),
+                Part::Number(tick),
+                Part::Words(b" ms"),
+            ],
+            story,
+        ),
+        None => Ok(()),
     }
 }
 
-// How the race of the transcript ended.
-pub(crate) fn write_ending_of<A: Allocator + Copy, B: Allocator>(
-    transcript: &Transcript<B>,
-    text: &mut Vec<u8, A>,
+/// Puts after other parts how a race ended, in the words of all printers.
+pub fn push_ending<A: Allocator>(
+    ended: Ended,
+    story: &mut Vec<Part<Said>, A>,
 ) -> Result<(), Memory>
-    ensures { OnOk result (text.new.items ≡ text.old.items ++ ending_text transcript.now.lines transcript.now.result) }
+    ensures { OnOk result (told story.new.items ≡ told story.old.items ++ ending_facts ended) }
 {
-    write_ending(transcript.attempts(), transcript.result(), text)
+    let attempts = Part::Number(ended.attempts as u64);
+    let noun = Part::Words(noun(ended.attempts, b" attempt", b" attempts"));
+    match ended.result {
+        Outcome3::Won(_, tick) => push_won(tick, ended.winner, story),
+        Outcome3::Exhausted(tick) => push_parts(
+            &[
+                Part::Says(
+                    Said::NothingLeft,
+                    b"not connected: nothing is left to try after ",
+                ),
+                Part::Number(tick),
+                Part::Words(b" ms and "),
+                attempts,
+                noun,
+            ],
+            story,
+        ),
+        Outcome3::Limit(tick) => push_parts(
+            &[
+                Part::Says(Said::LimitReached, b"not connected by the limit of "),
+                Part::Number(tick),
+                Part::Words(b" ms, after "),
+                attempts,
+                noun,
+            ],
+            story,
+        ),
+    }
 }
 
-// race NUMBER, line LINE: ENDING, behind a blank line where it is not the first race.
-pub(crate) fn write_heading<A: Allocator + Copy, B: Allocator>(
-    number: usize,
-    line: u64,
-    transcript: &Transcript<B>,
-    text: &mut Vec<u8, A>,
+// race NUMBER, line LINE: ENDING; LOST, after a blank line where it is not the first race.
+pub(crate) fn push_heading<A: Allocator, B: Allocator>(
+    course: &Course<B>,
+    story: &mut Vec<Part<Said>, A>,
 ) -> Result<(), Memory>
-    ensures { OnOk result (text.new.items ≡ text.old.items ++ heading_text number line transcript.now) }
+    ensures { OnOk result (told story.new.items ≡ told story.old.items ++ heading_facts course.now) }
 {
-    let gap = unless(number == 1, b"\n");
-    write_parts(
+    let race: &'static [u8] = if course.number == 1 {
+        b"race "
+    } else {
+        b"\nrace "
+    };
+    push_parts(
         &[
-            LinePart::Words(gap),
-            LinePart::Words(b"race "),
-            LinePart::Number(number as u64),
-            LinePart::Words(b", line "),
-            LinePart::Number(line),
-            LinePart::Words(b": "),
+            Part::Says(Said::Race, race),
+            Part::Number(course.number as u64),
+            Part::Says(Said::Line, b", line "),
+            Part::Number(course.line),
+            Part::Words(b": "),
         ],
-        text,
+        story,
     )?;
-    write_ending_of(transcript, text)?;
-    write_words(b"\n", text)
+    push_ending(course.ended, story)?;
+    push_verdict(course, story)
 }
