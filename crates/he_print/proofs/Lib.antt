@@ -1,1 +1,2 @@
 mod RepeatLaws
+mod StringLaws

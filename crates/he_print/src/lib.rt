@@ -4,9 +4,12 @@
 //! Of its text it is proved which facts stand in it, and in which order (`specs/Parts`): numbers, places, addresses,
 //! and what its words say. How they say it is no fact: words are free, so that a better sentence changes no theorem.
 //!
-//! [`write_escaped`] writes a name so that it stays inside of its string, attribute or element (`specs/Escaping`).
+//! [`write_string`] writes a name as a string of JSON, which nothing in it can end (`specs/Escaping`, [`laws`]).
 #![tactic(auto)]
 
+mod escaping;
+pub mod laws;
 mod part;
 
+pub use escaping::write_string;
 pub use part::{Fact, Part, push_parts, write_parts};
