@@ -2,7 +2,6 @@
 use Rattle.std.specs.Prelude.{◌≡◌, ◌≢◌, ◌⊎◌, ◌++◌, ℕ, Bool, true, false, List, [], ◌∷◌, Option, Some, None, Result, Err, codes, if◌then◌else◌, option_map}
 use Rattle.std.specs.Borrow.{Bor}
 use Rattle.he_check.specs.Stream.{Checks}
-use Rattle.he_compare.specs.Stream.{Compares}
 use Rattle.he_page.specs.Page.{name_text}
 use Rattle.he_timeline.specs.Changes.{ChangeValues}
 use Rattle.he_draw.specs.declared.look.Look.TheVariants as looks
@@ -44,14 +43,13 @@ RunsTask input output (Write content workers) changes first last before after =
     Replays (content_of content) changes (Gave input first last) (GaveSoFar input first last)
     (TookToTheEnd output before.0 after.0) (TookRoundsPart output before.0 after.0)
     (TookRounds output before.0 after.0)
-RunsTask input output Compare changes first last before after =
-    Compares changes (Gave input first last) (TookAll output before.0 after.0) (TookPart output before.0 after.0)
-    (after.0 ≡ before.0)
+RunsTask input output (Compare json races) changes first last before after =
+    λ result. (after.0 ≡ before.0) × AddsSums input first last before.1 after.1 result
 RunsTask input output (Check is_all) changes first last before after =
     Checks (Gave input first last) (GaveSoFar input first last) (TookAll output before.0 after.0)
     (TookPart output before.0 after.0) (after.0 ≡ before.0)
-RunsTask input output (Summarize json) changes first last before after =
-    λ result. (after.0 ≡ before.0) × AddsSums input changes first last before.1 after.1 result
+RunsTask input output (Summarize json slowest) changes first last before after =
+    λ result. (after.0 ≡ before.0) × AddsSums input first last before.1 after.1 result
 
 -- a line as head(1) and tail(1) write it above each of several files
 abbrev pub name_line : List ℕ → List ℕ
@@ -63,7 +61,6 @@ abbrev pub heading_of : List ℕ → Task → Option (List ℕ)
 heading_of name (Write asked.Story workers) = Some (name_line name)
 heading_of name (Write (asked.Picture ascii width) workers) = Some (name_line name)
 heading_of name (Write asked.Section workers) = Some (name_text name)
-heading_of name Compare = Some (name_line name)
 heading_of name _ = None
 
 -- whether there are several, so that they have headings

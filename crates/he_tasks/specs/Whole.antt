@@ -9,7 +9,7 @@ use Rattle.he_stream.specs.declared.stream.InputStream as inputs
 use Rattle.he_stream.specs.declared.stream.OutputStream as outputs
 use Rattle.he_summary.specs.Summed.{HasSummed, Sums}
 use Rattle.he_tasks.specs.Status.{first_fault}
-use Rattle.he_tasks.specs.Summaries.{EndsTexts}
+use Rattle.he_tasks.specs.Summaries.{EndsTexts, rows_of}
 use Rattle.he_tasks.specs.Texts.{HasHeading, LacksHeading, RunsAll, RunsOne}
 use Rattle.he_tasks.specs.declared.reports.TheConstants.{DONE, FAULT}
 
@@ -24,10 +24,11 @@ abbrev pub WritesTexts : {I F O : Type 0} → inputs.Ghosts I → inputs.Ghosts 
     → O → ℕ → Type 0
 WritesTexts {I} {F} {O} input file output texts first last before after status =
     ((none : Sums) × (headed told : O) × (sums : Option Sums) × (own end : ℕ) × HasSummed none []
+    × (none.settings ≡ rows_of texts)
     × HasHeading output (head_of texts.task) before headed
     × RunsAll texts.goes_on (RunsOne output texts) input file texts.files.items first last (headed, Some none)
     (told, sums) own
-    × EndsTexts output texts.task sums told after end × (status ≡ first_fault own end))
+    × EndsTexts output texts sums told after end × (status ≡ first_fault own end))
     ⊎ ((status ≡ FAULT) × (last ≡ first) × LacksHeading output (head_of texts.task) before after)
 
 -- that was done in a file that was made for it
