@@ -1,4 +1,2 @@
 mod CharacterLaws
 mod LineLaws
-mod Parting
-mod ReasonLaws
