@@ -1,93 +1,182 @@
-// The line of a race.
-ghost use Rattle.std.specs.Prelude.{◌≡◌, ◌++◌, decimal, OnOk};
-ghost use Rattle.he_compare.specs.Texts.{address_at, ending_text, line_text, verdict_text};
+//! The races of a comparison, line by line.
+ghost use Rattle.std.specs.Prelude.{◌≡◌, ◌++◌, None, OnOk};
+ghost use Rattle.std.specs.List.{flat_map};
+ghost use Rattle.he_print.specs.Parts.{fact_of};
+ghost use Rattle.he_summary.specs.Written.{IsNamed, Tells};
+ghost use Rattle.he_compare.specs.Lines.{AreLines, ending_facts, line_facts, verdict_facts};
 
-use crate::verdict::Verdict;
-use he_addr::{Ip, Memory, write_ip, write_number};
-use he_plan::{Line, Outcome3, Transcript};
+use crate::verdict::{Verdict, stands_after};
+use he_addr::Memory;
+use he_print::{Part, push_parts, write_parts, write_string};
+use he_summary::totals::{Value, value_of};
+use he_summary::{Ending, Form, Kept, name_of};
 use std::alloc::Allocator;
 
-// Appends the line of a race, which has this number and begins with this line: how it ends as it stands and with the
-// changes, and the verdict on that.
-pub(crate) fn append_line<A: Allocator + Copy, B: Allocator>(
-    number: u64,
-    line: u64,
-    stands: &Transcript<B>,
-    changed: &Transcript<B>,
+/// What words of a line say.
+#[derive(Clone, Copy, Debug, PartialEq, Eq)]
+pub enum Told {
+    Won,
+    Exhausted,
+    Limit,
+    Is(Verdict),
+}
+
+/// Appends a line for each race with the settings of each row: how it ends, and what the settings do to it. The names
+/// of the files stand by their places, those of the settings by the rows, all as they may be shown; one that is not
+/// there is `-`.
+///
+/// # Errors
+///
+/// `Memory` where an allocation was refused. A first part of the lines may then have been appended.
+pub fn write_lines<A: Allocator + Copy>(
+    alloc: A,
+    form: Form,
+    kept: &[Kept],
+    names: (&[String], &[String]),
     text: &mut Vec<u8, A>,
 ) -> Result<(), Memory>
-    ensures { OnOk result (text.new.items ≡ text.old.items ++ line_text
-        (record { number = number; line = line; stands = stands.now; changed = changed.now })) }
+    ensures { OnOk result (AreLines None kept.now text.old.items text.new.items) }
 {
-    append_number(b"race ", number, b", line ", text)?;
-    append_number(b"", line, b": ", text)?;
-    append_ending(stands, text)?;
-    text.extend_from_slice(b"; with the changes ")?;
-    append_ending(changed, text)?;
-    text.extend_from_slice(b", ")?;
-    append_verdict(Verdict::of(stands.result(), changed.result()), text)?;
-    text.push(b'\n')?;
+    let (files, settings) = names;
+    let mut stands = None;
+    for race in kept {
+        stands = stands_after(stands, race);
+        append_name(form, name_of(race.place.file, files), text)?;
+        append_line(alloc, form, race, stands, text)?;
+        append_settings(form, name_of(race.row, settings), text)?;
+    }
     Ok(())
 }
 
-// Appends a number between these bytes.
-pub(crate) fn append_number<A: Allocator + Copy>(
-    before: &[u8],
-    number: u64,
-    after: &[u8],
-    text: &mut Vec<u8, A>,
-) -> Result<(), Memory>
-    ensures { OnOk result (text.new.items ≡ text.old.items ++ (before.now ++ (decimal number ++ after.now))) }
+fn append_name<A: Allocator>(form: Form, name: &str, text: &mut Vec<u8, A>) -> Result<(), Memory>
+    ensures { OnOk result (IsNamed text.old.items text.new.items) }
 {
-    text.extend_from_slice(before)?;
-    write_number(number, text)?;
-    text.extend_from_slice(after)?;
-    Ok(())
-}
-
-fn append_ending<A: Allocator + Copy, B: Allocator>(
-    transcript: &Transcript<B>,
-    text: &mut Vec<u8, A>,
-) -> Result<(), Memory>
-    ensures { OnOk result (text.new.items ≡ text.old.items ++ ending_text transcript.now.lines transcript.now.result) }
-{
-    match transcript.result() {
-        Outcome3::Won(place, tick) => {
-            append_number(b"won after ", tick, b" ms", text)?;
-            if let Some(ip) = address_at(transcript.attempts(), place) {
-                text.extend_from_slice(b" by ")?;
-                write_ip(ip, text)?;
-            }
-            Ok(())
+    match form {
+        Form::Text => text.extend_from_slice(name.as_bytes())?,
+        Form::Json => {
+            text.extend_from_slice(b"{\"file\":")?;
+            write_string(name.as_bytes(), text)?;
         }
-        Outcome3::Exhausted(tick) => append_number(b"exhausted after ", tick, b" ms", text),
-        Outcome3::Limit(tick) => append_number(b"given up at its limit after ", tick, b" ms", text),
-    }
-}
-
-// The address of the attempt of this place.
-fn address_at(lines: &[Line], place: usize) -> Option<Ip>
-    ensures { result ≡ address_at place lines.now }
-{
-    lines
-        .iter()
-        .find(|line| line.place == place)
-        .map(|line| line.ip)
-}
-
-fn append_verdict<A: Allocator + Copy>(
-    verdict: Verdict,
-    text: &mut Vec<u8, A>,
-) -> Result<(), Memory>
-    ensures { OnOk result (text.new.items ≡ text.old.items ++ verdict_text verdict) }
-{
-    match verdict {
-        Verdict::Sooner(time) => return append_number(b"", time, b" ms sooner", text),
-        Verdict::Later(time) => return append_number(b"", time, b" ms later", text),
-        Verdict::Same => text.extend_from_slice(b"at the same time")?,
-        Verdict::OnlyWith => text.extend_from_slice(b"won only with them")?,
-        Verdict::OnlyWithout => text.extend_from_slice(b"won only without them")?,
-        Verdict::Neither => text.extend_from_slice(b"not won either way")?,
     }
     Ok(())
+}
+
+fn append_settings<A: Allocator>(
+    form: Form,
+    name: &str,
+    text: &mut Vec<u8, A>,
+) -> Result<(), Memory>
+    ensures { OnOk result (IsNamed text.old.items text.new.items) }
+{
+    match form {
+        Form::Text => {
+            text.extend_from_slice(b" (")?;
+            text.extend_from_slice(name.as_bytes())?;
+            text.extend_from_slice(b")\n")?;
+        }
+        Form::Json => {
+            text.extend_from_slice(b",\"settings\":")?;
+            write_string(name.as_bytes(), text)?;
+            text.extend_from_slice(b"}\n")?;
+        }
+    }
+    Ok(())
+}
+
+fn append_line<A: Allocator + Copy>(
+    alloc: A,
+    form: Form,
+    race: &Kept,
+    stands: Option<u64>,
+    text: &mut Vec<u8, A>,
+) -> Result<(), Memory>
+    ensures { OnOk result (Tells (line_facts stands race.now) text.old.items text.new.items) }
+{
+    let mut parts = Vec::new(alloc);
+    let (before, between): (&'static [u8], &'static [u8]) = match form {
+        Form::Text => (b" race ", b", line "),
+        Form::Json => (b",\"race\":", b",\"line\":"),
+    };
+    push_parts(
+        &[
+            Part::Words(before),
+            Part::Number(race.place.number as u64),
+            Part::Words(between),
+            Part::Number(race.place.line),
+        ],
+        &mut parts,
+    )?;
+    push_ending(form, race.ending, &mut parts)?;
+    push_verdict(form, Verdict::of(stands, value_of(Value::Time, race)), &mut parts)?;
+    write_parts(parts.as_slice(), text)
+}
+
+fn push_ending<A: Allocator>(
+    form: Form,
+    ending: Ending,
+    text: &mut Vec<Part<Told>, A>,
+) -> Result<(), Memory>
+    ensures { OnOk result (flat_map fact_of text.new.items ≡ flat_map fact_of text.old.items ++ ending_facts ending) }
+{
+    let (said, tick) = match ending {
+        Ending::Won(_, tick) => (Told::Won, tick),
+        Ending::Exhausted(tick) => (Told::Exhausted, tick),
+        Ending::Limit(tick) => (Told::Limit, tick),
+    };
+    push_parts(
+        &[
+            Part::Says(said, ending_words(form, said)),
+            Part::Number(tick),
+            Part::Words(if form == Form::Text { b" ms" } else { b"" }),
+        ],
+        text,
+    )?;
+    match ending {
+        Ending::Won(Some(ip), _) => {
+            let (before, after): (&'static [u8], &'static [u8]) = match form {
+                Form::Text => (b" to ", b""),
+                Form::Json => (b",\"address\":\"", b"\""),
+            };
+            push_parts(&[Part::Words(before), Part::Ip(ip), Part::Words(after)], text)
+        }
+        _ => Ok(()),
+    }
+}
+
+fn ending_words(form: Form, said: Told) -> &'static [u8] {
+    match (form, said) {
+        (Form::Text, Told::Won) => b": connected after ",
+        (Form::Text, Told::Exhausted) => b": not connected: nothing is left to try after ",
+        (Form::Text, _) => b": not connected by the limit of ",
+        (Form::Json, Told::Won) => b",\"ended\":\"won\",\"ms\":",
+        (Form::Json, Told::Exhausted) => b",\"ended\":\"exhausted\",\"ms\":",
+        (Form::Json, _) => b",\"ended\":\"limit\",\"ms\":",
+    }
+}
+
+fn push_verdict<A: Allocator>(
+    form: Form,
+    verdict: Verdict,
+    text: &mut Vec<Part<Told>, A>,
+) -> Result<(), Memory>
+    ensures { OnOk result (flat_map fact_of text.new.items ≡ flat_map fact_of text.old.items ++ verdict_facts verdict) }
+{
+    push_parts(&[Part::Says(Told::Is(verdict), verdict_words(form, verdict))], text)
+}
+
+fn verdict_words(form: Form, verdict: Verdict) -> &'static [u8] {
+    match (form, verdict) {
+        (Form::Text, Verdict::Sooner) => b", sooner",
+        (Form::Text, Verdict::Later) => b", later",
+        (Form::Text, Verdict::Same) => b", the same",
+        (Form::Text, Verdict::OnlyWith) => b", won only with",
+        (Form::Text, Verdict::OnlyWithout) => b", won only without",
+        (Form::Text, Verdict::Neither) => b", not won either way",
+        (Form::Json, Verdict::Sooner) => b",\"verdict\":\"sooner\"",
+        (Form::Json, Verdict::Later) => b",\"verdict\":\"later\"",
+        (Form::Json, Verdict::Same) => b",\"verdict\":\"same\"",
+        (Form::Json, Verdict::OnlyWith) => b",\"verdict\":\"only with\"",
+        (Form::Json, Verdict::OnlyWithout) => b",\"verdict\":\"only without\"",
+        (Form::Json, Verdict::Neither) => b",\"verdict\":\"neither\"",
+    }
 }

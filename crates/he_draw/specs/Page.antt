@@ -1,9 +1,9 @@
 -- A page of races, for a browser.
-use Rattle.std.specs.Prelude.{ℕ, ◌≡◌, ◌-◌, ◌++◌, List, [], ◌∷◌, min, Option, Some, None}
+use Rattle.std.specs.Prelude.{ℕ, ◌≡◌, ◌-◌, ◌==◌, ◌++◌, if◌then◌else◌, List, [], ◌∷◌, min, Option, Some, None}
 use Rattle.std.specs.List.{flat_map}
 use Rattle.he_course.specs.declared.course.Course.{Course}
 use Rattle.he_print.specs.declared.part.Fact.{Fact}
-use Rattle.he_print.specs.declared.part.Fact.TheVariants.{Said, Number}
+use Rattle.he_print.specs.declared.part.Fact.TheVariants.{Said, Number, Place}
 use Rattle.he_print.specs.Parts.{States}
 use Rattle.he_story.specs.Story.{Tells}
 use Rattle.he_story.specs.declared.said.Said.{Said as Words}
@@ -31,26 +31,36 @@ track_facts end (rows.Tried line) = Said (became line.mark) ∷ length_facts end
 abbrev pub page_row_facts : ℕ → Row → List (Fact Words)
 page_row_facts end row = label_fact row ∷ (track_facts end row ++ words_facts row)
 
--- the race's number, in the link to its section and in the name of that; its end, by which sections are sorted; the
--- link to itself, with its end; its heading, and its rows
-unfoldable pub section_facts : {A : Type 0} → Course A → List (Fact Words)
-section_facts course =
-    (Number course.number ∷ Number course.number ∷ Number course.number ∷ Number (end_of course)
-    ∷ Number course.number ∷ Number (end_of course) ∷ [])
+-- the name of a race's section: by its number, and from the second text on by the place of its text too
+abbrev pub anchor_facts : ℕ → ℕ → List (Fact Words)
+anchor_facts file number = if file == 0 then Number number ∷ [] else Number number ∷ Place file ∷ []
+
+-- a link to the section, its name and its end, by which sections are sorted, and a link to itself, with its end
+abbrev pub opening_facts : {A : Type 0} → Course A → ℕ → List (Fact Words)
+opening_facts course file =
+    anchor_facts file course.number
+    ++ ((Number course.number ∷ [])
+    ++ (anchor_facts file course.number
+    ++ ((Number (end_of course) ∷ []) ++ (anchor_facts file course.number ++ Number (end_of course) ∷ []))))
+
+-- its heading, and its rows
+unfoldable pub section_facts : {A : Type 0} → Course A → ℕ → List (Fact Words)
+section_facts course file =
+    opening_facts course file
     ++ (heading_facts course ++ flat_map (page_row_facts (end_of course)) (rows_of course))
 
 -- the part of a page that a race has: its picture, then its story, of which nothing is read as a tag
-pub record IsSection {A : Type 0} (course : Course A) (text : List ℕ) : Type 0 where
+pub record IsSection {A : Type 0} (course : Course A) (file : ℕ) (text : List ℕ) : Type 0 where
   pub picture : List ℕ
   pub story : List ℕ
   pub last : List ℕ
-  pub drawn : States (section_facts course) picture
+  pub drawn : States (section_facts course file) picture
   pub told : Tells course [] story
   pub parts : text ≡ picture ++ (flat_map escaped story ++ last)
 
 -- it has been appended
-abbrev pub WritesSection : {A : Type 0} → Course A → List ℕ → List ℕ → Type 0
-WritesSection course old new = (text : List ℕ) × IsSection course text × (new ≡ old ++ text)
+abbrev pub WritesSection : {A : Type 0} → Course A → ℕ → List ℕ → List ℕ → Type 0
+WritesSection course file old new = (text : List ℕ) × IsSection course file text × (new ≡ old ++ text)
 
 -- a name stands in the text, and nothing of it is read as a tag
 abbrev pub HasName : List ℕ → List ℕ → Type 0

@@ -15,10 +15,10 @@ pub(crate) fn write_escaped<A: Allocator + Copy>(
     ensures { OnOk result (text.new.items ≡ text.old.items ++ flat_map escaped bytes.now) }
 {
     if are_plain(bytes) {
-        text.extend_from_slice(bytes)
-    } else {
-        write_each(bytes, text)
+        text.extend_from_slice(bytes)?;
+        return Ok(());
     }
+    write_each(bytes, text)
 }
 
 fn are_plain(bytes: &[u8]) -> bool

@@ -5,7 +5,7 @@ ghost use Rattle.std.specs.List.{flat_map};
 ghost use Rattle.he_print.specs.Parts.{fact_of};
 ghost use Rattle.he_print.specs.declared.part.Fact.TheVariants.{Number};
 ghost use Rattle.he_draw.specs.Facts.{Prints};
-ghost use Rattle.he_draw.specs.Page.{WritesSection, length_facts, page_row_facts, section_facts, track_facts};
+ghost use Rattle.he_draw.specs.Page.{WritesSection, anchor_facts, length_facts, opening_facts, page_row_facts, section_facts, track_facts};
 
 use crate::escaping::write_escaped;
 use crate::heading::push_heading;
@@ -18,16 +18,18 @@ use he_print::{Part, push_parts, write_parts};
 use he_story::{Said, write_story};
 use std::alloc::Allocator;
 
-/// Appends the race to a page: its rows, with bars on one scale or on its own, and its story, folded. After `Memory`
-/// the vector holds a first part of it too.
+/// Appends the race to a page: its rows, with bars on one scale or on its own, and its story, folded. `file` is the
+/// place of its text among those of the page, counted from 0: the race's anchor is `race-7`, or, from the second text
+/// on, `race-7-of-2`. After `Memory` the vector holds a first part of it too.
 pub fn write_section<A: Allocator + Copy, B: Allocator>(
     course: &Course<B>,
+    file: usize,
     text: &mut Vec<u8, A>,
 ) -> Result<(), Memory>
-    ensures { OnOk result (WritesSection course.now text.old.items text.new.items) }
+    ensures { OnOk result (WritesSection course.now file text.old.items text.new.items) }
 {
     let alloc = *text.allocator();
-    write_rows(alloc, course, text)?;
+    write_rows(alloc, course, file, text)?;
     let mut story = Vec::new(alloc);
     write_story(alloc, course, &mut story)?;
     write_escaped(&story, text)?;
@@ -39,13 +41,14 @@ pub fn write_section<A: Allocator + Copy, B: Allocator>(
 fn write_rows<A: Allocator + Copy, B: Allocator>(
     alloc: A,
     course: &Course<B>,
+    file: usize,
     text: &mut Vec<u8, A>,
 ) -> Result<(), Memory>
-    ensures { OnOk result (Prints (section_facts course.now) text.old.items text.new.items) }
+    ensures { OnOk result (Prints (section_facts course.now file) text.old.items text.new.items) }
 {
     let rows = collect_rows(alloc, course)?;
     let mut parts = Vec::new(alloc);
-    push_opening(course.number as u64, course.end(), &mut parts)?;
+    push_opening(course, file, &mut parts)?;
     push_heading(course, &mut parts)?;
     push_parts(&[Part::Words(b"</small></h3>\n")], &mut parts)?;
     push_rows(course.end(), &rows, &mut parts)?;
@@ -54,32 +57,39 @@ fn write_rows<A: Allocator + Copy, B: Allocator>(
 }
 
 // The link to the section in the index, and the section's heading, with a link to itself.
-fn push_opening<A: Allocator>(
-    number: u64,
-    end: u64,
+fn push_opening<A: Allocator, B: Allocator>(
+    course: &Course<B>,
+    file: usize,
     parts: &mut Vec<Part<Said>, A>,
 ) -> Result<(), Memory>
     ensures { OnOk result (flat_map fact_of parts.new.items ≡ flat_map fact_of parts.old.items
-        ++ (Number number ∷ Number number ∷ Number number ∷ Number end ∷ Number number ∷ Number end ∷ [])) }
+        ++ opening_facts course.now file) }
 {
-    push_parts(
-        &[
-            Part::Words(b"<a href='#race-"),
-            Part::Number(number),
-            Part::Words(b"'>"),
-            Part::Number(number),
-            Part::Words(b"</a><section id='race-"),
-            Part::Number(number),
-            Part::Words(b"' style='--t:"),
-            Part::Number(end),
-            Part::Words(b"'><h3><a href='#race-"),
-            Part::Number(number),
-            Part::Words(b"'>"),
-            Part::Number(end),
-            Part::Words(b" ms</a> <small>"),
-        ],
-        parts,
-    )
+    let number = course.number;
+    let end = Part::Number(course.end());
+    push_anchor(b"<a href='#race-", file, number, parts)?;
+    push_parts(&[Part::Words(b"'>"), Part::Number(number as u64)], parts)?;
+    push_anchor(b"</a><section id='race-", file, number, parts)?;
+    push_parts(&[Part::Words(b"' style='--t:"), end], parts)?;
+    push_anchor(b"'><h3><a href='#race-", file, number, parts)?;
+    push_parts(&[Part::Words(b"'>"), end, Part::Words(b" ms</a> <small>")], parts)
+}
+
+// The name of a section, after the words before it.
+fn push_anchor<A: Allocator>(
+    before: &'static [u8],
+    file: usize,
+    number: usize,
+    parts: &mut Vec<Part<Said>, A>,
+) -> Result<(), Memory>
+    ensures { OnOk result (flat_map fact_of parts.new.items ≡ flat_map fact_of parts.old.items
+        ++ anchor_facts file number) }
+{
+    push_parts(&[Part::Words(before), Part::Number(number as u64)], parts)?;
+    if file == 0 {
+        return Ok(());
+    }
+    push_parts(&[Part::Words(b"-of-"), Part::Place(file)], parts)
 }
 
 fn push_rows<A: Allocator>(

@@ -20,7 +20,7 @@ const WIDTH_HELP: &str =
     "Columns of a line, 40 to 1000; default is that of\nthe environment's COLUMNS, else 80";
 
 const HTML_HELP: &str = "Write a page for a browser to FILE.html, or to\n\
-standard output (-): each race beside its story";
+standard output (-): each race with its story";
 
 const EXAMPLE: &str = "\
 Reads timelines, as `he replay` does. Standard output has a picture of each

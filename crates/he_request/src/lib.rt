@@ -36,6 +36,7 @@ pub mod refusal;
 mod replay;
 pub mod request;
 pub mod resolver;
+mod rows;
 mod settings;
 pub mod shown;
 mod summary;

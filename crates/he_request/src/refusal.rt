@@ -44,6 +44,8 @@ pub enum OptionFault {
     /// A setting isn't a number, or has a name that there isn't.
     #[error("invalid value for '--set <NAME=N>': expected NAME=N, with NAME one of attempt, resolution, count, limit, floor")]
     Form,
+    #[error("invalid value for '--set <NAME=N,..>': one NAME may have a list, of at most 64 numbers")]
+    Lists,
     /// This setting is out of its range.
     #[error("invalid value for '--set <NAME=N>': {text}", text = range_text(.0))]
     Range(Range),

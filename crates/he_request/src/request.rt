@@ -103,6 +103,7 @@ fn request_of<'a>(
             Err(fault) => Err(Refusal::Option(fault)),
         },
         "draw" => draw::drawing_of(alloc, columns, matches).map(Request::Texts),
+        "compare" => compare::comparison_of(alloc, matches).map(Request::Texts),
         _ => texts_of(alloc, task_of(name, matches), None, matches).map(Request::Texts),
     }
 }
@@ -114,7 +115,6 @@ fn task_of(name: &str, matches: &ArgMatches<'_>) -> Task
     match name {
         "explain" => explain::task_of(matches),
         "summary" => summary::task_of(matches),
-        "compare" => Task::Compare,
         "order" => order::task_of(matches),
         "check" => check::task_of(matches),
         _ => replay::task_of(matches),

@@ -53,7 +53,7 @@ pub(crate) fn changes_of(matches: &ArgMatches<'_>) -> Result<Changes, OptionFaul
 }
 
 // The texts of `--set`, in order.
-fn texts_of<'a>(matches: &'a ArgMatches<'_>) -> &'a [&'a str]
+pub(crate) fn texts_of<'a>(matches: &'a ArgMatches<'_>) -> &'a [&'a str]
     ensures { map (λ text. text.now) result.now ≡ values_of (found_of matches.now) (codes "set") }
 {
     matches.get_strs("set").unwrap_or(&[])

@@ -18,12 +18,13 @@ use std::str::FromStr;
 pub enum Task {
     /// To write this of each race, by at most so many workers, 1 to 64.
     Write { content: Content, workers: u16 },
-    /// To compare its races with what they would be with other settings.
-    Compare,
+    /// To compare the races of all texts with what they would be with other settings, as JSON or in a table, and in
+    /// lines for each race too, or in the table alone.
+    Compare { is_json: bool, tells_races: bool },
     /// To check it, and to explain its first fault, or each after which it goes on, or to warn of its slips.
     Check { is_all: bool },
-    /// To sum its races up with those of the other texts, as JSON or in lines.
-    Summarize { is_json: bool },
+    /// To sum its races up with those of the other texts, as JSON or in lines, with so many of the slowest ones.
+    Summarize { is_json: bool, slowest: u16 },
 }
 
 /// What is written of a race.
@@ -41,7 +42,7 @@ pub enum Content {
     Picture { is_ascii: bool, width: u16 },
     /// The same as an SVG image.
     Image,
-    /// That image beside its story, a part of a page.
+    /// Its part of a page.
     Section,
 }
 
@@ -51,6 +52,9 @@ pub struct Texts<'a> {
     pub task: Task,
     /// The settings that each race has in place of its own.
     pub changes: Changes,
+    /// Those that it has in each row of a comparison, and the words for them; none where there is no comparison.
+    pub rows: Vec<Changes>,
+    pub labels: Vec<String>,
     /// The files that have them, one after the other, `-` for standard input; where there are none, it has one.
     pub files: Vec<&'a str>,
     /// Whether the files after one that has a fault are read too.
@@ -99,6 +103,8 @@ pub(crate) fn texts_of<'a>(
     Ok(Texts {
         task,
         changes: changes_of(matches)?,
+        rows: Vec::new(alloc),
+        labels: Vec::new(alloc),
         files: files_of(alloc, matches)?,
         goes_on: flag_of(matches, "keep-going") || task.tells_faults(),
         explains: flag_of(matches, "verbose") || matches!(task, Task::Check { .. }),

@@ -24,7 +24,7 @@ mod files;
 pub mod name;
 pub mod reports;
 pub mod session;
-mod summary;
+mod sums;
 pub mod system;
 mod text;
 pub mod whole;

@@ -21,6 +21,8 @@ pub struct Session<'r, 'n, R, O, F> {
     pub faults: F,
     /// The file that the output is; None for standard output.
     pub file: Option<Name<'n>>,
+    /// The place of the file that is read next, among all.
+    pub place: usize,
     /// How many files were not read to their end.
     pub unread: usize,
 }

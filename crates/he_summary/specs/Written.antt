@@ -1,0 +1,69 @@
+-- What is written of the races that are summed.
+use Rattle.std.specs.Prelude.{ℕ, ◌≡◌, ◌++◌, List, [], ◌∷◌, filter, map, take, IsPermutation, Some}
+use Rattle.std.specs.List.Sorted.{IsSortedByKey}
+use Rattle.std.specs.Option.{unwrap_or}
+use Rattle.std.specs.Ordering.{nat_cmp, ordering_then}
+use Rattle.std.specs.declared.cmp.Ordering.{Ordering}
+use Rattle.he_addr.specs.declared.ip.Ip.{Ip}
+use Rattle.he_print.specs.Parts.{States}
+use Rattle.he_print.specs.declared.part.Fact.{Fact}
+use Rattle.he_print.specs.declared.part.Fact.TheVariants as facts
+use Rattle.he_summary.specs.Figures.{summary_facts}
+use Rattle.he_summary.specs.Kept.{Run, kept_of}
+use Rattle.he_summary.specs.Summed.{all_tries}
+use Rattle.he_summary.specs.Totals.{AreTotals, is_kind, time_of}
+use Rattle.he_summary.specs.Tries.{AreFailing}
+use Rattle.he_summary.specs.declared.figures.Form.{Form}
+use Rattle.he_summary.specs.declared.figures.Said.{Said}
+use Rattle.he_summary.specs.declared.kept.Ending.{Ending}
+use Rattle.he_summary.specs.declared.kept.Ending.TheVariants as endings
+use Rattle.he_summary.specs.declared.kept.Kept.{Kept}
+use Rattle.he_summary.specs.declared.tallies.Tally.{Tally}
+use Rattle.he_summary.specs.declared.totals.Kind.TheVariants.{Won}
+use Rattle.he_summary.specs.declared.totals.Totals.{Totals}
+
+-- a text that states these facts, among words, has been appended
+abbrev pub Tells : {S : Type 0} → List (Fact S) → List ℕ → List ℕ → Type 0
+Tells told old new = (text : List ℕ) × States told text × (new ≡ old ++ text)
+
+-- the time to connect, and the race's place
+abbrev pub slow_key : Kept → ℕ × (ℕ × ℕ)
+slow_key race = (unwrap_or (time_of race.ending) 0, (race.place.file, race.place.number))
+
+-- the slowest first, those of one time as they were read
+abbrev pub slowest_first : ℕ × (ℕ × ℕ) → ℕ × (ℕ × ℕ) → Ordering
+slowest_first x y = ordering_then (nat_cmp y.0 x.0) (ordering_then (nat_cmp x.1.0 y.1.0) (nat_cmp x.1.1 y.1.1))
+
+-- so many of the races that were won, in that order
+abbrev pub AreSlowest : ℕ → List Kept → List Kept → Type 0
+AreSlowest most kept slow =
+    (sorted : List Kept) × IsPermutation (filter (is_kind Won) kept) sorted
+    × IsSortedByKey slow_key slowest_first sorted × (slow ≡ take most sorted)
+
+-- where it begins, its number, the time to connect, to which address, and what it lost
+abbrev pub slow_facts_by : Kept → Ending → List (Fact Said)
+slow_facts_by race (endings.Won (Some ip) time) =
+    facts.Number race.place.line ∷ facts.Number race.place.number ∷ facts.Number time ∷ facts.Ip ip
+    ∷ facts.Number (unwrap_or race.lost 0) ∷ []
+slow_facts_by race _ = []
+
+abbrev pub slow_facts : Kept → List (Fact Said)
+slow_facts race = slow_facts_by race race.ending
+
+-- words have been appended
+abbrev pub IsNamed : List ℕ → List ℕ → Type 0
+IsNamed old new = (words : List ℕ) × (new ≡ old ++ words)
+
+-- these have been appended, each after other words
+abbrev pub TellsSlow : List Kept → List ℕ → List ℕ → Type 0
+TellsSlow [] old new = IsNamed old new
+TellsSlow (race ∷ slow) old new =
+    (words between : List ℕ) × Tells (slow_facts race) (old ++ words) between × TellsSlow slow between new
+
+-- what is written of these races, and of so many of the slowest ones
+abbrev pub IsWritten : Form → List Run → ℕ → List ℕ → List ℕ → Type 0
+IsWritten form runs most old new =
+    (totals : Totals) × (failing : List (Ip × Tally)) × (slow : List Kept) × (between : List ℕ)
+    × AreTotals (map kept_of runs) totals × AreFailing (all_tries runs) failing
+    × AreSlowest most (map kept_of runs) slow
+    × Tells (summary_facts form totals failing) old between × TellsSlow slow between new

@@ -1,0 +1,218 @@
+// A summary, written.
+ghost use Rattle.std.specs.Prelude.{◌≡◌, ◌++◌, filter, IfOk, IsPermutation, List, OnOk};
+ghost use Rattle.std.specs.List.{flat_map};
+ghost use Rattle.std.specs.List.Sorted.{IsSortedByKey};
+ghost use Rattle.he_print.specs.Parts.{fact_of};
+ghost use Rattle.he_summary.specs.Kept.{Run};
+ghost use Rattle.he_summary.specs.Figures.{summary_facts, tally_facts};
+ghost use Rattle.he_summary.specs.Summed.{HasSummed};
+ghost use Rattle.he_summary.specs.Totals.{is_kind};
+ghost use Rattle.he_summary.specs.Written.{AreSlowest, IsNamed, IsWritten, Tells, TellsSlow, slow_facts, slow_key, slowest_first};
+ghost use Rattle.he_summary.specs.declared.totals.Kind.TheVariants.{Won};
+
+use crate::figures::{Form, Said, push_tally, push_totals};
+use crate::kept::{Ending, Kept};
+use crate::races::Races;
+use crate::tallies::Tally;
+use crate::totals::{Kind, Totals, Value, is_kind, value_of};
+use he_addr::{Ip, Memory};
+use he_print::{Part, push_parts, write_parts, write_string};
+use std::alloc::Allocator;
+use std::cmp::Reverse;
+
+// Appends a summary of races: what is counted of them, the addresses to which most attempts were lost, and the slowest
+// races, so many, each with the name of its file.
+pub(crate) fn write_summary<A: Allocator + Copy>(
+    alloc: A,
+    races: &Races<A>,
+    form: Form,
+    slowest: usize,
+    names: &[String],
+    text: &mut Vec<u8, A>,
+) -> Result<(), Memory>
+    ensures { (runs : List Run) → HasSummed races.now runs
+        → OnOk result (IsWritten form runs slowest text.old.items text.new.items) }
+{
+    let totals = Totals::of(alloc, races.kept())?;
+    let failing = races.failing()?;
+    let mut parts = Vec::new(alloc);
+    push_totals(form, totals, &mut parts)?;
+    push_failing(form, failing.as_slice(), &mut parts)?;
+    write_parts(parts.as_slice(), text)?;
+    if slowest > 0 {
+        let slow = slowest_of(alloc, races.kept(), slowest)?;
+        write_slowest(alloc, form, slow.as_slice(), names, text)?;
+    }
+    let end: &[u8] = match form {
+        Form::Text => b"",
+        Form::Json => b"}\n",
+    };
+    text.extend_from_slice(end)?;
+    Ok(())
+}
+
+fn push_failing<A: Allocator>(
+    form: Form,
+    failing: &[(Ip, Tally)],
+    text: &mut Vec<Part<Said>, A>,
+) -> Result<(), Memory>
+    ensures { OnOk result (flat_map fact_of text.new.items ≡ flat_map fact_of text.old.items
+        ++ flat_map (tally_facts form) failing.now) }
+{
+    let (begin, between, end): (&'static [u8], &'static [u8], &'static [u8]) = match form {
+        Form::Text if failing.is_empty() => (b"\n", b"", b""),
+        Form::Text => (b"\nfailed or silent most often:\n", b"", b""),
+        Form::Json => (b",\"failing\":[", b",", b"]"),
+    };
+    push_parts(&[Part::Words(begin)], text)?;
+    for (index, tallied) in failing.iter().enumerate() {
+        if index > 0 {
+            push_parts(&[Part::Words(between)], text)?;
+        }
+        push_tally(form, *tallied, text)?;
+    }
+    push_parts(&[Part::Words(end)], text)
+}
+
+// The races that were won after the longest time, so many: the longest first, those of one time as they were read.
+fn slowest_of<A: Allocator>(alloc: A, kept: &[Kept], most: usize) -> Result<Vec<Kept, A>, Memory>
+    ensures { IfOk result (λ slow. AreSlowest most kept.now slow.items) }
+{
+    let mut won = won_of(alloc, kept)?;
+    sort_slowest(&mut won);
+    won.truncate(most);
+    Ok(won)
+}
+
+fn won_of<A: Allocator>(alloc: A, kept: &[Kept]) -> Result<Vec<Kept, A>, Memory>
+    ensures { IfOk result (λ won. won.items ≡ filter (is_kind Won) kept.now) }
+{
+    let mut won = Vec::new(alloc);
+    for race in kept {
+        if is_kind(Kind::Won, race) {
+            won.push(*race)?;
+        }
+    }
+    Ok(won)
+}
+
+fn sort_slowest<A: Allocator>(won: &mut Vec<Kept, A>)
+    ensures permutation { IsPermutation won.old.items won.new.items }
+    ensures sorted { IsSortedByKey slow_key slowest_first won.new.items }
+{
+    won.sort_unstable_by_key(|race| {
+        (
+            Reverse(value_of(Value::Time, race)),
+            (race.place.file, race.place.number),
+        )
+    });
+}
+
+fn write_slowest<A: Allocator + Copy>(
+    alloc: A,
+    form: Form,
+    slow: &[Kept],
+    names: &[String],
+    text: &mut Vec<u8, A>,
+) -> Result<(), Memory>
+    ensures { OnOk result (TellsSlow slow.now text.old.items text.new.items) }
+{
+    let (begin, end): (&[u8], &[u8]) = match form {
+        Form::Text if slow.is_empty() => (b"", b""),
+        Form::Text => (b"slowest:\n", b""),
+        Form::Json => (b",\"slowest\":[", b"]"),
+    };
+    text.extend_from_slice(begin)?;
+    for (index, race) in slow.iter().enumerate() {
+        if index > 0 && form == Form::Json {
+            text.push(b',')?;
+        }
+        write_name(form, name_of(race.place.file, names), text)?;
+        write_slow(alloc, form, race, text)?;
+    }
+    text.extend_from_slice(end)?;
+    Ok(())
+}
+
+/// The name of this place; `-` where there is none.
+pub fn name_of(place: usize, names: &[String]) -> &str {
+    match names.get(place) {
+        Some(name) => name.as_str(),
+        None => "-",
+    }
+}
+
+// Appends the name of a file, which is as it may be shown.
+fn write_name<A: Allocator>(form: Form, name: &str, text: &mut Vec<u8, A>) -> Result<(), Memory>
+    ensures { OnOk result (IsNamed text.old.items text.new.items) }
+{
+    match form {
+        Form::Text => {
+            text.extend_from_slice(b"  ")?;
+            text.extend_from_slice(name.as_bytes())?;
+            Ok(())
+        }
+        Form::Json => {
+            text.extend_from_slice(b"{\"file\":")?;
+            write_string(name.as_bytes(), text)
+        }
+    }
+}
+
+// Appends what is told of a slow race after the name of its file.
+fn write_slow<A: Allocator + Copy>(
+    alloc: A,
+    form: Form,
+    race: &Kept,
+    text: &mut Vec<u8, A>,
+) -> Result<(), Memory>
+    ensures { OnOk result (Tells (slow_facts race.now) text.old.items text.new.items) }
+{
+    let mut parts = Vec::new(alloc);
+    push_slow(form, race, &mut parts)?;
+    write_parts(parts.as_slice(), text)
+}
+
+// FILE:LINE race NUMBER: TIME ms to ADDRESS, LOST ms lost
+fn push_slow<A: Allocator>(
+    form: Form,
+    race: &Kept,
+    text: &mut Vec<Part<Said>, A>,
+) -> Result<(), Memory>
+    ensures { OnOk result (flat_map fact_of text.new.items ≡ flat_map fact_of text.old.items ++ slow_facts race.now) }
+{
+    let words = slow_words(form);
+    let Ending::Won(Some(ip), time) = race.ending else {
+        return Ok(());
+    };
+    push_parts(
+        &[
+            Part::Words(words[0]),
+            Part::Number(race.place.line),
+            Part::Words(words[1]),
+            Part::Number(race.place.number as u64),
+            Part::Words(words[2]),
+            Part::Number(time),
+            Part::Words(words[3]),
+            Part::Ip(ip),
+            Part::Words(words[4]),
+            Part::Number(race.lost.unwrap_or(0)),
+            Part::Words(words[5]),
+        ],
+        text,
+    )
+}
+
+fn slow_words(form: Form) -> [&'static [u8]; 6] {
+    match form {
+        Form::Text => [b":", b" race ", b": ", b" ms to ", b", ", b" ms lost\n"],
+        Form::Json => [
+            b",\"line\":",
+            b",\"race\":",
+            b",\"ms\":",
+            b",\"address\":\"",
+            b"\",\"lost_ms\":",
+            b"}",
+        ],
+    }
+}
