@@ -2,32 +2,25 @@
 // floor would have changed.
 
 ghost use Rattle.std.specs.Prelude.{◌≡◌, ◌++◌, OnOk};
-ghost use Rattle.he_timeline.specs.Timeline.{is_of};
 ghost use Rattle.he_story.specs.Lines.{told};
 ghost use Rattle.he_story.specs.Story.{answer_facts, closing_facts, first_of, gap_facts, seen_facts, sooner_facts};
 
 use crate::said::Said;
 use crate::story::Story;
 use crate::words::name_of;
-use he_addr::{Family, Ip, Memory};
+use he_addr::{Family, Memory};
 use he_course::{Course, Ended, Seen};
 use he_plan::Line;
 use he_print::Part;
 use he_timeline::limits::MIN_FLOOR;
 use std::alloc::Allocator;
 
-fn is_of(family: Family, ip: Ip) -> bool
-    ensures { result ≡ is_of family ip }
-{
-    ip.family() == family
-}
-
 // The first attempt at an address of the family.
 fn first_of(family: Family, lines: &[Line]) -> Option<Line>
     ensures { result ≡ first_of family lines.now }
 {
     for line in lines {
-        if is_of(family, line.ip) {
+        if line.ip.family() == family {
             return Some(*line);
         }
     }

@@ -99,10 +99,8 @@ impl<A: Allocator> Story<A> {
                 self.tell(Said::AfterStart, &[Part::Number(delay), Part::Place(place)])
             }
             Cause::Floor(place, floor) => {
-                self.tell(
-                    Said::FloorIsOver,
-                    &[Part::Number(floor), Part::Place(place)],
-                )
+                let parts = [Part::Number(floor), Part::Place(place)];
+                self.tell(Said::FloorIsOver, &parts)
             }
             Cause::LastFailure(_) => self.tell(Said::AllFailed, &[]),
             Cause::LaterAnswer(family) => {
@@ -139,10 +137,8 @@ impl<A: Allocator> Story<A> {
     fn tell_start(&mut self, start: Start, late: Option<u64>) -> Result<(), Memory>
         ensures { OnOk result (told self.new ≡ told self.old ++ start_facts start late) }
     {
-        self.tell(
-            Said::Starts,
-            &[Part::Place(start.place), Part::Ip(start.ip)],
-        )?;
+        let (place, ip) = (Part::Place(start.place), Part::Ip(start.ip));
+        self.tell(Said::Starts, &[place, ip])?;
         self.tell_cause(start.cause)?;
         self.tell_held(start.held, late)?;
         self.tell_listed(start.listed, start.ip.family())
@@ -208,23 +204,20 @@ impl<A: Allocator> Story<A> {
     ) -> Result<(), Memory>
         ensures { OnOk result (told self.new ≡ told self.old ++ kind_facts course.now event.tick late event.kind) }
     {
-        let (lines, tick) = (course.transcript.attempts(), event.tick);
+        let lines = course.transcript.attempts();
         match event.kind {
             EventKind::Started(start) => self.tell_start(start, late),
             EventKind::Failed(place) => {
-                self.tell_became(Said::Failed, place, taken(lines, place, tick), late)
+                let taken = taken(lines, place, event.tick);
+                self.tell_became(Said::Failed, place, taken, late)
             }
             EventKind::Won(place) => {
-                self.tell_became(Said::Won, place, taken(lines, place, tick), late)
+                let taken = taken(lines, place, event.tick);
+                self.tell_became(Said::Won, place, taken, late)
             }
             EventKind::Cancelled(place) => {
-                self.tell_became(
-                    Said::Cancelled,
-                    place,
-                    taken(lines, place, tick),
-                    None,
-                    story,
-                )
+                let taken = taken(lines, place, event.tick);
+                self.tell_became(Said::Cancelled, place, taken, None)
             }
             EventKind::Exhausted => self.tell(Said::Exhausted, &[]),
             EventKind::Limit => self.tell(Said::Limit, &[]),

@@ -21,22 +21,16 @@ pub(crate) fn width_of(last: u64) -> usize {
     digits.format(last).len().saturating_add(INDENT)
 }
 
-fn source_scope(attributes: &DestinationAttributes) -> u64
+fn source_scope(attributes: &DestinationAttributes) -> u8
     ensures { result ≡ source_scope attributes.now }
 {
-    match attributes.source {
-        Some(source) => source.scope as u64,
-        None => 0,
-    }
+    attributes.source.map_or(0, |source| source.scope)
 }
 
-fn source_label(attributes: &DestinationAttributes) -> u64
+fn source_label(attributes: &DestinationAttributes) -> u16
     ensures { result ≡ source_label attributes.now }
 {
-    match attributes.source {
-        Some(source) => source.label as u64,
-        None => 0,
-    }
+    attributes.source.map_or(0, |source| source.label)
 }
 
 // The two values that the rule compares, where it compares two. The first one may be unknown.
@@ -48,8 +42,12 @@ fn compared(
     ensures { result ≡ compared rule earlier.now later.now }
 {
     match rule {
-        DestinationRule::MatchingScope => Some((Some(later.scope as u64), source_scope(later))),
-        DestinationRule::MatchingLabel => Some((Some(later.label as u64), source_label(later))),
+        DestinationRule::MatchingScope => {
+            Some((Some(later.scope as u64), source_scope(later) as u64))
+        }
+        DestinationRule::MatchingLabel => {
+            Some((Some(later.label as u64), source_label(later) as u64))
+        }
         DestinationRule::HigherPrecedence => {
             Some((Some(later.precedence as u64), earlier.precedence as u64))
         }
