@@ -1,7 +1,7 @@
 use Rattle.std.proofs.Common.{◌≡◌, ◌++◌, drop}
 use Rattle.std.specs.List.{flat_map}
 use Rattle.he_story.specs.Lines.{event_facts, told}
-use Rattle.he_story.proofs.happening.Story.tell_each.Given as goal
+use Rattle.he_story.proofs.story.Story.tell_each.Given as goal
 
 abbrev pub invariant-loop-event : goal.invariant-loop-event
 invariant-loop-event g l =

@@ -1,7 +1,7 @@
 use Rattle.std.proofs.Common.{◌≡◌, ◌++◌, ◌+◌, drop}
 use Rattle.std.specs.Prelude.{None}
 use Rattle.he_story.specs.Lines.{address_lines, told}
-use Rattle.he_story.proofs.preferred.Story.tell_addresses.Given as goal
+use Rattle.he_story.proofs.story.Story.tell_addresses.Given as goal
 
 abbrev pub invariant-loop-place : goal.invariant-loop-place
 invariant-loop-place g l =
