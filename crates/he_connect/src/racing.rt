@@ -185,11 +185,12 @@ fn texts_of<R: Net>(
 fn explain(alloc: Global, is_asked: bool, recorded: &Timeline) -> Result<Vec<u8>, Memory>
     ensures { IfOk result (λ story. IsExplained is_asked recorded.now story.items) }
 {
-    let mut story = Vec::new(alloc);
-    if is_asked {
-        let course = Course::of(alloc, recorded, 1, 1)?;
-        write_story(alloc, &course, &mut story)?;
+    if !is_asked {
+        return Ok(Vec::new(alloc));
     }
+    let course = Course::of(alloc, recorded, 1, 1)?;
+    let mut story = Vec::new(alloc);
+    write_story(alloc, &course, &mut story)?;
     Ok(story)
 }
 
