@@ -59,7 +59,7 @@ complete -c he -n '__fish_seen_subcommand_from draw' -F
 complete -c he -n '__fish_seen_subcommand_from draw' -l ascii -d 'Draw with ASCII characters alone'
 complete -c he -n '__fish_seen_subcommand_from draw' -l width -x -d 'Columns of a line, 40 to 1000'
 complete -c he -n '__fish_seen_subcommand_from draw' -l svg -d 'Draw each race as an SVG image'
-complete -c he -n '__fish_seen_subcommand_from draw' -l html -r -F -d 'Write a page for a browser to FILE.html, or to standard output (-): each race beside its story'
+complete -c he -n '__fish_seen_subcommand_from draw' -l html -r -F -d 'Write a page for a browser to FILE.html, or to standard output (-): each race with its story'
 complete -c he -n '__fish_seen_subcommand_from draw' -l set -x -a 'attempt= resolution= count= limit= floor=' -d 'Override a setting in every race'
 complete -c he -n '__fish_seen_subcommand_from draw' -s v -l verbose -d 'Explain the fault of a file as `he check` does, and say why a file can'\''t be read or written'
 complete -c he -n '__fish_seen_subcommand_from draw' -s h -l help -d 'Print help'

@@ -3,7 +3,7 @@
 use crate::command_rows::{READ_LINE, Row, SETTING_LINE, Streams, TEXT, TRANSCRIPT, WRITE_LINE};
 
 // In 60 columns.
-const PICTURE: &[u8] = b"race 1, line 1: won after 55 ms by attempt 1
+const PICTURE: &[u8] = b"race 1, line 1: connected to 2001:db8:1::1 after 55 ms
 AAAA answer   |         o                  | 20 ms, 1 usable
 A answer      |            o               | 25 ms, 1 usable
 2001:db8:1::1 |         ==================*| 20-55 ms won
@@ -13,7 +13,7 @@ A answer      |            o               | 25 ms, 1 usable
 
 // Of the input, and of no race more.
 const TWO_PICTURES: &[u8] = b"==> - <==
-race 1, line 1: won after 55 ms by attempt 1
+race 1, line 1: connected to 2001:db8:1::1 after 55 ms
 AAAA answer   |         o                  | 20 ms, 1 usable
 A answer      |            o               | 25 ms, 1 usable
 2001:db8:1::1 |         ==================*| 20-55 ms won
@@ -115,7 +115,7 @@ pub static GLANCE_ROWS: [Row; 25] = [
         TEXT,
         Streams::Whole,
         0,
-        b"race 1, line 1: given up at the limit of 30 ms\n",
+        b"race 1, line 1: not connected by the limit of 30 ms, after 1 attempt\n",
         b"",
     ),
     (&["he", "summary"], TEXT, Streams::Whole, 0, SUMMARY, b""),

@@ -11,11 +11,11 @@ order 1 198.51.100.1 source 192.0.2.2, behind 0 by rule 6, prefer higher precede
 end
 ";
 
-const STORY: &[u8] = b"race 1, line 1: connected to 2001:db8:1::1 after 55 ms, by attempt 1 of 1
+const STORY: &[u8] = b"race 1, line 1: connected to 2001:db8:1::1 after 55 ms; nothing lost
 preferred, once every answer is known:
   1. 2001:db8:1::1 from 2001:db8::2
   2. 198.51.100.1 from 192.0.2.2; precedence 35, the one before 40 (RFC 6724 rule 6)
-what happened:
+course:
   20 ms  AAAA answer: 1 address to try; the A answer is not there yet
   20 ms  attempt 1 to 2001:db8:1::1: the AAAA answer is there; the only address known
   25 ms  A answer: 1 address to try
@@ -44,11 +44,11 @@ const COMPARISON_JSON: &[u8] =
 
 // Of the input, which has its heading.
 const HEADED_STORY: &[u8] = b"==> - <==
-race 1, line 1: connected to 2001:db8:1::1 after 55 ms, by attempt 1 of 1
+race 1, line 1: connected to 2001:db8:1::1 after 55 ms; nothing lost
 preferred, once every answer is known:
   1. 2001:db8:1::1 from 2001:db8::2
   2. 198.51.100.1 from 192.0.2.2; precedence 35, the one before 40 (RFC 6724 rule 6)
-what happened:
+course:
   20 ms  AAAA answer: 1 address to try; the A answer is not there yet
   20 ms  attempt 1 to 2001:db8:1::1: the AAAA answer is there; the only address known
   25 ms  A answer: 1 address to try
@@ -58,11 +58,11 @@ no address of the A answer was tried
 
 // Of the input and of a file.
 const TWO_STORIES: &[u8] = b"==> - <==
-race 1, line 1: connected to 2001:db8:1::1 after 55 ms, by attempt 1 of 1
+race 1, line 1: connected to 2001:db8:1::1 after 55 ms; nothing lost
 preferred, once every answer is known:
   1. 2001:db8:1::1 from 2001:db8::2
   2. 198.51.100.1 from 192.0.2.2; precedence 35, the one before 40 (RFC 6724 rule 6)
-what happened:
+course:
   20 ms  AAAA answer: 1 address to try; the A answer is not there yet
   20 ms  attempt 1 to 2001:db8:1::1: the AAAA answer is there; the only address known
   25 ms  A answer: 1 address to try
@@ -71,7 +71,7 @@ no address of the A answer was tried
 ==> explained-no-answer.timeline <==
 race 1, line 1: not connected by the limit of 100 ms, after 0 attempts
 no address to try
-what happened:
+course:
    90 ms  pause: the client sees and starts nothing until 200 ms
   100 ms  the limit: the race is given up
 no AAAA answer came

@@ -1,4 +1,5 @@
 mod CauseLaws
+mod Counted
 mod CourseLaws
 mod EventLaws
 mod FloorCauses
@@ -6,7 +7,10 @@ mod FloorLaws
 mod InterlacedLaws
 mod LaterLaws
 mod LeastFloor
+mod LineEvents
 mod ListedLaws
 mod OneRule
+mod SoonerLaws
 mod SortLaws
 mod StartLaws
+mod WaitLaws

@@ -1,8 +1,8 @@
 -- A stable sort by tick puts events in the order in which they are put one after the other.
-use Rattle.std.proofs.Common.{◌≡◌, ℕ, zero, suc, ◌<◌, ◌≤◌, ◌++◌, Bool, true, false, cond, List, [], ◌∷◌, length, get_or, filter, map, Bor, if◌then◌else◌, nat_cmp, nat_lt, is_lt, refl, sym, ap, ◌∙◌, append_assoc, arith, inl, inr, suc-le-suc, zero-le}
+use Rattle.std.proofs.Common.{◌≡◌, ℕ, zero, suc, ◌<◌, ◌≤◌, ◌++◌, Bool, true, false, cond, List, [], ◌∷◌, length, get_or, filter, if◌then◌else◌, nat_cmp, nat_lt, is_lt, refl, sym, ap, ◌∙◌, append_assoc, arith, inl, inr, suc-le-suc, zero-le}
 use Rattle.std.proofs.lemmas.Bool.{cond-true, cond-false, cases_Bool}
 use Rattle.std.proofs.lemmas.Bool.Decides.{nat_tests}
-use Rattle.std.proofs.lemmas.List.{append-nil, get_or-map, length-map}
+use Rattle.std.proofs.lemmas.List.{append-nil}
 use Rattle.std.proofs.lemmas.List.Elements.{filter-append}
 use Rattle.std.proofs.lemmas.List.Sorted.{IsNonDecreasingBy-short}
 use Rattle.std.specs.List.Sorted.{ties, IsNonDecreasingBy, IsStableByKey}
@@ -125,44 +125,8 @@ same_from_ticks (y ∷ ys) (z ∷ zs) left right same =
     ] in
     ap (λ w. w ∷ ys) head ∙ ap (λ l. z ∷ l) (same_from_ticks ys zs left.1 right.1 tails)
 
-puts-from_sort : (xs ys : List Event) → IsNonDecreasingBy tick_of_event ys → IsStableByKey tick_of_event nat_cmp xs ys → ys ≡ put_events [] xs
+pub puts-from_sort : (xs ys : List Event) → IsNonDecreasingBy tick_of_event ys → IsStableByKey tick_of_event nat_cmp xs ys → ys ≡ put_events [] xs
 puts-from_sort xs ys sorted stable =
     let none : IsNonDecreasingBy tick_of_event [] = IsNonDecreasingBy-short tick_of_event [] (omega arith) in
     same_from_ticks ys (put_events [] xs) (rises ys sorted) (rises (put_events [] xs) (puts_ascend [] xs none))
     (λ x. stable x ∙ sym (puts_stable x [] xs none))
-
--- the same of references to events
-abbrev pub tick_behind : Bor Event → ℕ
-tick_behind event = event.now.tick
-
-abbrev behind : List (Bor Event) → List Event
-behind = map (λ (event : Bor Event). event.now)
-
-abbrev same_tick_behind : Event → Bor Event → Bool
-same_tick_behind x = ties (λ a b. is_lt (nat_cmp (tick_behind a) (tick_behind b))) (record { ref_ptr = (0, 0); now = x })
-
-kept_behind : (x : Event) (events : List (Bor Event)) → filter (same_tick x) (behind events) ≡ behind (filter (same_tick_behind x) events)
-kept_behind x [] = refl
-kept_behind x (first ∷ more) = by_head (same_tick x first.now) (kept_behind x more)
-  where
-    by_head : (b : Bool) → filter (same_tick x) (behind more) ≡ behind (filter (same_tick_behind x) more)
-        → cond b (first.now ∷ filter (same_tick x) (behind more)) (filter (same_tick x) (behind more)) ≡ behind (cond b (first ∷ filter (same_tick_behind x) more) (filter (same_tick_behind x) more))
-    by_head true e = ap (λ (l : List Event). first.now ∷ l) e
-    by_head false e = e
-
-ascends_behind : (events : List (Bor Event)) → IsNonDecreasingBy tick_behind events → IsNonDecreasingBy tick_of_event (behind events)
-ascends_behind events up i j d le lt =
-    let e : Bor Event = record { ref_ptr = (0, 0); now = d } in
-    let long : length (behind events) ≡ length events = length-map events (λ (event : Bor Event). event.now) in
-    let at_i : (get_or (behind events) i d).tick ≡ tick_behind (get_or events i e) =
-    ap tick_of_event (get_or-map (λ (event : Bor Event). event.now) events i e d (omega arith))
-    in
-    let at_j : (get_or (behind events) j d).tick ≡ tick_behind (get_or events j e) =
-    ap tick_of_event (get_or-map (λ (event : Bor Event). event.now) events j e d (omega arith))
-    in
-    omega (arith, at_i, at_j, up i j e le (omega arith))
-
-pub puts_behind-from_sort : (xs ys : List (Bor Event)) → IsNonDecreasingBy tick_behind ys → IsStableByKey tick_behind nat_cmp xs ys → behind ys ≡ put_events [] (behind xs)
-puts_behind-from_sort xs ys sorted stable =
-    puts-from_sort (behind xs) (behind ys) (ascends_behind ys sorted)
-    (λ x. kept_behind x ys ∙ ap behind (stable (record { ref_ptr = (0, 0); now = x })) ∙ sym (kept_behind x xs))

@@ -1,24 +1,29 @@
 -- What follows from the definitions, in words of its own.
-use Rattle.std.specs.Prelude.{ℕ, ◌≡◌, ◌≢◌, ◌+◌, ◌++◌, ◌<◌, ◌≤◌, ◌↔◌, Bool, true, false, List, [], ◌∷◌, max, slice_get, take, Option, Some, None, IsSomeAnd, IsTrue, IsFalse}
-use Rattle.std.specs.List.{list_all, list_any}
+use Rattle.std.specs.Prelude.{ℕ, ◌≡◌, ◌≢◌, ◌+◌, ◌==◌, ◌&&◌, ◌++◌, ◌<◌, ◌≤◌, ◌↔◌, Bool, true, false, List, [], ◌∷◌, max, slice_get, take, Option, Some, None, IsSomeAnd, IsTrue, IsFalse}
+use Rattle.std.specs.List.{count_by, list_all, list_any}
 use Rattle.std.specs.List.Sorted.{IsNonDecreasingBy, IsPermutation}
 use Rattle.he_addr.specs.declared.ip.Ip.{Ip}
-use Rattle.he_addr.specs.Ip.{family_of, is_usable}
+use Rattle.he_addr.specs.Ip.{family_of, is_usable, same_ip}
 use Rattle.he_plan.specs.declared.attempts.Attempt.{Attempt}
 use Rattle.he_plan.specs.Attempts.{HasWaited, HaveFailed, IsAnswered, IsNext, is_tried, is_untried, last_of, order_at, received}
 use Rattle.he_timeline.specs.Seen.{IsFree, IsLeast, seen}
-use Rattle.he_timeline.specs.Race.{Race, reply_of}
+use Rattle.he_timeline.specs.Race.{Race, Reply, reply_of}
 use Rattle.he_timeline.specs.Timeline.{IsRace}
+use Rattle.he_plan.specs.declared.transcript.Line.{Line}
+use Rattle.he_plan.specs.declared.transcript.Mark.{Mark}
+use Rattle.he_plan.specs.declared.transcript.Mark.TheVariants as marks
 use Rattle.he_plan.specs.Transcript.{IsTranscript, Report}
 use Rattle.he_select.specs.Deciding.{DecidesAt, deciding_rule, rules_in_order}
 use Rattle.he_select.specs.Preference.{Member}
 use Rattle.he_select.specs.Selection.{SelectionInput}
 use Rattle.he_course.specs.declared.cause.Cause.{Cause}
 use Rattle.he_course.specs.declared.events.Event.{Event}
+use Rattle.he_course.specs.declared.events.EventKind.{EventKind}
+use Rattle.he_course.specs.declared.events.EventKind.TheVariants.{Started, Won, Failed, Cancelled}
 use Rattle.he_course.specs.declared.cause.Cause.TheVariants.{AaaaAnswer, BothAnswers, ResolutionDelay, AttemptDelay, Floor, LastFailure, LaterAnswer}
 use Rattle.he_course.specs.Causes.{cause_of, due_of, last_failure}
 use Rattle.he_course.specs.Course.{events_in}
-use Rattle.he_course.specs.Events.{events_by_kind, start_event, start_events}
+use Rattle.he_course.specs.Events.{events_by_kind, is_waiting, start_event, start_events}
 use Rattle.he_course.specs.Listing.{listed_at}
 
 -- one rule decides between the two, and it is the one that is named
@@ -144,3 +149,50 @@ abbrev pub StartsStand : Type 0
 StartsStand =
     (race : Race) (report : Report) → IsTranscript race report
     → AreStarts race [] (start_events race None (Some 0) report.lines)
+
+-- what happens at t is the start of the attempt of a line, or of an attempt of this place
+abbrev pub starts : Line → ℕ → EventKind → Bool
+starts line t (Started start) = (t == line.tick) && (start.place == line.place) && same_ip start.ip line.ip
+starts line t _ = false
+
+abbrev pub starts_at : ℕ → ℕ → EventKind → Bool
+starts_at place t (Started start) = start.place == place
+starts_at place t _ = false
+
+-- what happens at t is the end of the attempt of this place, with this mark, or with any
+abbrev pub ends : ℕ → Mark → ℕ → EventKind → Bool
+ends place (marks.Won tick) t (Won at) = (t == tick) && (at == place)
+ends place (marks.Failed tick) t (Failed at) = (t == tick) && (at == place)
+ends place (marks.Cancelled tick) t (Cancelled at) = (t == tick) && (at == place)
+ends place mark t _ = false
+
+abbrev pub ends_at : ℕ → ℕ → EventKind → Bool
+ends_at place t (Won at) = at == place
+ends_at place t (Failed at) = at == place
+ends_at place t (Cancelled at) = at == place
+ends_at place t _ = false
+
+-- just one of the events is so
+abbrev pub IsOnce : (ℕ → EventKind → Bool) → List Event → Type 0
+IsOnce test events = count_by (λ event. test event.tick event.kind) events ≡ 1
+
+-- the attempt of a line has one start among the events, at the line's tick and to its address, and one end, as the
+-- line's mark says
+pub record HasStartAndEnd (events : List Event) (line : Line) : Type 0 where
+  pub start : IsOnce (starts line) events
+  pub one_start : IsOnce (starts_at line.place) events
+  pub end : IsOnce (ends line.place line.mark) events
+  pub one_end : IsOnce (ends_at line.place) events
+
+-- so has each line of a race's transcript
+abbrev pub LinesStand : Type 0
+LinesStand =
+    (race : Race) → IsRace race → (report : Report) → IsTranscript race report → (n : ℕ) (line : Line)
+    → slice_get report.lines n ≡ Some line → HasStartAndEnd (events_in race report) line
+
+-- where the A answer has a usable address, the client waits for the AAAA answer just where the first attempt starts
+-- after the A answer is seen
+abbrev pub WaitsStand : Type 0
+WaitsStand =
+    (race : Race) → IsRace race → (a : Reply) → race.a ≡ Some a → IsTrue (list_any is_usable a.addresses)
+    → (next : Attempt) → IsNext race [] next → IsTrue (is_waiting race a) ↔ (seen race a.tick < next.tick)

@@ -158,9 +158,15 @@ fn events_in<A: Allocator + Copy, B: Allocator, C: Allocator>(
 {
     let end = end_tick(transcript.result());
     let mut events = collect_events(alloc, timeline, sorted, transcript)?;
-    events.retain(|event| comes_by(event, end));
+    keep_until(&mut events, end);
     sort_by_tick(&mut events)?;
     Ok(events)
+}
+
+fn keep_until<A: Allocator>(events: &mut Vec<Event, A>, end: u64)
+    ensures { events.new.items ≡ filter (λ event. comes_by end event.tick event.kind) events.old.items }
+{
+    events.retain(|event| comes_by(event, end));
 }
 
 // Whether the event comes by the race's end, and a pause before it.

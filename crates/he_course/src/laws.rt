@@ -1,6 +1,6 @@
 // Laws of the definitions. Each is the contract of a function that does nothing.
 
-ghost use Rattle.he_course.specs.Laws.{CausesStand, CourseStands, DuesStand, FloorsStand, OneRuleDecides, PlacesStand, StartsStand};
+ghost use Rattle.he_course.specs.Laws.{CausesStand, CourseStands, DuesStand, FloorsStand, LinesStand, OneRuleDecides, PlacesStand, StartsStand, WaitsStand};
 
 /// Between two members of a list just one rule decides, and that is the one which is named of their addresses.
 pub fn one_rule_decides()
@@ -29,4 +29,15 @@ pub fn course_stands()
 /// The starts of a course are those of the race's attempts, each with its cause behind the attempts before it.
 pub fn starts_stand()
     ensures { StartsStand }
+{}
+
+/// Each attempt of a transcript has just one start among the events of a course, at its tick and to its address, and
+/// just one end, as its mark says.
+pub fn lines_stand()
+    ensures { LinesStand }
+{}
+
+/// A wait for the AAAA answer stands in a course just where it made the first attempt start later.
+pub fn waits_stand()
+    ensures { WaitsStand }
 {}

@@ -1,18 +1,17 @@
-//! Why a race went as it did: what `he explain` writes.
+//! The course of a race: all that is told of it, made once.
 //!
-//! [`write_explanation`] writes the order of a race's addresses with its reasons, then the race's course, and `end`.
-//! Each of both is there by itself. [`write_order_reasons`] writes the usable addresses in the order of RFC 6724
-//! section 6, with the rules 8a and 8b of RFC 8305 section 4, each with its source, and from the second on the first
-//! of these rules which puts it behind the one before, by its number and its name. [`write_course`] writes what
-//! happened at which tick (RFC 8305 sections 3 to 5): the answers, the wait for the AAAA answer, each attempt with its
-//! cause and the place of its address in the interlaced list, failures, pauses, and how the race ended.
+//! [`Course::of`] makes a [`Course`] of a timeline. It has the race's number and line, its answers as the client sees
+//! them, its addresses in order of preference, each with the rule that puts it after the one before (RFC 6724 section
+//! 6, RFC 8305 section 4), its transcript, how it ended and how it would have ended with the least floor, and its
+//! [`Event`]s by tick (RFC 8305 sections 3 to 5): the answers, the wait for the AAAA answer, each attempt with its
+//! [`Cause`] and the place of its address in the interlaced list, failures, pauses, and the end. Stories, pictures, JSON
+//! texts and counts are made of this value alone.
 //!
-//! Proved, for every race: what is appended is the text of `specs/Reasons`, whose rules are those of he_select (its
-//! `specs/Deciding`), and that of `specs/Course`, by the race's one transcript; and the vector is as it was where
-//! memory is refused. [`laws`] has what follows from the definitions: between two members of a list exactly one rule
-//! decides; the cause of an attempt (`specs/Causes`) is what came at its tick and not before; its address is the first
-//! untried one of the interlaced list, at the place that is told (`specs/Listing`); and a course has all events up to
-//! the race's end (`specs/Events`), by tick.
+//! Proved, for every race: the value is that of `specs/Course`, by the race's one transcript. [`laws`] has what follows:
+//! each attempt of the transcript has just one start and one end among the events; the cause of an attempt
+//! (`specs/Causes`) is what came at its tick and not before; its address is the first untried one of the interlaced
+//! list (`specs/Listing`); a wait stands just where it moved the first start; the events are all those up to the end
+//! (`specs/Events`), by tick; and exactly one rule decides between two addresses.
 #![tactic(auto)]
 
 pub mod addresses;

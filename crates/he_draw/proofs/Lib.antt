@@ -1,2 +1,1 @@
-mod RepeatLaws
-mod TextLaws
+mod EscapedLaws

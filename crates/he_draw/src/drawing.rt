@@ -1,18 +1,152 @@
-// The rows of a picture, and the scale below them.
+// The rows of a picture.
 
-ghost use Rattle.std.specs.Prelude.{◌≡◌, ◌++◌, ◌-◌, ◌+◌, length, decimal, OnOk};
-ghost use Rattle.std.specs.List.{flat_map, repeat};
-ghost use Rattle.he_draw.specs.Drawn.{aligned_text, bar_text, column, columns_text, drawn_text, framed_text, row_text, scale_text, sign_of_mark, start_of, stop_of};
-ghost use Rattle.he_draw.specs.Looks.{sign_text};
+ghost use Rattle.std.specs.Prelude.{◌≡◌, ◌++◌, ◌∷◌, [], ◌-◌, OnOk};
+ghost use Rattle.std.specs.List.{flat_map};
+ghost use Rattle.he_print.specs.Parts.{fact_of};
+ghost use Rattle.he_print.specs.declared.part.Fact.TheVariants.{Said as Says};
+ghost use Rattle.he_draw.specs.Picture.{bar_facts, columns_facts, row_facts, start_of, stop_of, times};
+ghost use Rattle.he_draw.specs.Facts.{label_fact};
 
-use crate::frame::Frame;
-use crate::look::{Look, Sign, sign_text};
-use crate::parts::{LinePart, width_of, write_parts, write_repeated, write_words};
+use crate::frame::{Frame, column};
+use crate::look::{Look, Sign, eight, one};
 use crate::rows::Row;
-use crate::words::{stop_of_mark, write_label, write_row_words};
-use he_addr::Memory;
+use crate::words::{became, label, push_words, stop_of_mark};
+use he_addr::{Family, Memory};
 use he_plan::Mark;
+use he_print::{Part, push_parts};
+use he_story::Said;
 use std::alloc::Allocator;
+
+// How many signs are written at once.
+const RUN: usize = 8;
+
+/// The rows of a picture, whose labels are so wide.
+pub(crate) fn push_rows<A: Allocator>(
+    frame: Frame,
+    labels: &[usize],
+    rows: &[Row],
+    parts: &mut Vec<Part<Said>, A>,
+) -> Result<(), Memory>
+    ensures { OnOk result (flat_map fact_of parts.new.items ≡ flat_map fact_of parts.old.items
+        ++ flat_map (row_facts frame.columns frame.end) rows.now) }
+{
+    for (place, row) in rows.iter().enumerate() {
+        let label = labels.get(place).copied().unwrap_or(frame.label);
+        push_row(frame, frame.label.saturating_sub(label), *row, parts)?;
+    }
+    Ok(())
+}
+
+// LABEL |    BAR     | WORDS
+fn push_row<A: Allocator>(
+    frame: Frame,
+    gap: usize,
+    row: Row,
+    parts: &mut Vec<Part<Said>, A>,
+) -> Result<(), Memory>
+    ensures { OnOk result (flat_map fact_of parts.new.items ≡ flat_map fact_of parts.old.items
+        ++ row_facts frame.columns frame.end row) }
+{
+    let edge = Part::Words(one(frame.look, Sign::Edge));
+    push_parts(&[label(row), blank(gap), Part::Words(b" "), edge], parts)?;
+    push_columns(frame, row, parts)?;
+    push_parts(&[edge, Part::Words(b" ")], parts)?;
+    push_words(row, parts)?;
+    push_parts(&[Part::Words(b"\n")], parts)
+}
+
+// The widest address has 39 characters.
+const BLANK: &[u8] = b"                                        ";
+
+/// So many spaces, at most 40.
+pub(crate) fn blank(count: usize) -> Part<Said>
+    ensures { fact_of result ≡ [] }
+{
+    Part::Words(&BLANK[..count.min(BLANK.len())])
+}
+
+// All columns of a row.
+fn push_columns<A: Allocator>(
+    frame: Frame,
+    row: Row,
+    parts: &mut Vec<Part<Said>, A>,
+) -> Result<(), Memory>
+    ensures { OnOk result (flat_map fact_of parts.new.items ≡ flat_map fact_of parts.old.items
+        ++ columns_facts frame.columns frame.end row) }
+{
+    let from = column(frame.columns, frame.end, start_of(row));
+    let to = column(frame.columns, frame.end, stop_of(row));
+    let last = frame.columns.saturating_sub(1);
+    push_times(frame.look, Sign::Blank, from, parts)?;
+    push_bar(frame.look, row, to.saturating_sub(from), parts)?;
+    push_times(frame.look, Sign::Blank, last.saturating_sub(to), parts)
+}
+
+// A row's own columns: so many and one more.
+fn push_bar<A: Allocator>(
+    look: Look,
+    row: Row,
+    more: usize,
+    parts: &mut Vec<Part<Said>, A>,
+) -> Result<(), Memory>
+    ensures { OnOk result (flat_map fact_of parts.new.items ≡ flat_map fact_of parts.old.items ++ bar_facts row more) }
+{
+    match row {
+        Row::Answered(family, _, _) => push_sign(look, Sign::Answer, Said::Answered(family), parts),
+        Row::Waits(_, _, _) => {
+            push_sign(look, Sign::Answer, Said::Answered(Family::V4), parts)?;
+            push_times(look, Sign::Wait, more, parts)
+        }
+        Row::Missing(_) => push_parts(&[Part::Words(b" ")], parts),
+        Row::Paused(_, _) => {
+            push_sign(look, Sign::Pause, Said::Paused, parts)?;
+            push_times(look, Sign::Pause, more, parts)
+        }
+        Row::Tried(line) => {
+            push_times(look, Sign::Attempt, more, parts)?;
+            push_sign(look, sign_of_mark(line.mark), became(line.mark), parts)
+        }
+    }
+}
+
+fn push_sign<A: Allocator>(
+    look: Look,
+    sign: Sign,
+    said: Said,
+    parts: &mut Vec<Part<Said>, A>,
+) -> Result<(), Memory>
+    ensures { OnOk result (flat_map fact_of parts.new.items ≡ flat_map fact_of parts.old.items
+        ++ Says said ∷ []) }
+{
+    push_parts(&[Part::Says(said, one(look, sign))], parts)
+}
+
+// A sign so many times.
+fn push_times<A: Allocator>(
+    look: Look,
+    sign: Sign,
+    count: usize,
+    parts: &mut Vec<Part<Said>, A>,
+) -> Result<(), Memory>
+    ensures { OnOk result (flat_map fact_of parts.new.items ≡ flat_map fact_of parts.old.items ++ times count) }
+{
+    push_parts(
+        &[
+            Part::Repeated(count / RUN, eight(look, sign)),
+            Part::Repeated(count % RUN, one(look, sign)),
+        ],
+        parts,
+    )
+}
+
+/// The sign of what became of an attempt.
+pub(crate) fn sign_of_mark(mark: Mark) -> Sign {
+    match mark {
+        Mark::Won(_) => Sign::Won,
+        Mark::Failed(_) => Sign::Failed,
+        Mark::Cancelled(_) => Sign::Cancelled,
+    }
+}
 
 fn start_of(row: Row) -> u64
     ensures { result ≡ start_of row }
@@ -36,148 +170,4 @@ fn stop_of(row: Row) -> u64
         Row::Paused(_, to) => to,
         Row::Tried(line) => stop_of_mark(line.mark),
     }
-}
-
-pub(crate) fn sign_of_mark(mark: Mark) -> Sign
-    ensures { result ≡ sign_of_mark mark }
-{
-    match mark {
-        Mark::Won(_) => Sign::Won,
-        Mark::Failed(_) => Sign::Failed,
-        Mark::Cancelled(_) => Sign::Cancelled,
-    }
-}
-
-// A sign, and behind it another one so many times.
-fn write_sign_and<A: Allocator + Copy>(
-    look: Look,
-    first: Sign,
-    more: usize,
-    next: Sign,
-    text: &mut Vec<u8, A>,
-) -> Result<(), Memory>
-    ensures { OnOk result (text.new.items ≡ text.old.items ++ (sign_text look first ++ repeat more
-        (sign_text look next))) }
-{
-    write_words(sign_text(look, first), text)?;
-    write_repeated(more, sign_text(look, next), text)
-}
-
-// A row's own columns: so many and one more.
-fn write_bar<A: Allocator + Copy>(
-    look: Look,
-    row: Row,
-    more: usize,
-    text: &mut Vec<u8, A>,
-) -> Result<(), Memory>
-    ensures { OnOk result (text.new.items ≡ text.old.items ++ bar_text look row more) }
-{
-    match row {
-        Row::Answered(_, _, _) => write_words(sign_text(look, Sign::Answer), text),
-        Row::Waits(_, _, _) => write_sign_and(look, Sign::Answer, more, Sign::Wait, text),
-        Row::Missing(_) => write_words(b" ", text),
-        Row::Paused(_, _) => write_sign_and(look, Sign::Pause, more, Sign::Pause, text),
-        Row::Tried(line) => {
-            write_repeated(more, sign_text(look, Sign::Attempt), text)?;
-            write_words(sign_text(look, sign_of_mark(line.mark)), text)
-        }
-    }
-}
-
-fn write_columns<A: Allocator + Copy>(
-    frame: Frame,
-    row: Row,
-    text: &mut Vec<u8, A>,
-) -> Result<(), Memory>
-    ensures { OnOk result (text.new.items ≡ text.old.items ++ columns_text frame row) }
-{
-    let from = frame.column(start_of(row));
-    let to = frame.column(stop_of(row));
-    let last = frame.columns.saturating_sub(1);
-    write_repeated(from, b" ", text)?;
-    write_bar(frame.look, row, to.saturating_sub(from), text)?;
-    write_repeated(last.saturating_sub(to), b" ", text)
-}
-
-// A row's label, and spaces up to the width of the widest one.
-fn write_aligned<A: Allocator + Copy>(
-    frame: Frame,
-    row: Row,
-    text: &mut Vec<u8, A>,
-) -> Result<(), Memory>
-    ensures { OnOk result (text.new.items ≡ text.old.items ++ aligned_text frame row) }
-{
-    let before = text.len();
-    write_label(row, text)?;
-    let label = text.len().saturating_sub(before);
-    write_repeated(frame.label.saturating_sub(label), b" ", text)
-}
-
-// A row's columns between the edges, with the spaces beside these.
-fn write_framed<A: Allocator + Copy>(
-    frame: Frame,
-    row: Row,
-    text: &mut Vec<u8, A>,
-) -> Result<(), Memory>
-    ensures { OnOk result (text.new.items ≡ text.old.items ++ framed_text frame row) }
-{
-    let edge = sign_text(frame.look, Sign::Edge);
-    write_words(b" ", text)?;
-    write_words(edge, text)?;
-    write_columns(frame, row, text)?;
-    write_words(edge, text)?;
-    write_words(b" ", text)
-}
-
-// LABEL |    BAR     | WORDS
-fn write_row<A: Allocator + Copy>(
-    frame: Frame,
-    row: Row,
-    text: &mut Vec<u8, A>,
-) -> Result<(), Memory>
-    ensures { OnOk result (text.new.items ≡ text.old.items ++ row_text frame row) }
-{
-    write_aligned(frame, row, text)?;
-    write_framed(frame, row, text)?;
-    write_row_words(row, text)?;
-    write_words(b"\n", text)
-}
-
-fn write_rows<A: Allocator + Copy>(
-    frame: Frame,
-    rows: &[Row],
-    text: &mut Vec<u8, A>,
-) -> Result<(), Memory>
-    ensures { OnOk result (text.new.items ≡ text.old.items ++ flat_map (row_text frame) rows.now) }
-{
-    for row in rows {
-        write_row(frame, *row, text)?;
-    }
-    Ok(())
-}
-
-// The scale below the rows.
-fn write_scale<A: Allocator + Copy>(frame: Frame, text: &mut Vec<u8, A>) -> Result<(), Memory>
-    ensures { OnOk result (text.new.items ≡ text.old.items ++ scale_text frame) }
-{
-    let between = frame.columns.saturating_sub(width_of(frame.end) + 4).max(1);
-    write_repeated(frame.label, b" ", text)?;
-    write_words(b"  0", text)?;
-    write_repeated(between, b" ", text)?;
-    write_parts(
-        &[LinePart::Number(frame.end), LinePart::Words(b" ms\n")],
-        text,
-    )
-}
-
-#[tactic(auto, unfolding(crate::specs::Drawn::drawn_text))]
-pub(crate) fn write_drawn<A: Allocator + Copy>(
-    frame: Frame,
-    rows: &[Row],
-    text: &mut Vec<u8, A>,
-) -> Result<(), Memory>
-    ensures { OnOk result (text.new.items ≡ text.old.items ++ drawn_text frame rows.now) }
-{
-    write_rows(frame, rows, text)?;
-    write_scale(frame, text)
 }

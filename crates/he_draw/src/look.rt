@@ -1,8 +1,5 @@
 // The characters of which pictures are drawn.
 
-ghost use Rattle.std.specs.Prelude.{◌≡◌};
-ghost use Rattle.he_draw.specs.Looks.{ascii_text, sign_text, unicode_text};
-
 /// Of which characters a picture is drawn.
 #[derive(Clone, Copy, Debug, PartialEq, Eq)]
 pub enum Look {
@@ -14,7 +11,8 @@ pub enum Look {
 
 /// What a column of a picture shows.
 #[derive(Clone, Copy, Debug, PartialEq, Eq)]
-pub enum Sign {
+pub(crate) enum Sign {
+    Blank,
     /// The edge at the left and at the right.
     Edge,
     /// An answer is seen.
@@ -33,19 +31,17 @@ pub enum Sign {
     Cancelled,
 }
 
-pub(crate) fn sign_text(look: Look, sign: Sign) -> &'static [u8]
-    ensures { result.now ≡ sign_text look sign }
-{
+/// One of a sign.
+pub(crate) fn one(look: Look, sign: Sign) -> &'static [u8] {
     match look {
-        Look::Ascii => ascii_text(sign),
-        Look::Unicode => unicode_text(sign),
+        Look::Ascii => ascii(sign),
+        Look::Unicode => unicode(sign),
     }
 }
 
-fn ascii_text(sign: Sign) -> &'static [u8]
-    ensures { result.now ≡ ascii_text sign }
-{
+fn ascii(sign: Sign) -> &'static [u8] {
     match sign {
+        Sign::Blank => b" ",
         Sign::Edge => b"|",
         Sign::Answer => b"o",
         Sign::Wait => b"~",
@@ -57,10 +53,9 @@ fn ascii_text(sign: Sign) -> &'static [u8]
     }
 }
 
-fn unicode_text(sign: Sign) -> &'static [u8]
-    ensures { result.now ≡ unicode_text sign }
-{
+fn unicode(sign: Sign) -> &'static [u8] {
     match sign {
+        Sign::Blank => b" ",
         Sign::Edge => "│".as_bytes(),
         Sign::Answer => "●".as_bytes(),
         Sign::Wait => "┄".as_bytes(),
@@ -69,5 +64,18 @@ fn unicode_text(sign: Sign) -> &'static [u8]
         Sign::Won => "✓".as_bytes(),
         Sign::Failed => "✕".as_bytes(),
         Sign::Cancelled => "▸".as_bytes(),
+    }
+}
+
+/// Eight of them, of those that stand in a row.
+pub(crate) fn eight(look: Look, sign: Sign) -> &'static [u8] {
+    match (look, sign) {
+        (Look::Ascii, Sign::Wait) => b"~~~~~~~~",
+        (Look::Ascii, Sign::Pause) => b"########",
+        (Look::Ascii, Sign::Attempt) => b"========",
+        (Look::Unicode, Sign::Wait) => "┄┄┄┄┄┄┄┄".as_bytes(),
+        (Look::Unicode, Sign::Pause) => "░░░░░░░░".as_bytes(),
+        (Look::Unicode, Sign::Attempt) => "━━━━━━━━".as_bytes(),
+        _ => b"        ",
     }
 }

@@ -1,38 +1,35 @@
-// The label of a row, and its words.
+// The label of a row, at its left, and its words, at its right.
 
-ghost use Rattle.std.specs.Prelude.{◌≡◌, ◌++◌, OnOk};
-ghost use Rattle.he_draw.specs.Words.{family_text, became_text, label_text, range_text, stop_of_mark, words_text};
+ghost use Rattle.std.specs.Prelude.{◌≡◌, ◌++◌, ◌∷◌, [], OnOk};
+ghost use Rattle.std.specs.List.{flat_map};
+ghost use Rattle.he_print.specs.Parts.{fact_of};
+ghost use Rattle.he_draw.specs.Facts.{became, label_fact, stop_of_mark, words_facts};
 
-use crate::parts::{LinePart, write_parts, write_words};
 use crate::rows::Row;
-use he_addr::{Family, Memory, write_ip};
+use he_addr::{Family, Memory};
 use he_plan::Mark;
+use he_print::{Part, push_parts};
+use he_story::Said;
 use std::alloc::Allocator;
 
-fn family_text(family: Family) -> &'static [u8]
-    ensures { result.now ≡ family_text family }
+/// Of what a row is.
+pub(crate) fn label(row: Row) -> Part<Said>
+    ensures { fact_of result ≡ label_fact row ∷ [] }
 {
-    match family {
-        Family::V6 => b"AAAA answer",
-        Family::V4 => b"A answer",
+    match row {
+        Row::Answered(family, _, _) | Row::Missing(family) => {
+            Part::Says(Said::Answered(family), answer_words(family))
+        }
+        Row::Waits(_, _, _) => Part::Says(Said::Answered(Family::V4), answer_words(Family::V4)),
+        Row::Paused(_, _) => Part::Says(Said::Paused, b"pause"),
+        Row::Tried(line) => Part::Ip(line.ip),
     }
 }
 
-// Of what the row tells.
-pub(crate) fn write_label<A: Allocator + Copy>(
-    row: Row,
-    text: &mut Vec<u8, A>,
-) -> Result<(), Memory>
-    ensures { OnOk result (text.new.items ≡ text.old.items ++ label_text row) }
-{
-    match row {
-        Row::Answered(family, _, _) | Row::Missing(family) => write_words(
-            family_text(family),
-            text,
-        ),
-        Row::Waits(_, _, _) => write_words(b"A answer", text),
-        Row::Paused(_, _) => write_words(b"pause", text),
-        Row::Tried(line) => write_ip(line.ip, text),
+fn answer_words(family: Family) -> &'static [u8] {
+    match family {
+        Family::V6 => b"AAAA answer",
+        Family::V4 => b"A answer",
     }
 }
 
@@ -47,9 +44,18 @@ pub(crate) fn stop_of_mark(mark: Mark) -> u64
     }
 }
 
-fn became_text(mark: Mark) -> &'static [u8]
-    ensures { result.now ≡ became_text mark }
+/// What became of an attempt.
+pub(crate) fn became(mark: Mark) -> Said
+    ensures { result ≡ became mark }
 {
+    match mark {
+        Mark::Won(_) => Said::Won,
+        Mark::Failed(_) => Said::Failed,
+        Mark::Cancelled(_) => Said::Cancelled,
+    }
+}
+
+fn became_words(mark: Mark) -> &'static [u8] {
     match mark {
         Mark::Won(_) => b" ms won",
         Mark::Failed(_) => b" ms failed",
@@ -57,63 +63,52 @@ fn became_text(mark: Mark) -> &'static [u8]
     }
 }
 
-// FROM-TO, and what it was.
-fn write_range<A: Allocator + Copy>(
-    from: u64,
-    to: u64,
-    what: &[u8],
-    text: &mut Vec<u8, A>,
-) -> Result<(), Memory>
-    ensures { OnOk result (text.new.items ≡ text.old.items ++ range_text from to what.now) }
-{
-    write_parts(
-        &[
-            LinePart::Number(from),
-            LinePart::Words(b"-"),
-            LinePart::Number(to),
-            LinePart::Words(what),
-        ],
-        text,
-    )
-}
-
-// What is told at the right: the ticks, and what was then.
-pub(crate) fn write_row_words<A: Allocator + Copy>(
+/// The ticks of a row, and what was then.
+pub(crate) fn push_words<A: Allocator>(
     row: Row,
-    text: &mut Vec<u8, A>,
+    parts: &mut Vec<Part<Said>, A>,
 ) -> Result<(), Memory>
-    ensures { OnOk result (text.new.items ≡ text.old.items ++ words_text row) }
+    ensures { OnOk result (flat_map fact_of parts.new.items ≡ flat_map fact_of parts.old.items ++ words_facts row) }
 {
     match row {
-        Row::Answered(_, tick, usable) => write_parts(
+        Row::Answered(_, tick, usable) => push_parts(
             &[
-                LinePart::Number(tick),
-                LinePart::Words(b" ms, "),
-                LinePart::Number(usable as u64),
-                LinePart::Words(b" usable"),
+                Part::Number(tick),
+                Part::Words(b" ms, "),
+                Part::Number(usable as u64),
+                Part::Says(Said::ToTry, b" usable"),
             ],
-            text,
+            parts,
         ),
-        Row::Waits(from, to, usable) => write_parts(
+        Row::Waits(from, to, usable) => push_parts(
             &[
-                LinePart::Number(from),
-                LinePart::Words(b"-"),
-                LinePart::Number(to),
-                LinePart::Words(b" ms wait, "),
-                LinePart::Number(usable as u64),
-                LinePart::Words(b" usable"),
+                Part::Number(from),
+                Part::Words(b"-"),
+                Part::Number(to),
+                Part::Says(Said::Waits, b" ms wait, "),
+                Part::Number(usable as u64),
+                Part::Says(Said::ToTry, b" usable"),
             ],
-            text,
+            parts,
         ),
-        Row::Missing(_) => write_words(b"none by the end", text),
-        Row::Paused(from, to) => write_range(from, to, b" ms", text),
-        Row::Tried(line) => {
-            write_range(
-                line.tick,
-                stop_of_mark(line.mark),
-                became_text(line.mark),
-                text,
-            )
-        }
+        Row::Missing(family) => push_parts(&[Part::Says(Said::NoAnswer(family), b"none by the end")], parts),
+        Row::Paused(from, to) => push_parts(
+            &[
+                Part::Number(from),
+                Part::Words(b"-"),
+                Part::Number(to),
+                Part::Words(b" ms"),
+            ],
+            parts,
+        ),
+        Row::Tried(line) => push_parts(
+            &[
+                Part::Number(line.tick),
+                Part::Words(b"-"),
+                Part::Number(stop_of_mark(line.mark)),
+                Part::Says(became(line.mark), became_words(line.mark)),
+            ],
+            parts,
+        ),
     }
 }

@@ -1,8 +1,4 @@
-pub mod Events
-pub mod Explanation
+pub mod Documents
+pub mod Facts
 pub mod Json
 pub mod Laws
-pub mod Members
-pub mod Orders
-pub mod Reasons
-pub mod Transcripts

@@ -14,21 +14,22 @@ const LINES_HELP: &str = "Write lines for scripts, to be cut at their spaces";
 
 const EXAMPLE: &str = "\
 Reads timelines, as `he replay` does. Standard output has for each race how it
-ended; its usable addresses in the order of preference, each with the source
-that the host uses for it, and from the second on what puts it after the one
-before (RFC 6724 section 6, RFC 8305 section 4); what happened at which
-millisecond, each attempt with what started it (RFC 8305 sections 3 to 5); and
-last what had to wait, and whether a floor (`set floor 10`) would have helped.
+ended, and what it lost; its usable addresses in the order of preference, each
+with the source that the host uses for it, and from the second on what puts it
+after the one before (RFC 6724 section 6, RFC 8305 section 4); what happened at
+which millisecond, each attempt with what started it (RFC 8305 sections 3 to 5);
+and last what had to wait, and whether a floor (`set floor 10`) would have
+helped.
 Attempts and addresses are counted from 1.
 
 For the example of `he replay --help` it writes:
 
-  race 1, line 1: connected to 2001:db8:1::1 after 55 ms, by attempt 1 of 1
+  race 1, line 1: connected to 2001:db8:1::1 after 55 ms; nothing lost
   preferred, once every answer is known:
     1. 2001:db8:1::1 from 2001:db8::2
     2. 198.51.100.1 from 192.0.2.2; precedence 35, the one before 40 (RFC 6724
        rule 6)
-  what happened:
+  course:
     20 ms  AAAA answer: 1 address to try; the A answer is not there yet
     20 ms  attempt 1 to 2001:db8:1::1: the AAAA answer is there; the only
            address known

@@ -42,7 +42,7 @@ pub enum Content {
     Picture { is_ascii: bool, width: u16 },
     /// The same as an SVG image.
     Image,
-    /// That image beside its story, a part of a page.
+    /// Its part of a page.
     Section,
 }
 

@@ -1,4 +1,0 @@
-mod FloorLaws
-mod OrderLaws
-mod SpaceLaws
-mod TextLaws

@@ -2,8 +2,8 @@
 use Rattle.std.specs.Prelude.{◌≡◌, ◌≢◌, ◌⊎◌, ◌++◌, ℕ, Bool, true, false, List, [], ◌∷◌, Option, Some, None, Result, Err, codes, if◌then◌else◌, option_map}
 use Rattle.std.specs.Borrow.{Bor}
 use Rattle.he_check.specs.Stream.{Checks}
-use Rattle.he_page.specs.Page.{name_text}
 use Rattle.he_timeline.specs.Changes.{ChangeValues}
+use Rattle.he_draw.specs.Page.{HasName}
 use Rattle.he_draw.specs.declared.look.Look.TheVariants as looks
 use Rattle.he_replay.specs.Stream.{Replays}
 use Rattle.he_replay.specs.declared.race_texts.Content.{Content}
@@ -55,13 +55,18 @@ RunsTask input output (Summarize json slowest) changes first last before after =
 abbrev pub name_line : List ℕ → List ℕ
 name_line name = codes "==> " ++ name ++ codes " <==\n"
 
--- the heading of a text of this name above what is written of its races, where that has their places in the text, as
+-- the name of a text stands above what is written of its races, where that has their places in the text, as
 -- `race 1, line 1`, and does not stand for itself alone
 abbrev pub heading_of : List ℕ → Task → Option (List ℕ)
-heading_of name (Write asked.Story workers) = Some (name_line name)
-heading_of name (Write (asked.Picture ascii width) workers) = Some (name_line name)
-heading_of name (Write asked.Section workers) = Some (name_text name)
+heading_of name (Write asked.Story workers) = Some name
+heading_of name (Write (asked.Picture ascii width) workers) = Some name
+heading_of name (Write asked.Section workers) = Some name
 heading_of name _ = None
+
+-- how it stands there
+abbrev pub IsHeading : Task → List ℕ → List ℕ → Type 0
+IsHeading (Write asked.Section workers) name text = HasName name text
+IsHeading task name text = text ≡ name_line name
 
 -- whether there are several, so that they have headings
 abbrev pub has_headings : {N : Type 0} → List N → Bool
@@ -73,28 +78,30 @@ has_headings (one ∷ two ∷ more) = true
 abbrev pub shown_name : Option Name → Option (List ℕ)
 shown_name name = option_map (λ n. n.shown.now) name
 
--- the heading of a text that is shown by this name, if it has one
+-- the name that heads a text which is shown by this name, if one does
 abbrev pub heading : Task → Bool → Option (List ℕ) → Option (List ℕ)
 heading task true (Some name) = heading_of name task
 heading task headed name = None
 
 -- the heading, where there is one, was put
-abbrev pub HasHeading : {O : Type 0} → outputs.Ghosts O → Option (List ℕ) → O → O → Type 0
-HasHeading output None before after = after ≡ before
-HasHeading output (Some text) before after = TookAll output before after text
+abbrev pub HasHeading : {O : Type 0} → outputs.Ghosts O → Task → Option (List ℕ) → O → O → Type 0
+HasHeading output task None before after = after ≡ before
+HasHeading output task (Some name) before after =
+    (text : List ℕ) × IsHeading task name text × TookAll output before after text
 
 -- a first part of it was put until that failed, or nothing for want of memory
-abbrev pub LacksHeading : {O : Type 0} → outputs.Ghosts O → Option (List ℕ) → O → O → Type 0
-LacksHeading output None before after = ⊥
-LacksHeading output (Some text) before after = TookPart output before after text ⊎ (after ≡ before)
+abbrev pub LacksHeading : {O : Type 0} → outputs.Ghosts O → Task → Option (List ℕ) → O → O → Type 0
+LacksHeading output task None before after = ⊥
+LacksHeading output task (Some name) before after =
+    ((text : List ℕ) × IsHeading task name text × TookPart output before after text) ⊎ (after ≡ before)
 
 -- the task was done below the heading; or there was a fault in that, and nothing was read
 abbrev pub RunsHeaded : {I O : Type 0} → inputs.Ghosts I → outputs.Ghosts O → Task → ChangeValues → Option (List ℕ) → I
     → I → O × Option Sums → O × Option Sums → Result (Unit {0}) StreamFault → Type 0
-RunsHeaded {I} {O} input output task changes text first last before after result =
-    ((between : O) × HasHeading output text before.0 between
+RunsHeaded {I} {O} input output task changes name first last before after result =
+    ((between : O) × HasHeading output task name before.0 between
     × RunsTask input output task changes first last (between, before.1) after result)
-    ⊎ ((fault : StreamFault) × (result ≡ Err fault) × (last ≡ first) × LacksHeading output text before.0 after.0)
+    ⊎ ((fault : StreamFault) × (result ≡ Err fault) × (last ≡ first) × LacksHeading output task name before.0 after.0)
 
 -- what comes of a text that is shown by this name, if it has one, by the states of its input and of what it is worked
 -- into, and by the status

@@ -1,6 +1,6 @@
 //! What is written of one text of races, or told of it.
 ghost use Rattle.std.specs.Prelude.{◌≡◌, IfOk, OnErr, OnOk, true};
-ghost use Rattle.he_page.specs.Page.{name_text};
+ghost use Rattle.he_draw.specs.Page.{HasName};
 ghost use Rattle.he_tasks.specs.Status.{status_of};
 ghost use Rattle.he_tasks.specs.Summaries.{AddsSums};
 ghost use Rattle.he_request.specs.Requests.{HasTaskWorkers};
@@ -14,8 +14,8 @@ use crate::session::{Session, put_text, report_unwritten};
 use crate::system::TaskSystem;
 use he_addr::Memory;
 use he_check::check;
+use he_draw::write_name;
 use he_inputs::StreamFault;
-use he_page::write_name;
 use he_replay::{TextRequest, replay};
 use he_request::{Content, Task, Texts};
 use he_stream::{InputStream, OutputStream};
@@ -82,9 +82,9 @@ fn put_heading<O: OutputStream>(
     text: Text<'_>,
     output: &mut O,
 ) -> Result<(), StreamFault>
-    ensures ok { OnOk result (HasHeading O.OutputStream
+    ensures ok { OnOk result (HasHeading O.OutputStream text.entry.texts.now.task
         (heading text.entry.texts.now.task true (shown_name text.entry.name)) output.old output.new) }
-    ensures err { OnErr result (LacksHeading O.OutputStream
+    ensures err { OnErr result (LacksHeading O.OutputStream text.entry.texts.now.task
         (heading text.entry.texts.now.task true (shown_name text.entry.name)) output.old output.new) }
 {
     let Some(name) = text.name else {
@@ -115,7 +115,7 @@ fn name_line(alloc: Global, name: &str) -> Result<Vec<u8>, AllocError>
 }
 
 fn name_in_page(alloc: Global, name: &str) -> Result<Vec<u8>, Memory>
-    ensures { IfOk result (λ line. line.items ≡ name_text name.now) }
+    ensures { IfOk result (λ line. HasName name.now line.items) }
 {
     let mut line = Vec::new(alloc);
     write_name(name, &mut line)?;

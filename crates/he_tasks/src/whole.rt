@@ -1,9 +1,8 @@
 //! What is written of all the texts that a line names, to the output or to a file.
 ghost use Rattle.std.specs.Prelude.{◌≡◌, IfOk, OnErr, OnOk};
 ghost use Rattle.he_request.specs.Requests.{IsTexts};
-ghost use Rattle.he_tasks.specs.Texts.{HasHeading, LacksHeading};
 ghost use Rattle.he_tasks.specs.Summaries.{rows_of};
-ghost use Rattle.he_tasks.specs.Whole.{DoesTexts, FillsFile, WritesFile, WritesTexts, head_of};
+ghost use Rattle.he_tasks.specs.Whole.{DoesTexts, FillsFile, HasHead, LacksHead, WritesFile, WritesTexts, is_page};
 
 use crate::files::run_all;
 use crate::name::Name;
@@ -11,9 +10,9 @@ use crate::reports::{DONE, first_fault, report, report_path};
 use crate::session::{Session, put_text, report_unwritten};
 use crate::sums::end_texts;
 use crate::system::TaskSystem;
+use he_draw::write_head;
 use he_files::create_beside;
 use he_inputs::StreamFault;
-use he_page::write_head;
 use he_request::shown::shown;
 use he_request::{Content, Task, Texts};
 use he_stream::{FromReader, InputStream, OutputStream, ToWriter};
@@ -139,8 +138,8 @@ fn rows_of(alloc: Global, texts: &Texts<'_>) -> Result<Vec<Changes>, AllocError>
 
 // Puts what begins a page, where it is one.
 fn put_head<O: OutputStream>(alloc: Global, task: Task, output: &mut O) -> Result<(), StreamFault>
-    ensures ok { OnOk result (HasHeading O.OutputStream (head_of task) output.old output.new) }
-    ensures err { OnErr result (LacksHeading O.OutputStream (head_of task) output.old output.new) }
+    ensures ok { OnOk result (HasHead O.OutputStream (is_page task) output.old output.new) }
+    ensures err { OnErr result (LacksHead O.OutputStream (is_page task) output.old output.new) }
 {
     match task {
         Task::Write {
