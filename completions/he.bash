@@ -39,7 +39,7 @@ _he() {
         replay) options='--workers --set --json --verbose -v --help -h' words=FILE ;;
         explain) options='--lines --set --json --verbose -v --help -h' words=FILE ;;
         draw) options='--ascii --width --svg --html --set --verbose -v --help -h' words=FILE ;;
-        summary) options='--json --slowest --keep-going --set --verbose -v --help -h' words=FILE ;;
+        summary) options='--json --openmetrics --slowest --keep-going --set --verbose -v --help -h' words=FILE ;;
         compare) options='--json --races --keep-going --set --verbose -v --help -h' words=FILE ;;
         order) options='--json --verbose -v --help -h' words=FILE ;;
         check) options='--all --help -h' words=FILE ;;

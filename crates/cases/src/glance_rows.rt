@@ -69,6 +69,28 @@ const SUMMARY_JSON: &[u8] =
 \"resolution_delay\":0,\"failing\":[]}
 ";
 
+const METRICS: &[u8] = b"# TYPE he_races counter
+he_races_total{result=\"won\",family=\"ipv6\"} 1
+he_races_total{result=\"won\",family=\"ipv4\"} 0
+he_races_total{result=\"exhausted\"} 0
+he_races_total{result=\"limit\"} 0
+# TYPE he_connect_milliseconds summary
+he_connect_milliseconds{quantile=\"0.5\"} 55
+he_connect_milliseconds{quantile=\"0.9\"} 55
+he_connect_milliseconds{quantile=\"0.99\"} 55
+he_connect_milliseconds{quantile=\"1\"} 55
+he_connect_milliseconds_sum 55
+he_connect_milliseconds_count 1
+# TYPE he_lost_milliseconds counter
+he_lost_milliseconds_total{to=\"failed\"} 0
+he_lost_milliseconds_total{to=\"silent\"} 0
+# TYPE he_attempts counter
+he_attempts_total 1
+# TYPE he_resolution_delays counter
+he_resolution_delays_total 0
+# EOF
+";
+
 const TRANSCRIPT_JSON: &[u8] =
     b"{\"attempts\":[{\"attempt\":0,\"start\":20,\"address\":\"2001:db8:1::1\",\
 \"end\":\"won\",\"tick\":55}],\"result\":{\"end\":\"won\",\"attempt\":0,\"tick\":55}}
@@ -85,7 +107,7 @@ const EXPLANATION_JSON: &[u8] =
 \"own\":35,\"before\":40}],\"events\":[{\"tick\":20,\"event\":\"answer\"";
 
 /// Those that draw it, sum it up, or write JSON.
-pub static GLANCE_ROWS: [Row; 25] = [
+pub static GLANCE_ROWS: [Row; 26] = [
     (
         &["he", "draw", "--ascii", "--width", "60"],
         TEXT,
@@ -141,6 +163,14 @@ pub static GLANCE_ROWS: [Row; 25] = [
         Streams::Whole,
         0,
         SLOWEST,
+        b"",
+    ),
+    (
+        &["he", "summary", "--openmetrics"],
+        TEXT,
+        Streams::Whole,
+        0,
+        METRICS,
         b"",
     ),
     (

@@ -23,8 +23,13 @@ pub enum Task {
     Compare { is_json: bool, tells_races: bool },
     /// To check it, and to explain its first fault, or each after which it goes on, or to warn of its slips.
     Check { is_all: bool },
-    /// To sum its races up with those of the other texts, as JSON or in lines, with so many of the slowest ones.
-    Summarize { is_json: bool, slowest: u16 },
+    /// To sum its races up with those of the other texts, as JSON, as metrics or in lines, with so many of the slowest
+    /// ones.
+    Summarize {
+        is_json: bool,
+        is_metrics: bool,
+        slowest: u16,
+    },
 }
 
 /// What is written of a race.

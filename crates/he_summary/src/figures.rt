@@ -4,7 +4,7 @@ ghost use Rattle.std.specs.List.{flat_map};
 ghost use Rattle.he_print.specs.Parts.{fact_of};
 ghost use Rattle.he_print.specs.declared.part.Fact.TheVariants as facts;
 ghost use Rattle.he_summary.specs.declared.figures.Said.TheVariants.{NoOne};
-ghost use Rattle.he_summary.specs.Figures.{count_facts, end_facts, figure_facts, lost_facts, share, share_facts, tally_facts, time_facts, told, totals_facts};
+ghost use Rattle.he_summary.specs.Figures.{count_facts, end_facts, figure_facts, lost_facts, metrics_facts, share, share_facts, tally_facts, time_facts, told, total_of, totals_facts};
 
 use crate::kept::Loss;
 use crate::tallies::Tally;
@@ -22,6 +22,8 @@ pub enum Form {
     Text,
     /// One JSON object on one line.
     Json,
+    /// The counts and the times to connect as OpenMetrics text.
+    Metrics,
 }
 
 /// What is said of races.
@@ -192,7 +194,7 @@ pub(crate) fn push_tally<A: Allocator>(
     )?;
     match form {
         Form::Text => push_parts(&[Part::Words(b" to "), Part::Ip(ip), Part::Words(b"\n")], text),
-        Form::Json => {
+        Form::Json | Form::Metrics => {
             push_parts(
                 &[
                     Part::Words(b",\"address\":\""),
@@ -202,6 +204,48 @@ pub(crate) fn push_tally<A: Allocator>(
                 text,
             )
         }
+    }
+}
+
+// Tells the counts and the times to connect as metrics.
+pub(crate) fn push_metrics<A: Allocator>(
+    totals: Totals,
+    text: &mut Vec<Part<Said>, A>,
+) -> Result<(), Memory>
+    ensures { OnOk result (flat_map fact_of text.new.items ≡ flat_map fact_of text.old.items ++ metrics_facts totals) }
+{
+    let counts = totals.counts;
+    push_figures(
+        Form::Metrics,
+        &[
+            told(Said::Are(Kind::WonBy(Family::V6)), counts.by_v6, 0),
+            told(Said::Are(Kind::WonBy(Family::V4)), counts.by_v4, 0),
+            told(Said::Are(Kind::Exhausted), counts.exhausted, 0),
+            told(Said::Are(Kind::Limit), counts.limit, 0),
+        ],
+        text,
+    )?;
+    push_times(Form::Metrics, totals.times, text)?;
+    push_figures(
+        Form::Metrics,
+        &[
+            told(Said::Total(Value::Time), total_of(totals.times), 0),
+            told(Said::Count(Value::Time), counts.won, 0),
+            told(Said::Total(Value::LostTo(Loss::Failed)), total_of(totals.lost_to_failed), 0),
+            told(Said::Total(Value::LostTo(Loss::Silent)), total_of(totals.lost_to_silent), 0),
+            told(Said::Total(Value::Attempts), total_of(totals.attempts), 0),
+            told(Said::Are(Kind::Waited), counts.waited, 0),
+        ],
+        text,
+    )
+}
+
+fn total_of(spread: Option<Spread>) -> u64
+    ensures { result ≡ total_of spread }
+{
+    match spread {
+        Some(spread) => spread.total,
+        None => 0,
     }
 }
 
