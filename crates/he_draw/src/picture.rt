@@ -1,17 +1,16 @@
 // The picture of a race, for a terminal.
 
 ghost use Rattle.std.specs.Prelude.{ℕ, ◌≡◌, ◌≤◌, ◌++◌, ◌∷◌, [], OnOk, OnErr, IfOk};
-ghost use Rattle.std.specs.List.{flat_map};
-ghost use Rattle.he_print.specs.Parts.{States, fact_of};
+ghost use Rattle.he_print.specs.Parts.{States};
 ghost use Rattle.he_print.specs.declared.part.Fact.TheVariants.{Number};
-ghost use Rattle.he_draw.specs.Facts.{Prints};
-ghost use Rattle.he_draw.specs.Picture.{picture_facts};
+ghost use Rattle.he_story.specs.Lines.{told};
+ghost use Rattle.he_draw.specs.Picture.{Prints, picture_facts};
 
 use crate::drawing::{blank, push_rows};
 use crate::frame::{Frame, LEAST_COLUMNS, frame_of};
-use crate::heading::push_heading;
 use crate::look::Look;
 use crate::rows::collect_rows;
+use crate::words::push_heading;
 use he_addr::Memory;
 use he_course::Course;
 use he_print::{Part, push_parts, write_parts};
@@ -64,14 +63,14 @@ const BESIDE_END: usize = 5;
 
 // The scale below the rows, and an empty line.
 fn push_scale<A: Allocator>(frame: Frame, parts: &mut Vec<Part<Said>, A>) -> Result<(), Memory>
-    ensures { OnOk result (flat_map fact_of parts.new.items ≡ flat_map fact_of parts.old.items
-        ++ Number frame.end ∷ []) }
+    ensures { OnOk result (told parts.new.items ≡ told parts.old.items ++ Number frame.end ∷ []) }
 {
+    let end = Part::Aligned(frame.columns.saturating_sub(BESIDE_END), frame.end);
     push_parts(
         &[
             blank(frame.label),
             Part::Words(b"  0 "),
-            Part::Aligned(frame.columns.saturating_sub(BESIDE_END), frame.end),
+            end,
             Part::Words(b" ms\n\n"),
         ],
         parts,
