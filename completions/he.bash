@@ -28,7 +28,7 @@ _he() {
             return ;;
         "live --port")
             mapfile -t COMPREPLY < <(compgen -A service -- "$word"); return ;;
-        "replay --workers" | "draw --width")
+        "replay --workers" | "draw --width" | "summary --slowest")
             return ;;
     esac
     case $command in
@@ -39,8 +39,8 @@ _he() {
         replay) options='--workers --set --json --verbose -v --help -h' words=FILE ;;
         explain) options='--lines --set --json --verbose -v --help -h' words=FILE ;;
         draw) options='--ascii --width --svg --html --set --verbose -v --help -h' words=FILE ;;
-        summary) options='--json --keep-going --set --verbose -v --help -h' words=FILE ;;
-        compare) options='--set --verbose -v --help -h' words=FILE ;;
+        summary) options='--json --slowest --keep-going --set --verbose -v --help -h' words=FILE ;;
+        compare) options='--json --races --keep-going --set --verbose -v --help -h' words=FILE ;;
         order) options='--json --verbose -v --help -h' words=FILE ;;
         check) options='--all --help -h' words=FILE ;;
         help) options='' words=COMMAND ;;

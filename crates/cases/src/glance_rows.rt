@@ -22,29 +22,50 @@ A answer      |            o               | 25 ms, 1 usable
 ==> - <==
 ";
 
-const SUMMARY: &[u8] = b"1 race: 1 won (1 by IPv6, 0 by IPv4), 0 exhausted, 0 at the limit
+const SUMMARY: &[u8] = b"1 race: 1 won (100.0 %), 1 by IPv6 (100.0 %), 0 by IPv4 (0.0 %), 0 exhausted (0.0 %), \
+0 at the limit (0.0 %)
 time to connect: median 55 ms, 90 of 100 within 55 ms, 99 of 100 within 55 ms, greatest 55 ms
+no time was lost to addresses that failed
+no time was lost to silent addresses
 attempts: 1, at most 1 in a race
-the Resolution Delay was waited out in 0 races
+the Resolution Delay was waited out in 0 races (0.0 %)
+";
+
+// The same with the slowest race.
+const SLOWEST: &[u8] = b"1 race: 1 won (100.0 %), 1 by IPv6 (100.0 %), 0 by IPv4 (0.0 %), 0 exhausted (0.0 %), \
+0 at the limit (0.0 %)
+time to connect: median 55 ms, 90 of 100 within 55 ms, 99 of 100 within 55 ms, greatest 55 ms
+no time was lost to addresses that failed
+no time was lost to silent addresses
+attempts: 1, at most 1 in a race
+the Resolution Delay was waited out in 0 races (0.0 %)
+slowest:
+  -:1 race 1: 55 ms to 2001:db8:1::1, 0 ms lost
 ";
 
 // Of the input, and of a file with a race that is given up at its limit.
-const SUMMARY_OF_TWO: &[u8] = b"2 races: 1 won (1 by IPv6, 0 by IPv4), 0 exhausted, 1 at the limit
+const SUMMARY_OF_TWO: &[u8] = b"2 races: 1 won (50.0 %), 1 by IPv6 (50.0 %), 0 by IPv4 (0.0 %), 0 exhausted (0.0 %), \
+1 at the limit (50.0 %)
 time to connect: median 55 ms, 90 of 100 within 55 ms, 99 of 100 within 55 ms, greatest 55 ms
+no time was lost to addresses that failed
+no time was lost to silent addresses
 attempts: 1, at most 1 in a race
-the Resolution Delay was waited out in 0 races
+the Resolution Delay was waited out in 0 races (0.0 %)
 ";
 
 // Of no race.
-const NO_SUMMARY: &[u8] = b"0 races: 0 won (0 by IPv6, 0 by IPv4), 0 exhausted, 0 at the limit
+const NO_SUMMARY: &[u8] = b"0 races: 0 won, 0 by IPv6, 0 by IPv4, 0 exhausted, 0 at the limit
 no race was won
+no time was lost to addresses that failed
+no time was lost to silent addresses
 attempts: 0, at most 0 in a race
 the Resolution Delay was waited out in 0 races
 ";
 
 const SUMMARY_JSON: &[u8] =
-    b"{\"races\":1,\"won\":{\"ipv6\":1,\"ipv4\":0},\"exhausted\":0,\"limit\":0,\
-\"connect_ms\":{\"median\":55,\"p90\":55,\"p99\":55,\"greatest\":55},\"attempts\":{\"total\":1,\"most\":1},\
+    b"{\"races\":1,\"won\":{\"all\":1,\"ipv6\":1,\"ipv4\":0},\"exhausted\":0,\"limit\":0,\
+\"connect_ms\":{\"median\":55,\"p90\":55,\"p99\":55,\"greatest\":55},\
+\"lost_ms\":{\"failed\":null,\"silent\":null},\"attempts\":{\"total\":1,\"most\":1},\
 \"resolution_delay\":0,\"failing\":[]}
 ";
 
@@ -64,7 +85,7 @@ const EXPLANATION_JSON: &[u8] =
 \"own\":35,\"before\":40}],\"events\":[{\"tick\":20,\"event\":\"answer\"";
 
 /// Those that draw it, sum it up, or write JSON.
-pub static GLANCE_ROWS: [Row; 23] = [
+pub static GLANCE_ROWS: [Row; 25] = [
     (
         &["he", "draw", "--ascii", "--width", "60"],
         TEXT,
@@ -113,6 +134,22 @@ pub static GLANCE_ROWS: [Row; 23] = [
         0,
         SUMMARY_JSON,
         b"",
+    ),
+    (
+        &["he", "summary", "--slowest", "1"],
+        TEXT,
+        Streams::Whole,
+        0,
+        SLOWEST,
+        b"",
+    ),
+    (
+        &["he", "summary", "--slowest", "0"],
+        TEXT,
+        Streams::Whole,
+        2,
+        b"",
+        b"error: invalid value '0' for '--slowest <N>': 0 is not in 1..=65535",
     ),
     (
         &["he", "summary"],

@@ -23,10 +23,23 @@ course:
 no address of the A answer was tried
 ";
 
-const COMPARISON: &[u8] = b"race 1, line 1: won after 55 ms by 2001:db8:1::1; \
-with the changes given up at its limit after 30 ms, won only without them
-1 race: 0 sooner, 0 later, 0 at the same time, 0 won only with the changes, \
-1 won only without them, 0 not won either way; no race was won both ways
+const COMPARISON: &[u8] =
+    b"    p50    p90    p99  attempts    IPv6  sooner   later    same  only with  only without  settings
+     55     55     55      1.00 100.0 %       0       0       1          0             0  as they stand
+      -      -      -      1.00       -       0       0       0          0             1  limit=30
+";
+
+// With a line for each race and row.
+const COMPARED_RACES: &[u8] = b"-:1 race 1: connected to 2001:db8:1::1 after 55 ms, the same (as they stand)
+-:1 race 1: not connected by the limit of 30 ms, won only without (limit=30)
+    p50    p90";
+
+const COMPARISON_JSON: &[u8] =
+    b"{\"rows\":[{\"races\":1,\"won\":1,\"ipv6\":1,\"connect_ms\":{\"median\":55,\"p90\":55,\"p99\":55},\
+\"attempts\":1,\"sooner\":0,\"later\":0,\"same\":1,\"only_with\":0,\"only_without\":0,\
+\"settings\":\"as they stand\"},\
+{\"races\":1,\"won\":0,\"ipv6\":0,\"connect_ms\":null,\"attempts\":1,\"sooner\":0,\"later\":0,\"same\":0,\
+\"only_with\":0,\"only_without\":1,\"settings\":\"limit=30\"}]}
 ";
 
 // Of the input, which has its heading.
@@ -65,19 +78,8 @@ no AAAA answer came
 no A answer came
 ";
 
-// Of the input, and of no race more.
-const TWO_COMPARISONS: &[u8] = b"==> - <==
-race 1, line 1: won after 55 ms by 2001:db8:1::1; \
-with the changes given up at its limit after 30 ms, won only without them
-1 race: 0 sooner, 0 later, 0 at the same time, 0 won only with the changes, \
-1 won only without them, 0 not won either way; no race was won both ways
-==> - <==
-0 races: 0 sooner, 0 later, 0 at the same time, 0 won only with the changes, \
-0 won only without them, 0 not won either way; no race was won both ways
-";
-
 /// Those that explain or compare it.
-pub static TELLING_ROWS: [Row; 16] = [
+pub static TELLING_ROWS: [Row; 20] = [
     (&["he", "explain"], TEXT, Streams::Whole, 0, STORY, b""),
     (
         &["he", "explain"],
@@ -195,7 +197,39 @@ pub static TELLING_ROWS: [Row; 16] = [
         TEXT,
         Streams::Whole,
         0,
-        TWO_COMPARISONS,
+        COMPARISON,
         b"",
+    ),
+    (
+        &["he", "compare", "--races", "--set", "limit=30"],
+        TEXT,
+        Streams::Whole,
+        0,
+        COMPARED_RACES,
+        b"",
+    ),
+    (
+        &["he", "compare", "--json", "--set", "limit=30"],
+        TEXT,
+        Streams::Whole,
+        0,
+        COMPARISON_JSON,
+        b"",
+    ),
+    (
+        &["he", "compare", "--set", "limit=30,40", "--set", "floor=10,20"],
+        TEXT,
+        Streams::Whole,
+        2,
+        b"",
+        b"error: invalid value for '--set <NAME=N,..>': one NAME may have a list, of at most 64 numbers",
+    ),
+    (
+        &["he", "compare", "--set", "limit=30,"],
+        TEXT,
+        Streams::Whole,
+        2,
+        b"",
+        b"error: invalid value for '--set <NAME=N>': expected NAME=N",
     ),
 ];

@@ -1,10 +1,10 @@
 -- The races of a comparison, line by line.
 use Rattle.std.specs.Prelude.{ℕ, ◌≡◌, ◌++◌, List, [], ◌∷◌, Option, Some, None}
-use Rattle.he_addr.specs.declared.ip.Ip.{Ip}
 use Rattle.he_print.specs.declared.part.Fact.{Fact}
 use Rattle.he_print.specs.declared.part.Fact.TheVariants as facts
 use Rattle.he_summary.specs.Totals.{value_of}
-use Rattle.he_summary.specs.Written.{IsNamed, Tells}
+use Rattle.he_summary.specs.Written.{IsNamed, Tells, place_facts}
+use Rattle.he_summary.specs.declared.figures.Form.{Form}
 use Rattle.he_summary.specs.declared.kept.Ending.{Ending}
 use Rattle.he_summary.specs.declared.kept.Ending.TheVariants as endings
 use Rattle.he_summary.specs.declared.kept.Kept.{Kept}
@@ -14,27 +14,23 @@ use Rattle.he_compare.specs.declared.lines.Told.{Told}
 use Rattle.he_compare.specs.declared.lines.Told.TheVariants as told
 use Rattle.he_compare.specs.declared.verdict.Verdict.{Verdict}
 
-abbrev pub address_facts : Option Ip → List (Fact Told)
-address_facts None = []
-address_facts (Some ip) = facts.Ip ip ∷ []
-
 abbrev pub ending_facts : Ending → List (Fact Told)
-ending_facts (endings.Won ip tick) = (facts.Said told.Won ∷ facts.Number tick ∷ []) ++ address_facts ip
+ending_facts (endings.Won (Some ip) tick) = facts.Said told.Won ∷ facts.Ip ip ∷ facts.Number tick ∷ []
+ending_facts (endings.Won None tick) = facts.Said told.Won ∷ facts.Number tick ∷ []
 ending_facts (endings.Exhausted tick) = facts.Said told.Exhausted ∷ facts.Number tick ∷ []
 ending_facts (endings.Limit tick) = facts.Said told.Limit ∷ facts.Number tick ∷ []
 
 abbrev pub verdict_facts : Verdict → List (Fact Told)
 verdict_facts verdict = facts.Said (told.Is verdict) ∷ []
 
--- the number of a race and its first line, how it ends, and the verdict on that, beside the race as it stands
-abbrev pub line_facts : Option ℕ → Kept → List (Fact Told)
-line_facts stands race =
-    (facts.Number race.place.number ∷ facts.Number race.place.line ∷ [])
-    ++ (ending_facts race.ending ++ verdict_facts (verdict_of stands (value_of Time race)))
+-- where a race stands, how it ends, and the verdict on that, beside the race as it stands
+abbrev pub line_facts : Form → Option ℕ → Kept → List (Fact Told)
+line_facts form stands race =
+    place_facts form race.place ++ (ending_facts race.ending ++ verdict_facts (verdict_of stands (value_of Time race)))
 
 -- a line of each of these, between words, where this is the time to connect of the last race as it stands
-abbrev pub AreLines : Option ℕ → List Kept → List ℕ → List ℕ → Type 0
-AreLines stands [] old new = IsNamed old new
-AreLines stands (race ∷ kept) old new =
-    (words between : List ℕ) × Tells (line_facts (stands_after stands race) race) (old ++ words) between
-    × AreLines (stands_after stands race) kept between new
+abbrev pub AreLines : Form → Option ℕ → List Kept → List ℕ → List ℕ → Type 0
+AreLines form stands [] old new = IsNamed old new
+AreLines form stands (race ∷ kept) old new =
+    (words between : List ℕ) × Tells (line_facts form (stands_after stands race) race) (old ++ words) between
+    × AreLines form (stands_after stands race) kept between new

@@ -1,15 +1,17 @@
 //! The races of a comparison, line by line.
-ghost use Rattle.std.specs.Prelude.{◌≡◌, ◌++◌, None, OnOk};
+ghost use Rattle.std.specs.Prelude.{◌≡◌, ◌++◌, [], ◌∷◌, None, OnOk};
 ghost use Rattle.std.specs.List.{flat_map};
 ghost use Rattle.he_print.specs.Parts.{fact_of};
+ghost use Rattle.he_print.specs.declared.part.Fact.TheVariants as facts;
+ghost use Rattle.he_compare.specs.declared.lines.Told.TheVariants.{Won};
 ghost use Rattle.he_summary.specs.Written.{IsNamed, Tells};
 ghost use Rattle.he_compare.specs.Lines.{AreLines, ending_facts, line_facts, verdict_facts};
 
 use crate::verdict::{Verdict, stands_after};
-use he_addr::Memory;
+use he_addr::{Ip, Memory};
 use he_print::{Part, push_parts, write_parts, write_string};
 use he_summary::totals::{Value, value_of};
-use he_summary::{Ending, Form, Kept, name_of};
+use he_summary::{Ending, Form, Kept, name_of, push_place};
 use std::alloc::Allocator;
 
 /// What words of a line say.
@@ -35,7 +37,7 @@ pub fn write_lines<A: Allocator + Copy>(
     names: (&[String], &[String]),
     text: &mut Vec<u8, A>,
 ) -> Result<(), Memory>
-    ensures { OnOk result (AreLines None kept.now text.old.items text.new.items) }
+    ensures { OnOk result (AreLines form None kept.now text.old.items text.new.items) }
 {
     let (files, settings) = names;
     let mut stands = None;
@@ -90,22 +92,10 @@ fn append_line<A: Allocator + Copy>(
     stands: Option<u64>,
     text: &mut Vec<u8, A>,
 ) -> Result<(), Memory>
-    ensures { OnOk result (Tells (line_facts stands race.now) text.old.items text.new.items) }
+    ensures { OnOk result (Tells (line_facts form stands race.now) text.old.items text.new.items) }
 {
     let mut parts = Vec::new(alloc);
-    let (before, between): (&'static [u8], &'static [u8]) = match form {
-        Form::Text => (b" race ", b", line "),
-        Form::Json => (b",\"race\":", b",\"line\":"),
-    };
-    push_parts(
-        &[
-            Part::Words(before),
-            Part::Number(race.place.number as u64),
-            Part::Words(between),
-            Part::Number(race.place.line),
-        ],
-        &mut parts,
-    )?;
+    push_place(form, race.place, &mut parts)?;
     push_ending(form, race.ending, &mut parts)?;
     push_verdict(form, Verdict::of(stands, value_of(Value::Time, race)), &mut parts)?;
     write_parts(parts.as_slice(), text)
@@ -118,40 +108,64 @@ fn push_ending<A: Allocator>(
 ) -> Result<(), Memory>
     ensures { OnOk result (flat_map fact_of text.new.items ≡ flat_map fact_of text.old.items ++ ending_facts ending) }
 {
-    let (said, tick) = match ending {
-        Ending::Won(_, tick) => (Told::Won, tick),
-        Ending::Exhausted(tick) => (Told::Exhausted, tick),
-        Ending::Limit(tick) => (Told::Limit, tick),
-    };
-    push_parts(
-        &[
-            Part::Says(said, ending_words(form, said)),
-            Part::Number(tick),
-            Part::Words(if form == Form::Text { b" ms" } else { b"" }),
-        ],
-        text,
-    )?;
     match ending {
-        Ending::Won(Some(ip), _) => {
-            let (before, after): (&'static [u8], &'static [u8]) = match form {
-                Form::Text => (b" to ", b""),
-                Form::Json => (b",\"address\":\"", b"\""),
-            };
-            push_parts(&[Part::Words(before), Part::Ip(ip), Part::Words(after)], text)
-        }
-        _ => Ok(()),
+        Ending::Won(Some(ip), tick) => push_won(form, ip, tick, text),
+        Ending::Won(None, tick) => push_end(form, Told::Won, tick, text),
+        Ending::Exhausted(tick) => push_end(form, Told::Exhausted, tick, text),
+        Ending::Limit(tick) => push_end(form, Told::Limit, tick, text),
     }
 }
 
-fn ending_words(form: Form, said: Told) -> &'static [u8] {
-    match (form, said) {
-        (Form::Text, Told::Won) => b": connected after ",
-        (Form::Text, Told::Exhausted) => b": not connected: nothing is left to try after ",
-        (Form::Text, _) => b": not connected by the limit of ",
-        (Form::Json, Told::Won) => b",\"ended\":\"won\",\"ms\":",
-        (Form::Json, Told::Exhausted) => b",\"ended\":\"exhausted\",\"ms\":",
-        (Form::Json, _) => b",\"ended\":\"limit\",\"ms\":",
-    }
+fn push_won<A: Allocator>(
+    form: Form,
+    ip: Ip,
+    tick: u64,
+    text: &mut Vec<Part<Told>, A>,
+) -> Result<(), Memory>
+    ensures { OnOk result (flat_map fact_of text.new.items ≡ flat_map fact_of text.old.items
+        ++ facts.Said Won ∷ facts.Ip ip ∷ facts.Number tick ∷ []) }
+{
+    let words: [&'static [u8]; 3] = match form {
+        Form::Text => [b": connected to ", b" after ", b" ms"],
+        Form::Json => [b",\"ended\":\"won\",\"address\":\"", b"\",\"ms\":", b""],
+    };
+    push_parts(
+        &[
+            Part::Says(Told::Won, words[0]),
+            Part::Ip(ip),
+            Part::Words(words[1]),
+            Part::Number(tick),
+            Part::Words(words[2]),
+        ],
+        text,
+    )
+}
+
+fn push_end<A: Allocator>(
+    form: Form,
+    said: Told,
+    tick: u64,
+    text: &mut Vec<Part<Told>, A>,
+) -> Result<(), Memory>
+    ensures { OnOk result (flat_map fact_of text.new.items ≡ flat_map fact_of text.old.items
+        ++ facts.Said said ∷ facts.Number tick ∷ []) }
+{
+    let (before, after): (&'static [u8], &'static [u8]) = match (form, said) {
+        (Form::Text, Told::Won) => (b": connected after ", b" ms"),
+        (Form::Text, Told::Exhausted) => (b": not connected: nothing is left to try after ", b" ms"),
+        (Form::Text, _) => (b": not connected by the limit of ", b" ms"),
+        (Form::Json, Told::Won) => (b",\"ended\":\"won\",\"ms\":", b""),
+        (Form::Json, Told::Exhausted) => (b",\"ended\":\"exhausted\",\"ms\":", b""),
+        (Form::Json, _) => (b",\"ended\":\"limit\",\"ms\":", b""),
+    };
+    push_parts(
+        &[
+            Part::Says(said, before),
+            Part::Number(tick),
+            Part::Words(after),
+        ],
+        text,
+    )
 }
 
 fn push_verdict<A: Allocator>(

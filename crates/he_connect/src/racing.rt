@@ -12,6 +12,7 @@ use crate::setup::{Setup, set_up};
 use crate::source::{FamilyFaults, HostAnswers, LookupFaults};
 use crate::telling::Telling;
 use crate::tried::write_tried;
+use he_addr::Memory;
 use he_course::Course;
 use he_live::{Dialed, ResolvingRequest, Steps, resolving_race_on};
 use he_race::Raced;
@@ -97,7 +98,7 @@ where
         to: setup.to,
     };
     let raced = resolving_race_on(rt, alloc, &mut runtime, request, &steps, &telling)?;
-    end_with(rt, alloc, setup, why.families(), &steps, raced)
+    Ok(end_with(rt, alloc, setup, why.families(), &steps, raced)?)
 }
 
 // A look-up of the host, which waits in the event loop.
@@ -123,7 +124,7 @@ where
     Ok(Lookup::new(rt, alloc, reactor, timers, wanted)?)
 }
 
-// What is handed out of the race.
+// What is handed out of the race. Once it is over, want of memory alone is a fault.
 fn end_with<R: Net>(
     rt: &R,
     alloc: Global,
@@ -131,7 +132,7 @@ fn end_with<R: Net>(
     why: FamilyFaults,
     steps: &Steps,
     raced: Raced<Dialed>,
-) -> Result<FinishedRace, ConnectFault>
+) -> Result<FinishedRace, Memory>
     ensures text { IfOk result (λ run. run.text.items ≡ timeline_text raced.recorded) }
     ensures story { IfOk result (λ run. IsExplained setup.now.request.explains raced.recorded run.story.items) }
     ensures winner { IfOk result (λ run. run.connection ≡ raced.winner) }
@@ -161,7 +162,7 @@ fn texts_of<R: Net>(
     why: FamilyFaults,
     steps: &Steps,
     raced: &Raced<Dialed>,
-) -> Result<RaceTexts, ConnectFault>
+) -> Result<RaceTexts, Memory>
     ensures text { IfOk result (λ texts. texts.text.items ≡ timeline_text raced.now.recorded) }
     ensures story { IfOk result (λ texts. IsExplained setup.now.request.explains raced.now.recorded
         texts.story.items) }
@@ -181,14 +182,15 @@ fn texts_of<R: Net>(
 }
 
 // The story of a race, where it is asked for.
-fn explain(alloc: Global, is_asked: bool, recorded: &Timeline) -> Result<Vec<u8>, ConnectFault>
+fn explain(alloc: Global, is_asked: bool, recorded: &Timeline) -> Result<Vec<u8>, Memory>
     ensures { IfOk result (λ story. IsExplained is_asked recorded.now story.items) }
 {
-    let mut story = Vec::new(alloc);
-    if is_asked {
-        let course = Course::of(alloc, recorded, 1, 1)?;
-        write_story(alloc, &course, &mut story)?;
+    if !is_asked {
+        return Ok(Vec::new(alloc));
     }
+    let course = Course::of(alloc, recorded, 1, 1)?;
+    let mut story = Vec::new(alloc);
+    write_story(alloc, &course, &mut story)?;
     Ok(story)
 }
 

@@ -1,2 +1,3 @@
 mod CharacterLaws
 mod LineLaws
+mod RowLaws

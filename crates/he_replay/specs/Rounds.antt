@@ -21,7 +21,7 @@ use Rattle.he_replay.specs.Output.{AreTold, IsTextWith, TextRelation}
 
 -- the text of what is asked for of the race
 abbrev pub IsAsked : TextRequest → ℕ → ℕ → List ℕ → Race → Type 0
-IsAsked asked = IsTextWith asked.content asked.changes
+IsAsked asked = IsTextWith asked.content asked.changes asked.file
 
 -- a text that is such was appended
 pub record WritesText (IsSuch : List ℕ → Type 0) (old new : List ℕ) : Type 0 where

@@ -49,14 +49,14 @@ pub fn replay<
 >(
     rt: &R,
     alloc: A,
-    asked: TextRequest,
+    asked: &TextRequest<'_>,
     workers: u16,
     input: &mut I,
     output: &mut O,
 ) -> Result<(), StreamFault>
     requires some { LEAST_WORKERS ≤ workers }
     requires few { workers ≤ MOST_WORKERS }
-    ensures { Replays asked.content asked.changes (Gives I.remaining I.takes input.old input.new)
+    ensures { Replays asked.now.content asked.now.changes asked.now.file (Gives I.remaining I.takes input.old input.new)
         (GivesSoFar I.remaining I.takes input.old input.new)
         (PutsAndEnds O.contents O.puts O.flushes output.old output.new)
         (PutsRoundsPart O.contents O.puts O.flushes output.old output.new)
@@ -67,5 +67,5 @@ pub fn replay<
     } else {
         workers
     };
-    stream_races(rt, alloc, workers, &asked, input, output)
+    stream_races(rt, alloc, workers, asked, input, output)
 }

@@ -1,5 +1,5 @@
 //! The rows of a comparison.
-ghost use Rattle.std.specs.Prelude.{◌≡◌, All, IfOk, codes, map};
+ghost use Rattle.std.specs.Prelude.{◌≡◌, ◌++◌, [], ◌∷◌, codes, map, IfOk, OnOk};
 ghost use Rattle.std.specs.List.{list_any};
 ghost use Rattle.clap.specs.Matches.{found_of};
 ghost use Rattle.he_request.specs.Rows.{AreRows, AsksRow, comma, last_number_at, number_at, piece_at, row_in};
@@ -22,20 +22,27 @@ pub(crate) fn rows_of(alloc: Global, matches: &ArgMatches<'_>) -> Result<Vec<Cha
 {
     let texts = texts_of(matches);
     let mut rows = Vec::new(alloc);
-    rows.push(Changes::none())?;
+    push(Changes::none(), &mut rows)?;
     for row in 0..row_count(texts)? {
-        rows.push(changes_at(alloc, row, texts)?)?;
+        push(changes_at(alloc, row, texts)?, &mut rows)?;
     }
     Ok(rows)
+}
+
+fn push<T: Drop>(item: T, items: &mut Vec<T>) -> Result<(), AllocError>
+    ensures { OnOk result (items.new.items ≡ items.old.items ++ item ∷ []) }
+{
+    items.push(item)?;
+    Ok(())
 }
 
 // The words for them.
 pub(crate) fn labels_of(alloc: Global, matches: &ArgMatches<'_>) -> Result<Vec<String>, Refusal> {
     let texts = texts_of(matches);
     let mut labels = Vec::new(alloc);
-    labels.push(String::from_str(alloc, "as they stand")?)?;
+    push(String::from_str(alloc, "as they stand")?, &mut labels)?;
     for row in 0..row_count(texts)? {
-        labels.push(label_at(alloc, row, texts)?)?;
+        push(label_at(alloc, row, texts)?, &mut labels)?;
     }
     Ok(labels)
 }

@@ -26,35 +26,33 @@ use Rattle.he_course.specs.declared.listing.Listed.{Listed}
 use Rattle.he_print.specs.Parts.{fact_of}
 use Rattle.he_print.specs.declared.part.Fact.{Fact}
 use Rattle.he_print.specs.declared.part.Fact.TheVariants as facts
-use Rattle.he_print.specs.declared.part.Part.{Part}
 use Rattle.he_story.specs.declared.happening.TheConstants.{LEAST_PAUSE}
 use Rattle.he_story.specs.declared.said.Said.{Said}
 use Rattle.he_story.specs.declared.said.Said.TheVariants as says
+use Rattle.he_story.specs.declared.story.Story.{Story}
 
--- the facts of parts
-abbrev pub told : List (Part Said) → List (Fact Said)
-told parts = flat_map fact_of parts
+-- what is told so far
+abbrev pub told : {A : Type 0} → Story A → List (Fact Said)
+told story = flat_map fact_of story.parts.items
 
-abbrev pub say : Said → List (Fact Said)
-say said = facts.Said said ∷ []
-
-abbrev pub number : ℕ → List (Fact Said)
-number n = facts.Number n ∷ []
+-- what is said, with what stands in its words
+abbrev pub say : Said → List (Fact Said) → List (Fact Said)
+say said stands = facts.Said said ∷ stands
 
 -- what an address stands for, by its prefix: 64:ff9b::/96 (RFC 6052), 2002::/16 (RFC 3056), 2001::/32 (RFC 4380)
 abbrev pub block_facts : Ip → List (Fact Said)
 block_facts (V4 n) = []
 block_facts (V6 n) =
-    if agrees 128 n (0x64_ff9b * 2 ^ 96) 96 then say says.Nat64
-    else if agrees 128 n (0x2002 * 2 ^ 112) 16 then say says.SixToFour
-    else if agrees 128 n (0x2001 * 2 ^ 112) 32 then say says.Teredo
+    if agrees 128 n (0x64_ff9b * 2 ^ 96) 96 then say says.Nat64 []
+    else if agrees 128 n (0x2002 * 2 ^ 112) 16 then say says.SixToFour []
+    else if agrees 128 n (0x2001 * 2 ^ 112) 32 then say says.Teredo []
     else []
 
 -- the source that the host uses for an address, or why it reaches no such address: some route leads to it, or none
 abbrev pub reached_facts : Bool → Option LabelledSource → List (Fact Said)
-reached_facts routed (Some labelled) = facts.Said says.From ∷ facts.Ip labelled.source.ip ∷ []
-reached_facts true None = say says.NoSource
-reached_facts false None = say says.NoRoute
+reached_facts routed (Some labelled) = say says.From (facts.Ip labelled.source.ip ∷ [])
+reached_facts true None = say says.NoSource []
+reached_facts false None = say says.NoRoute []
 
 abbrev pub source_scope : DestinationAttributes → ℕ
 source_scope attributes = option_map_or (λ source. source.scope) attributes.source 0
@@ -73,36 +71,33 @@ compared rules.LowerRoundTripTime earlier later = option_map (λ before. (later.
 compared rules.LongestPrefix earlier later = Some (Some later.common, earlier.common)
 compared _ earlier later = None
 
-abbrev pub compared_facts : Option (Option ℕ × ℕ) → List (Fact Said)
-compared_facts None = []
-compared_facts (Some (Some later, other)) = facts.Number later ∷ facts.Number other ∷ []
-compared_facts (Some (None, other)) = facts.Said says.UnknownTime ∷ facts.Number other ∷ []
-
-abbrev pub rule_facts : DestinationRule → DestinationAttributes → DestinationAttributes → List (Fact Said)
-rule_facts rule earlier later = compared_facts (compared rule earlier later) ++ say (says.Rule rule)
+abbrev pub rule_facts : DestinationRule → Option (Option ℕ × ℕ) → List (Fact Said)
+rule_facts rule None = say (says.Rule rule) []
+rule_facts rule (Some (Some later, other)) = say (says.Rule rule) (facts.Number later ∷ facts.Number other ∷ [])
+rule_facts rule (Some (None, other)) = say says.UnknownTime (facts.Number other ∷ [])
 
 -- what puts an address after the one before it
 abbrev pub reason_facts : Option DestinationAttributes → Option DestinationRule → DestinationAttributes → List (Fact Said)
 reason_facts None rule later = []
 reason_facts (Some earlier) None later = []
-reason_facts (Some earlier) (Some rule) later = rule_facts rule earlier later
+reason_facts (Some earlier) (Some rule) later = rule_facts rule (compared rule earlier later)
 
 abbrev pub address_facts : ℕ → Option DestinationAttributes → Preferred → List (Fact Said)
-address_facts place earlier address =
-    (facts.Number place ∷ facts.Ip address.attributes.ip ∷ [])
+address_facts number earlier address =
+    say says.Address (facts.Number number ∷ facts.Ip address.attributes.ip ∷ [])
     ++ (block_facts address.attributes.ip
     ++ (reached_facts address.is_routed address.attributes.source
     ++ reason_facts earlier address.rule address.attributes))
 
 -- addresses, the first of them with this number, after the one before it
 abbrev pub address_lines : ℕ → Option DestinationAttributes → List Preferred → List (Fact Said)
-address_lines place earlier [] = []
-address_lines place earlier (first ∷ more) =
-    address_facts place earlier first ++ address_lines (place + 1) (Some first.attributes) more
+address_lines number earlier [] = []
+address_lines number earlier (first ∷ more) =
+    address_facts number earlier first ++ address_lines (number + 1) (Some first.attributes) more
 
 abbrev pub title_facts : List Preferred → List (Fact Said)
-title_facts [] = say says.NoAddress
-title_facts (first ∷ more) = say says.Preferred
+title_facts [] = say says.NoAddress []
+title_facts (first ∷ more) = say says.Preferred []
 
 abbrev pub preferred_facts : List Preferred → List (Fact Said)
 preferred_facts addresses = title_facts addresses ++ address_lines 1 None addresses
@@ -124,33 +119,33 @@ late_at events until =
 
 abbrev pub late_facts : Option ℕ → List (Fact Said)
 late_facts None = []
-late_facts (Some late) = facts.Number late ∷ facts.Said says.Late ∷ []
+late_facts (Some late) = say says.Late (facts.Number late ∷ [])
 
 -- why an attempt starts now (RFC 8305 sections 3 and 5, and the floor of our own)
 abbrev pub cause_facts : Cause → List (Fact Said)
-cause_facts causes.AaaaAnswer = say says.AaaaThere
-cause_facts causes.BothAnswers = say says.BothThere
-cause_facts causes.ResolutionDelay = say says.WaitIsOver
-cause_facts (causes.AttemptDelay place delay) = facts.Number delay ∷ facts.Said says.AfterStart ∷ facts.Place place ∷ []
-cause_facts (causes.Floor place floor) = facts.Said says.FloorIsOver ∷ facts.Number floor ∷ facts.Place place ∷ []
-cause_facts (causes.LastFailure tick) = say says.AllFailed
-cause_facts (causes.LaterAnswer family) = say (says.CameWith family)
+cause_facts causes.AaaaAnswer = say says.AaaaThere []
+cause_facts causes.BothAnswers = say says.BothThere []
+cause_facts causes.ResolutionDelay = say says.WaitIsOver []
+cause_facts (causes.AttemptDelay place delay) = say says.AfterStart (facts.Number delay ∷ facts.Place place ∷ [])
+cause_facts (causes.Floor place floor) = say says.FloorIsOver (facts.Number floor ∷ facts.Place place ∷ [])
+cause_facts (causes.LastFailure tick) = say says.AllFailed []
+cause_facts (causes.LaterAnswer family) = say (says.CameWith family) []
 
 -- a pause held the attempt back
 abbrev pub held_facts : Bool → Option ℕ → List (Fact Said)
 held_facts false late = []
-held_facts true None = say says.HeldBack
+held_facts true None = say says.HeldBack []
 held_facts true (Some late) = late_facts (Some late)
 
 -- its place in the list of the addresses that are known by now (RFC 8305 section 4)
 abbrev pub listed_facts : Listed → List (Fact Said)
 listed_facts listed =
-    if listed.count == 1 then say says.OnlyOne
-    else facts.Place listed.place ∷ facts.Number listed.count ∷ facts.Said (says.Turn listed.turn) ∷ []
+    if listed.count == 1 then say says.OnlyOne []
+    else say (says.Turn listed.turn) (facts.Place listed.place ∷ facts.Number listed.count ∷ [])
 
 abbrev pub start_facts : Start → Option ℕ → List (Fact Said)
 start_facts start late =
-    (facts.Said says.Starts ∷ facts.Place start.place ∷ facts.Ip start.ip ∷ [])
+    say says.Starts (facts.Place start.place ∷ facts.Ip start.ip ∷ [])
     ++ (cause_facts start.cause ++ (held_facts start.held late ++ listed_facts start.listed))
 
 -- the time from the start of an attempt to a tick
@@ -158,8 +153,8 @@ abbrev pub taken : List Line → ℕ → ℕ → ℕ
 taken lines place tick = option_map_or (λ line. tick - line.tick) (slice_get lines place) 0
 
 -- what became of an attempt, and after which time
-abbrev pub became_facts : ℕ → List (Fact Said) → ℕ → Option ℕ → List (Fact Said)
-became_facts place what taken late = (facts.Place place ∷ (what ++ number taken)) ++ late_facts late
+abbrev pub became_facts : Said → ℕ → ℕ → Option ℕ → List (Fact Said)
+became_facts said place taken late = say said (facts.Place place ∷ facts.Number taken ∷ []) ++ late_facts late
 
 abbrev pub other_of : Family → Family
 other_of families.V6 = families.V4
@@ -171,40 +166,38 @@ is_seen_by tick seen = option_map_or (λ s. nat_le s.tick tick) seen false
 -- the answer of the family is still to come
 abbrev pub other_facts : Family → Bool → List (Fact Said)
 other_facts family true = []
-other_facts family false = say (says.StillMissing family)
-
--- an answer with so many addresses to try
-abbrev pub answered_facts : Family → Option ℕ → ℕ → List (Fact Said)
-answered_facts family late count = say (says.Answered family) ++ (late_facts late ++ number count)
+other_facts family false = say (says.StillMissing family) []
 
 module _ {A : Type 0} (course : Course A) where
   -- what the client meets: its pauses, the answers, and the wait for the AAAA answer
   abbrev pub met_facts : ℕ → Option ℕ → EventKind → List (Fact Said)
-  met_facts tick late (kinds.Paused end) = facts.Said says.Paused ∷ facts.Number end ∷ []
+  met_facts tick late (kinds.Paused end) = say says.Paused (facts.Number end ∷ [])
   met_facts tick late (kinds.Answered family count) =
-      answered_facts family late count
-      ++ other_facts (other_of family) (is_seen_by tick (answer_of course (other_of family)))
-  met_facts tick late (kinds.Waits end) = facts.Said says.Waits ∷ facts.Number end ∷ []
-  met_facts tick late kinds.DelayOver = say says.DelayOver ++ late_facts late
+      say (says.Answered family) []
+      ++ (late_facts late ++ (say says.ToTry (facts.Number count ∷ [])
+      ++ other_facts (other_of family) (is_seen_by tick (answer_of course (other_of family)))))
+  met_facts tick late (kinds.Waits end) = say says.Waits (facts.Number end ∷ [])
+  met_facts tick late kinds.DelayOver = say says.DelayOver [] ++ late_facts late
   met_facts tick late _ = []
 
   abbrev pub kind_facts : ℕ → Option ℕ → EventKind → List (Fact Said)
-  kind_facts tick late (kinds.Failed place) =
-      became_facts place (say says.Failed) (taken course.transcript.lines place tick) late
   kind_facts tick late (kinds.Started start) = start_facts start late
+  kind_facts tick late (kinds.Failed place) =
+      became_facts says.Failed place (taken course.transcript.lines place tick) late
   kind_facts tick late (kinds.Won place) =
-      became_facts place (say says.Won) (taken course.transcript.lines place tick) late
-  kind_facts tick late kinds.Exhausted = say says.Exhausted
-  kind_facts tick late kinds.Limit = say says.Limit
+      became_facts says.Won place (taken course.transcript.lines place tick) late
   kind_facts tick late (kinds.Cancelled place) =
-      became_facts place (say says.Cancelled) (taken course.transcript.lines place tick) None
+      became_facts says.Cancelled place (taken course.transcript.lines place tick) None
+  kind_facts tick late kinds.Exhausted = say says.Exhausted []
+  kind_facts tick late kinds.Limit = say says.Limit []
   kind_facts tick late kind = met_facts tick late kind
 
   -- an event with its tick
   abbrev pub event_facts : Event → List (Fact Said)
   event_facts event =
       if is_short event.tick event.kind then []
-      else number event.tick ++ kind_facts event.tick (late_at course.events.items event.tick) event.kind
+      else say says.At (facts.Number event.tick ∷ [])
+      ++ kind_facts event.tick (late_at course.events.items event.tick) event.kind
 
   abbrev pub happening_facts : List (Fact Said)
-  happening_facts = say says.Course ++ flat_map event_facts course.events.items
+  happening_facts = say says.Course [] ++ flat_map event_facts course.events.items

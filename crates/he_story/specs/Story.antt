@@ -28,20 +28,16 @@ use Rattle.he_story.specs.declared.said.Said.{Said}
 use Rattle.he_story.specs.declared.said.Said.TheVariants as says
 use Rattle.he_story.specs.declared.verdict.TheConstants.{MAX_NAMED}
 
-abbrev pub won_facts : ℕ → Option Line → List (Fact Said)
-won_facts tick None = []
-won_facts tick (Some line) = facts.Said says.Connected ∷ facts.Ip line.ip ∷ facts.Number tick ∷ []
-
-abbrev pub ended_by : Outcome3 → Option Line → ℕ → List (Fact Said)
-ended_by (results.Won place tick) winner attempts = won_facts tick winner
-ended_by (results.Exhausted tick) winner attempts =
-    facts.Said says.NothingLeft ∷ facts.Number tick ∷ facts.Number attempts ∷ []
-ended_by (results.Limit tick) winner attempts =
-    facts.Said says.LimitReached ∷ facts.Number tick ∷ facts.Number attempts ∷ []
-
 -- how a race ended
+abbrev pub ended_by : Option Line → ℕ → Outcome3 → List (Fact Said)
+ended_by None attempts (results.Won place tick) = []
+ended_by (Some line) attempts (results.Won place tick) = say says.Connected (facts.Ip line.ip ∷ facts.Number tick ∷ [])
+ended_by winner attempts (results.Exhausted tick) =
+    say says.NothingLeft (facts.Number tick ∷ facts.Number attempts ∷ [])
+ended_by winner attempts (results.Limit tick) = say says.LimitReached (facts.Number tick ∷ facts.Number attempts ∷ [])
+
 abbrev pub ending_facts : Ended → List (Fact Said)
-ending_facts ended = ended_by ended.result ended.winner ended.attempts
+ending_facts ended = ended_by ended.winner ended.attempts ended.result
 
 abbrev pub is_wait : EventKind → Bool
 is_wait (kinds.Waits end) = true
@@ -53,7 +49,7 @@ has_waited events ip = is_of families.V4 ip && list_any (λ event. is_wait event
 
 abbrev pub wait_facts : Bool → List (Fact Said)
 wait_facts false = []
-wait_facts true = say says.WaitForAaaa
+wait_facts true = say says.WaitForAaaa []
 
 abbrev pub had_failed : ℕ → Mark → Bool
 had_failed tick (marks.Failed failed) = nat_le failed tick
@@ -62,10 +58,10 @@ had_failed tick _ = false
 -- an attempt that had failed when the winner's started, at the tick, or gave no answer by then
 abbrev pub stood_facts : ℕ → Line → List (Fact Said)
 stood_facts tick line =
-    facts.Ip line.ip ∷ facts.Said (if had_failed tick line.mark then says.HadFailed else says.GaveNoAnswer) ∷ []
+    say (if had_failed tick line.mark then says.HadFailed else says.GaveNoAnswer) (facts.Ip line.ip ∷ [])
 
 abbrev pub more_facts : ℕ → List (Fact Said)
-more_facts count = if count == 0 then [] else facts.Number count ∷ facts.Said says.More ∷ []
+more_facts count = if count == 0 then [] else say says.More (facts.Number count ∷ [])
 
 -- the first attempts, and how many more
 abbrev pub between_facts : ℕ → List Line → List (Fact Said)
@@ -78,37 +74,37 @@ first_of family lines = find (λ line. is_of family line.ip) lines
 
 -- how long an answer, seen at this tick, waited for the first attempt at one of its addresses
 abbrev pub gap_facts : Family → ℕ → Option Line → List (Fact Said)
-gap_facts family seen None = say (says.Untried family)
+gap_facts family seen None = say (says.Untried family) []
 gap_facts family seen (Some line) =
-    if nat_lt seen line.tick then facts.Number (line.tick - seen) ∷ facts.Said (says.Passed family) ∷ [] else []
+    if nat_lt seen line.tick then say (says.Passed family) (facts.Number (line.tick - seen) ∷ []) else []
 
 -- an answer, in a race that ended at `end`
 abbrev pub seen_facts : Family → ℕ → List Line → Seen → List (Fact Said)
 seen_facts family end lines seen =
-    if nat_lt end seen.tick then facts.Said (says.AfterEnd family) ∷ facts.Number seen.tick ∷ []
+    if nat_lt end seen.tick then say (says.AfterEnd family) (facts.Number seen.tick ∷ [])
     else if seen.usable == 0 then []
     else gap_facts family seen.tick (first_of family lines)
 
 abbrev pub answered_by : ℕ → List Line → Family → Option Seen → List (Fact Said)
-answered_by end lines family None = say (says.NoAnswer family)
+answered_by end lines family None = say (says.NoAnswer family) []
 answered_by end lines family (Some seen) = seen_facts family end lines seen
 
 -- how the race would have ended with the least floor
 abbrev pub sooner_facts : Option Ended → List (Fact Said)
 sooner_facts None = []
-sooner_facts (Some ended) = (facts.Said says.WithFloor ∷ facts.Number MIN_FLOOR ∷ []) ++ ending_facts ended
+sooner_facts (Some ended) = say says.WithFloor (facts.Number MIN_FLOOR ∷ []) ++ ending_facts ended
 
 module _ {A : Type 0} (course : Course A) where
   -- what the race lost, and what stood between the winner's answer and its attempt
   abbrev pub lost_facts : Line → ℕ → List (Fact Said)
   lost_facts winner lost =
-      (facts.Number lost ∷ facts.Said says.Lost ∷ [])
+      say says.Lost (facts.Number lost ∷ [])
       ++ (wait_facts (has_waited course.events.items winner.ip) ++ between_facts winner.tick (before_winner course))
 
   abbrev pub verdict_by : Option Line → Option ℕ → List (Fact Said)
   verdict_by None lost = []
   verdict_by (Some winner) None = []
-  verdict_by (Some winner) (Some lost) = if lost == 0 then say says.NothingLost else lost_facts winner lost
+  verdict_by (Some winner) (Some lost) = if lost == 0 then say says.NothingLost [] else lost_facts winner lost
 
   abbrev pub verdict_facts : List (Fact Said)
   verdict_facts = verdict_by course.ended.winner (lost course)
@@ -116,7 +112,7 @@ module _ {A : Type 0} (course : Course A) where
   -- which race it is, how it ended, and what it lost
   abbrev pub heading_facts : List (Fact Said)
   heading_facts =
-      (facts.Said says.Race ∷ facts.Number course.number ∷ facts.Said says.Line ∷ facts.Number course.line ∷ [])
+      say says.Race (facts.Number course.number ∷ facts.Number course.line ∷ [])
       ++ (ending_facts course.ended ++ verdict_facts)
 
   abbrev pub answer_facts : Family → List (Fact Said)
@@ -131,7 +127,7 @@ module _ {A : Type 0} (course : Course A) where
   story_facts =
       heading_facts
       ++ (preferred_facts course.addresses.items
-      ++ (happening_facts course ++ (closing_facts ++ sooner_facts course.sooner)))
+      ++ (happening_facts course ++ (closing_facts ++ (sooner_facts course.sooner ++ say says.End []))))
 
   -- a text has been appended that states these facts
   abbrev pub Tells : List ℕ → List ℕ → Type 0

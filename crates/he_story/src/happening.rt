@@ -2,16 +2,16 @@
 
 ghost use Rattle.std.specs.Prelude.{◌≡◌, ◌++◌, OnOk};
 ghost use Rattle.std.specs.List.{flat_map};
-ghost use Rattle.he_print.specs.Parts.{fact_of};
-ghost use Rattle.he_story.specs.Lines.{answered_facts, became_facts, cause_facts, event_facts, happening_facts, held_facts, is_seen_by, is_short, is_short_to, kind_facts, late_at, late_facts, listed_facts, met_facts, other_facts, other_of, start_facts, taken, told};
+ghost use Rattle.he_story.specs.Lines.{became_facts, cause_facts, event_facts, happening_facts, held_facts, is_seen_by, is_short, is_short_to, kind_facts, late_at, late_facts, listed_facts, met_facts, other_facts, other_of, start_facts, taken, told};
 
 use crate::preferred::width_of;
 use crate::said::Said;
-use crate::words::{noun, of_family};
+use crate::story::Story;
+use crate::words::{name_of, noun, turn_words};
 use he_addr::{Family, Memory};
-use he_course::{Cause, Course, Event, EventKind, Listed, Seen, Start, Turn};
+use he_course::{Cause, Course, Event, EventKind, Listed, Seen, Start};
 use he_plan::Line;
-use he_print::{Part, push_parts};
+use he_print::Part;
 use std::alloc::Allocator;
 
 /// A pause of fewer milliseconds is no line of a story.
@@ -49,160 +49,6 @@ fn late_at(events: &[Event], until: u64) -> Option<u64>
     None
 }
 
-fn push_late<A: Allocator>(
-    late: Option<u64>,
-    story: &mut Vec<Part<Said>, A>,
-) -> Result<(), Memory>
-    ensures { OnOk result (told story.new.items ≡ told story.old.items ++ late_facts late) }
-{
-    match late {
-        Some(late) => push_parts(
-            &[
-                Part::Words(b" ("),
-                Part::Number(late),
-                Part::Says(Said::Late, b" ms late)"),
-            ],
-            story,
-        ),
-        None => Ok(()),
-    }
-}
-
-// Why an attempt starts now.
-fn push_cause<A: Allocator>(cause: Cause, story: &mut Vec<Part<Said>, A>) -> Result<(), Memory>
-    ensures { OnOk result (told story.new.items ≡ told story.old.items ++ cause_facts cause) }
-{
-    match cause {
-        Cause::AaaaAnswer => push_parts(
-            &[Part::Says(Said::AaaaThere, b"the AAAA answer is there")],
-            story,
-        ),
-        Cause::BothAnswers => push_parts(
-            &[Part::Says(Said::BothThere, b"both answers are there")],
-            story,
-        ),
-        Cause::ResolutionDelay => push_parts(
-            &[Part::Says(
-                Said::WaitIsOver,
-                b"the wait for the AAAA answer is over",
-            )],
-            story,
-        ),
-        Cause::AttemptDelay(place, delay) => push_parts(
-            &[
-                Part::Number(delay),
-                Part::Says(Said::AfterStart, b" ms after the start of attempt "),
-                Part::Place(place),
-            ],
-            story,
-        ),
-        Cause::Floor(place, floor) => push_parts(
-            &[
-                Part::Says(Said::FloorIsOver, b"all before have failed, and the floor of "),
-                Part::Number(floor),
-                Part::Words(b" ms after attempt "),
-                Part::Place(place),
-                Part::Words(b" is over"),
-            ],
-            story,
-        ),
-        Cause::LastFailure(_) => push_parts(
-            &[Part::Says(Said::AllFailed, b"all before have failed")],
-            story,
-        ),
-        Cause::LaterAnswer(family) => {
-            let words = of_family(
-                family,
-                b"it came with the AAAA answer",
-                b"it came with the A answer",
-            );
-            push_parts(&[Part::Says(Said::CameWith(family), words)], story)
-        }
-    }
-}
-
-// Whether a pause held the attempt back, and for how long where that pause has no line.
-fn push_held<A: Allocator>(
-    held: bool,
-    late: Option<u64>,
-    story: &mut Vec<Part<Said>, A>,
-) -> Result<(), Memory>
-    ensures { OnOk result (told story.new.items ≡ told story.old.items ++ held_facts held late) }
-{
-    if !held {
-        return Ok(());
-    }
-    match late {
-        Some(_) => push_late(late, story),
-        None => push_parts(
-            &[Part::Says(Said::HeldBack, b", late because of a pause")],
-            story,
-        ),
-    }
-}
-
-// Which address it is that comes next in the list.
-fn turn_words(turn: Turn, family: Family) -> &'static [u8] {
-    match turn {
-        Turn::Leads => of_family(family, b" known, IPv6 first", b" known, IPv4 first"),
-        Turn::InTurn => b" known, IPv6 and IPv4 in turn",
-        Turn::RunOut => of_family(
-            family,
-            b" known, IPv6 alone is left",
-            b" known, IPv4 alone is left",
-        ),
-    }
-}
-
-// The place of an attempt's address in the list of those that are known.
-fn push_listed<A: Allocator>(
-    listed: Listed,
-    family: Family,
-    story: &mut Vec<Part<Said>, A>,
-) -> Result<(), Memory>
-    ensures { OnOk result (told story.new.items ≡ told story.old.items ++ listed_facts listed) }
-{
-    if listed.count == 1 {
-        return push_parts(
-            &[Part::Says(Said::OnlyOne, b"; the only address known")],
-            story,
-        );
-    }
-    push_parts(
-        &[
-            Part::Words(b"; number "),
-            Part::Place(listed.place),
-            Part::Words(b" of "),
-            Part::Number(listed.count as u64),
-            Part::Says(Said::Turn(listed.turn), turn_words(listed.turn, family)),
-        ],
-        story,
-    )
-}
-
-// attempt PLACE to ADDRESS: CAUSE; LISTED
-fn push_start<A: Allocator>(
-    start: Start,
-    late: Option<u64>,
-    story: &mut Vec<Part<Said>, A>,
-) -> Result<(), Memory>
-    ensures { OnOk result (told story.new.items ≡ told story.old.items ++ start_facts start late) }
-{
-    push_parts(
-        &[
-            Part::Says(Said::Starts, b"attempt "),
-            Part::Place(start.place),
-            Part::Words(b" to "),
-            Part::Ip(start.ip),
-            Part::Words(b": "),
-        ],
-        story,
-    )?;
-    push_cause(start.cause, story)?;
-    push_held(start.held, late, story)?;
-    push_listed(start.listed, start.ip.family(), story)
-}
-
 // The time from the start of an attempt to a tick.
 fn taken(lines: &[Line], place: usize, tick: u64) -> u64
     ensures { result ≡ taken lines.now place tick }
@@ -211,30 +57,6 @@ fn taken(lines: &[Line], place: usize, tick: u64) -> u64
         Some(line) => tick.saturating_sub(line.tick),
         None => 0,
     }
-}
-
-// attempt PLACE WHAT after N ms
-fn push_became<A: Allocator>(
-    place: usize,
-    what: Part<Said>,
-    taken: u64,
-    late: Option<u64>,
-    story: &mut Vec<Part<Said>, A>,
-) -> Result<(), Memory>
-    ensures { OnOk result (told story.new.items ≡ told story.old.items ++ became_facts place (fact_of what) taken late) }
-{
-    push_parts(
-        &[
-            Part::Words(b"attempt "),
-            Part::Place(place),
-            what,
-            Part::Words(b" after "),
-            Part::Number(taken),
-            Part::Words(b" ms"),
-        ],
-        story,
-    )?;
-    push_late(late, story)
 }
 
 fn other_of(family: Family) -> Family
@@ -255,173 +77,186 @@ fn is_seen_by(seen: Option<Seen>, tick: u64) -> bool
     }
 }
 
-// The answer of the family, where it is still to come.
-fn push_other<A: Allocator>(
-    family: Family,
-    is_seen: bool,
-    story: &mut Vec<Part<Said>, A>,
-) -> Result<(), Memory>
-    ensures { OnOk result (told story.new.items ≡ told story.old.items ++ other_facts family is_seen) }
-{
-    if is_seen {
-        return Ok(());
-    }
-    let words = of_family(
-        family,
-        b"; the AAAA answer is not there yet",
-        b"; the A answer is not there yet",
-    );
-    push_parts(&[Part::Says(Said::StillMissing(family), words)], story)
-}
-
-// An answer with so many addresses.
-fn push_answer<A: Allocator>(
-    family: Family,
-    late: Option<u64>,
-    count: usize,
-    story: &mut Vec<Part<Said>, A>,
-) -> Result<(), Memory>
-    ensures { OnOk result (told story.new.items ≡ told story.old.items ++ answered_facts family late count) }
-{
-    let words = of_family(family, b"AAAA answer", b"A answer");
-    push_parts(&[Part::Says(Said::Answered(family), words)], story)?;
-    push_late(late, story)?;
-    push_parts(
-        &[
-            Part::Words(b": "),
-            Part::Number(count as u64),
-            Part::Words(noun(count, b" address to try", b" addresses to try")),
-        ],
-        story,
-    )
-}
-
-// What the client meets: its pauses, answers and waits.
-fn push_met<A: Allocator, B: Allocator>(
-    course: &Course<B>,
-    event: Event,
-    late: Option<u64>,
-    story: &mut Vec<Part<Said>, A>,
-) -> Result<(), Memory>
-    ensures { OnOk result (told story.new.items ≡ told story.old.items ++ met_facts course.now event.tick late
-        event.kind) }
-{
-    match event.kind {
-        EventKind::Paused(end) => push_parts(
-            &[
-                Part::Says(
-                    Said::Paused,
-                    b"pause: the client sees and starts nothing until ",
-                ),
-                Part::Number(end),
-                Part::Words(b" ms"),
-            ],
-            story,
-        ),
-        EventKind::Answered(family, count) => {
-            let other = other_of(family);
-            push_answer(family, late, count, story)?;
-            push_other(other, is_seen_by(course.answer(other), event.tick), story)
+impl<A: Allocator> Story<A> {
+    fn tell_late(&mut self, late: Option<u64>) -> Result<(), Memory>
+        ensures { OnOk result (told self.new ≡ told self.old ++ late_facts late) }
+    {
+        match late {
+            Some(late) => self.tell(Said::Late, &[Part::Number(late)]),
+            None => Ok(()),
         }
-        EventKind::Waits(end) => push_parts(
-            &[
-                Part::Says(Said::Waits, b"wait for the AAAA answer until "),
-                Part::Number(end),
-                Part::Words(b" ms (Resolution Delay)"),
-            ],
-            story,
-        ),
-        EventKind::DelayOver => {
-            let words = b"the wait is over, without the AAAA answer";
-            push_parts(&[Part::Says(Said::DelayOver, words)], story)?;
-            push_late(late, story)
-        }
-        _ => Ok(()),
     }
-}
 
-fn push_kind<A: Allocator, B: Allocator>(
-    course: &Course<B>,
-    event: Event,
-    late: Option<u64>,
-    story: &mut Vec<Part<Said>, A>,
-) -> Result<(), Memory>
-    ensures { OnOk result (told story.new.items ≡ told story.old.items ++ kind_facts course.now event.tick late
-        event.kind) }
-{
-    let lines = course.transcript.attempts();
-    match event.kind {
-        EventKind::Started(start) => push_start(start, late, story),
-        EventKind::Failed(place) => {
-            let what = Part::Says(Said::Failed, b" failed");
-            push_became(place, what, taken(lines, place, event.tick), late, story)
+    // Why an attempt starts now.
+    fn tell_cause(&mut self, cause: Cause) -> Result<(), Memory>
+        ensures { OnOk result (told self.new ≡ told self.old ++ cause_facts cause) }
+    {
+        match cause {
+            Cause::AaaaAnswer => self.tell(Said::AaaaThere, &[]),
+            Cause::BothAnswers => self.tell(Said::BothThere, &[]),
+            Cause::ResolutionDelay => self.tell(Said::WaitIsOver, &[]),
+            Cause::AttemptDelay(place, delay) => {
+                self.tell(Said::AfterStart, &[Part::Number(delay), Part::Place(place)])
+            }
+            Cause::Floor(place, floor) => {
+                let parts = [Part::Number(floor), Part::Place(place)];
+                self.tell(Said::FloorIsOver, &parts)
+            }
+            Cause::LastFailure(_) => self.tell(Said::AllFailed, &[]),
+            Cause::LaterAnswer(family) => {
+                self.tell(Said::CameWith(family), &[Part::Words(name_of(family))])
+            }
         }
-        EventKind::Won(place) => {
-            let what = Part::Says(Said::Won, b" connected");
-            push_became(place, what, taken(lines, place, event.tick), late, story)
+    }
+
+    // Whether a pause held the attempt back, and for how long where that pause has no line.
+    fn tell_held(&mut self, held: bool, late: Option<u64>) -> Result<(), Memory>
+        ensures { OnOk result (told self.new ≡ told self.old ++ held_facts held late) }
+    {
+        if !held {
+            return Ok(());
         }
-        EventKind::Cancelled(place) => {
-            let what = Part::Says(Said::Cancelled, b" cancelled");
-            push_became(place, what, taken(lines, place, event.tick), None, story)
+        match late {
+            Some(_) => self.tell_late(late),
+            None => self.tell(Said::HeldBack, &[]),
         }
-        EventKind::Exhausted => push_parts(
-            &[Part::Says(Said::Exhausted, b"nothing is left to try")],
-            story,
-        ),
-        EventKind::Limit => push_parts(
-            &[Part::Says(Said::Limit, b"the limit: the race is given up")],
-            story,
-        ),
-        EventKind::Paused(_)
-        | EventKind::Answered(_, _)
-        | EventKind::Waits(_)
-        | EventKind::DelayOver => push_met(course, event, late, story),
     }
-}
 
-// TICK ms  EVENT
-fn push_event<A: Allocator, B: Allocator>(
-    course: &Course<B>,
-    width: usize,
-    event: Event,
-    story: &mut Vec<Part<Said>, A>,
-) -> Result<(), Memory>
-    ensures { OnOk result (told story.new.items ≡ told story.old.items ++ event_facts course.now event) }
-{
-    if is_short(&event) {
-        return Ok(());
+    // The place of an attempt's address in the list of those that are known.
+    fn tell_listed(&mut self, listed: Listed, family: Family) -> Result<(), Memory>
+        ensures { OnOk result (told self.new ≡ told self.old ++ listed_facts listed) }
+    {
+        if listed.count == 1 {
+            return self.tell(Said::OnlyOne, &[]);
+        }
+        let (place, count) = (Part::Place(listed.place), Part::Number(listed.count as u64));
+        let turn = Part::Words(turn_words(listed.turn, family));
+        self.tell(Said::Turn(listed.turn), &[place, count, turn])
     }
-    push_parts(
-        &[
-            Part::Words(b"\n"),
-            Part::Aligned(width, event.tick),
-            Part::Words(b" ms  "),
-        ],
-        story,
-    )?;
-    push_kind(course, event, late_at(&course.events, event.tick), story)
-}
 
-fn push_events<A: Allocator, B: Allocator>(
-    course: &Course<B>,
-    story: &mut Vec<Part<Said>, A>,
-) -> Result<(), Memory>
-    ensures { OnOk result (told story.new.items ≡ told story.old.items ++ flat_map (event_facts course.now)
-        course.now.events.items) }
-{
-    let width = width_of(course.end());
-    for event in &course.events {
-        push_event(course, width, *event, story)?;
+    fn tell_start(&mut self, start: Start, late: Option<u64>) -> Result<(), Memory>
+        ensures { OnOk result (told self.new ≡ told self.old ++ start_facts start late) }
+    {
+        let (place, ip) = (Part::Place(start.place), Part::Ip(start.ip));
+        self.tell(Said::Starts, &[place, ip])?;
+        self.tell_cause(start.cause)?;
+        self.tell_held(start.held, late)?;
+        self.tell_listed(start.listed, start.ip.family())
     }
-    Ok(())
-}
 
-pub(crate) fn push_happening<A: Allocator, B: Allocator>(
-    course: &Course<B>,
-    story: &mut Vec<Part<Said>, A>,
-) -> Result<(), Memory>
-    ensures { OnOk result (told story.new.items ≡ told story.old.items ++ happening_facts course.now) }
-{
-    push_parts(&[Part::Says(Said::Course, b"\ncourse:")], story)?;
-    push_events(course, story)
+    // What became of an attempt, and after which time.
+    fn tell_became(
+        &mut self,
+        said: Said,
+        place: usize,
+        taken: u64,
+        late: Option<u64>,
+    ) -> Result<(), Memory>
+        ensures { OnOk result (told self.new ≡ told self.old ++ became_facts said place taken late) }
+    {
+        self.tell(said, &[Part::Place(place), Part::Number(taken)])?;
+        self.tell_late(late)
+    }
+
+    // The answer of the family, where it is still to come.
+    fn tell_other(&mut self, family: Family, is_seen: bool) -> Result<(), Memory>
+        ensures { OnOk result (told self.new ≡ told self.old ++ other_facts family is_seen) }
+    {
+        if is_seen {
+            return Ok(());
+        }
+        self.tell(Said::StillMissing(family), &[Part::Words(name_of(family))])
+    }
+
+    // What the client meets: its pauses, the answers, and the wait for the AAAA answer.
+    fn tell_met<B: Allocator>(
+        &mut self,
+        course: &Course<B>,
+        event: Event,
+        late: Option<u64>,
+    ) -> Result<(), Memory>
+        ensures { OnOk result (told self.new ≡ told self.old ++ met_facts course.now event.tick late event.kind) }
+    {
+        match event.kind {
+            EventKind::Paused(end) => self.tell(Said::Paused, &[Part::Number(end)]),
+            EventKind::Answered(family, count) => {
+                let other = other_of(family);
+                let noun = Part::Words(noun(count, b"address", b"addresses"));
+                self.tell(Said::Answered(family), &[Part::Words(name_of(family))])?;
+                self.tell_late(late)?;
+                self.tell(Said::ToTry, &[Part::Number(count as u64), noun])?;
+                self.tell_other(other, is_seen_by(course.answer(other), event.tick))
+            }
+            EventKind::Waits(end) => self.tell(Said::Waits, &[Part::Number(end)]),
+            EventKind::DelayOver => {
+                self.tell(Said::DelayOver, &[])?;
+                self.tell_late(late)
+            }
+            _ => Ok(()),
+        }
+    }
+
+    fn tell_kind<B: Allocator>(
+        &mut self,
+        course: &Course<B>,
+        event: Event,
+        late: Option<u64>,
+    ) -> Result<(), Memory>
+        ensures { OnOk result (told self.new ≡ told self.old ++ kind_facts course.now event.tick late event.kind) }
+    {
+        let lines = course.transcript.attempts();
+        match event.kind {
+            EventKind::Started(start) => self.tell_start(start, late),
+            EventKind::Failed(place) => {
+                let taken = taken(lines, place, event.tick);
+                self.tell_became(Said::Failed, place, taken, late)
+            }
+            EventKind::Won(place) => {
+                let taken = taken(lines, place, event.tick);
+                self.tell_became(Said::Won, place, taken, late)
+            }
+            EventKind::Cancelled(place) => {
+                let taken = taken(lines, place, event.tick);
+                self.tell_became(Said::Cancelled, place, taken, None)
+            }
+            EventKind::Exhausted => self.tell(Said::Exhausted, &[]),
+            EventKind::Limit => self.tell(Said::Limit, &[]),
+            EventKind::Paused(_)
+            | EventKind::Answered(_, _)
+            | EventKind::Waits(_)
+            | EventKind::DelayOver => self.tell_met(course, event, late),
+        }
+    }
+
+    fn tell_event<B: Allocator>(
+        &mut self,
+        course: &Course<B>,
+        width: usize,
+        event: Event,
+    ) -> Result<(), Memory>
+        ensures { OnOk result (told self.new ≡ told self.old ++ event_facts course.now event) }
+    {
+        if is_short(&event) {
+            return Ok(());
+        }
+        self.tell(Said::At, &[Part::Aligned(width, event.tick)])?;
+        self.tell_kind(course, event, late_at(&course.events, event.tick))
+    }
+
+    pub(crate) fn tell_events<B: Allocator>(&mut self, course: &Course<B>) -> Result<(), Memory>
+        ensures { OnOk result (told self.new ≡ told self.old ++ happening_facts course.now) }
+    {
+        self.tell(Said::Course, &[])?;
+        self.tell_each(course, width_of(course.end()))
+    }
+
+    fn tell_each<B: Allocator>(&mut self, course: &Course<B>, width: usize) -> Result<(), Memory>
+        ensures { OnOk result (told self.new ≡ told self.old ++ flat_map (event_facts course.now)
+            course.now.events.items) }
+    {
+        for event in &course.events {
+            self.tell_event(course, width, *event)?;
+        }
+        Ok(())
+    }
 }

@@ -7,18 +7,17 @@
 //!
 //! Proved, for every course: the text that is appended states the facts of `specs/Story`, in that order, so each event
 //! of the course has its line, with its tick, places, addresses, times and cause (`specs/Lines`). Where memory is
-//! refused, the vector is as it was. What a course is of a race, he_course says.
+//! refused, the vector is as it was. What a course is of a race, he_course says. All words stand in `src/words.rt`.
 #![tactic(auto)]
 
 mod closing;
-mod heading;
 mod happening;
+mod heading;
 mod preferred;
 mod said;
 pub mod story;
 mod verdict;
 mod words;
 
-pub use heading::push_ending;
 pub use said::Said;
 pub use story::write_story;

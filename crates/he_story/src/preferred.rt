@@ -1,12 +1,13 @@
 // A race's addresses in order of preference, each with what puts it after the one before.
 
 ghost use Rattle.std.specs.Prelude.{◌≡◌, ◌++◌, None, OnOk};
-ghost use Rattle.he_story.specs.Lines.{address_facts, address_lines, compared, block_facts, compared_facts, preferred_facts, reached_facts, reason_facts, rule_facts, source_label, source_scope, title_facts, told};
+ghost use Rattle.he_story.specs.Lines.{address_facts, address_lines, block_facts, compared, preferred_facts, reached_facts, reason_facts, rule_facts, source_label, source_scope, title_facts, told};
 
 use crate::said::Said;
+use crate::story::Story;
 use he_addr::{Ip, Memory};
 use he_course::Preferred;
-use he_print::{Part, push_parts};
+use he_print::Part;
 use he_select::{DestinationAttributes, DestinationRule};
 use itoa::Buffer;
 use std::alloc::Allocator;
@@ -20,70 +21,16 @@ pub(crate) fn width_of(last: u64) -> usize {
     digits.format(last).len().saturating_add(INDENT)
 }
 
-// What the address stands for, by its prefix.
-fn push_block<A: Allocator>(ip: Ip, story: &mut Vec<Part<Said>, A>) -> Result<(), Memory>
-    ensures { OnOk result (told story.new.items ≡ told story.old.items ++ block_facts ip) }
-{
-    match ip {
-        Ip::V6(number) if number >> 32 == 0x64_ff9b << 64 => {
-            push_parts(&[Part::Says(Said::Nat64, b" (NAT64)")], story)
-        }
-        Ip::V6(number) if number >> 112 == 0x2002 => {
-            push_parts(&[Part::Says(Said::SixToFour, b" (6to4)")], story)
-        }
-        Ip::V6(number) if number >> 96 == 0x2001 << 16 => {
-            push_parts(&[Part::Says(Said::Teredo, b" (Teredo)")], story)
-        }
-        _ => Ok(()),
-    }
-}
-
-// from SOURCE, or why the host does not reach the address.
-fn push_reached<A: Allocator>(
-    address: &Preferred,
-    story: &mut Vec<Part<Said>, A>,
-) -> Result<(), Memory>
-    ensures { OnOk result (told story.new.items ≡ told story.old.items ++ reached_facts address.now.is_routed
-        address.now.attributes.source) }
-{
-    match address.attributes.source {
-        Some(labelled) => push_parts(
-            &[
-                Part::Says(Said::From, b" from "),
-                Part::Ip(labelled.source.ip),
-            ],
-            story,
-        ),
-        None if address.is_routed => push_parts(
-            &[Part::Says(
-                Said::NoSource,
-                b", not reachable: no source address",
-            )],
-            story,
-        ),
-        None => push_parts(
-            &[Part::Says(Said::NoRoute, b", not reachable: no route")],
-            story,
-        ),
-    }
-}
-
-fn source_scope(attributes: &DestinationAttributes) -> u64
+fn source_scope(attributes: &DestinationAttributes) -> u8
     ensures { result ≡ source_scope attributes.now }
 {
-    match attributes.source {
-        Some(source) => source.scope as u64,
-        None => 0,
-    }
+    attributes.source.map_or(0, |source| source.scope)
 }
 
-fn source_label(attributes: &DestinationAttributes) -> u64
+fn source_label(attributes: &DestinationAttributes) -> u16
     ensures { result ≡ source_label attributes.now }
 {
-    match attributes.source {
-        Some(source) => source.label as u64,
-        None => 0,
-    }
+    attributes.source.map_or(0, |source| source.label)
 }
 
 // The two values that the rule compares, where it compares two. The first one may be unknown.
@@ -95,8 +42,12 @@ fn compared(
     ensures { result ≡ compared rule earlier.now later.now }
 {
     match rule {
-        DestinationRule::MatchingScope => Some((Some(later.scope as u64), source_scope(later))),
-        DestinationRule::MatchingLabel => Some((Some(later.label as u64), source_label(later))),
+        DestinationRule::MatchingScope => {
+            Some((Some(later.scope as u64), source_scope(later) as u64))
+        }
+        DestinationRule::MatchingLabel => {
+            Some((Some(later.label as u64), source_label(later) as u64))
+        }
         DestinationRule::HigherPrecedence => {
             Some((Some(later.precedence as u64), earlier.precedence as u64))
         }
@@ -110,158 +61,111 @@ fn compared(
     }
 }
 
-// The words before the first value that the rule compares, and between the two.
-fn name_of(rule: DestinationRule) -> (&'static [u8], &'static [u8]) {
-    match rule {
-        DestinationRule::MatchingScope => (b"; scope ", b", its source "),
-        DestinationRule::MatchingLabel => (b"; label ", b", its source "),
-        DestinationRule::HigherPrecedence => (b"; precedence ", b", the one before "),
-        DestinationRule::SmallerScope => (b"; scope ", b", the one before "),
-        DestinationRule::LowerRoundTripTime => (b"; round trip time ", b" ms, the one before "),
-        DestinationRule::LongestPrefix => (
-            b"; bits in common with its source ",
-            b", the one before ",
-        ),
-        _ => (b"", b""),
+impl<A: Allocator> Story<A> {
+    // What the address stands for, by its prefix.
+    fn tell_block(&mut self, ip: Ip) -> Result<(), Memory>
+        ensures { OnOk result (told self.new ≡ told self.old ++ block_facts ip) }
+    {
+        match ip {
+            Ip::V6(number) if number >> 32 == 0x64_ff9b << 64 => self.tell(Said::Nat64, &[]),
+            Ip::V6(number) if number >> 112 == 0x2002 => self.tell(Said::SixToFour, &[]),
+            Ip::V6(number) if number >> 96 == 0x2001 << 16 => self.tell(Said::Teredo, &[]),
+            _ => Ok(()),
+        }
     }
-}
 
-fn words_of(rule: DestinationRule) -> &'static [u8] {
-    match rule {
-        DestinationRule::AvoidUnusable => b"; the one before is reachable (RFC 6724 rule 1)",
-        DestinationRule::MatchingScope => b" (RFC 6724 rule 2)",
-        DestinationRule::AvoidDeprecated => b"; its source is deprecated (RFC 6724 rule 3)",
-        DestinationRule::MatchingLabel => b" (RFC 6724 rule 5)",
-        DestinationRule::HigherPrecedence => b" (RFC 6724 rule 6)",
-        DestinationRule::NativeTransport => b"; its route is a tunnel (RFC 6724 rule 7)",
-        DestinationRule::SmallerScope => b" (RFC 6724 rule 8)",
-        DestinationRule::LowerRoundTripTime => b" ms (RFC 8305 section 4)",
-        DestinationRule::UsedBefore => b"; the one before was used before (RFC 8305 section 4)",
-        DestinationRule::LongestPrefix => b" (RFC 6724 rule 9)",
-        DestinationRule::Unchanged => b"; listed later in its answer (RFC 6724 rule 10)",
+    // From which source, or why the host does not reach the address.
+    fn tell_reached(&mut self, address: &Preferred) -> Result<(), Memory>
+        ensures { OnOk result (told self.new ≡ told self.old ++ reached_facts address.now.is_routed
+            address.now.attributes.source) }
+    {
+        match address.attributes.source {
+            Some(labelled) => self.tell(Said::From, &[Part::Ip(labelled.source.ip)]),
+            None if address.is_routed => self.tell(Said::NoSource, &[]),
+            None => self.tell(Said::NoRoute, &[]),
+        }
     }
-}
 
-fn push_compared<A: Allocator>(
-    rule: DestinationRule,
-    values: Option<(Option<u64>, u64)>,
-    story: &mut Vec<Part<Said>, A>,
-) -> Result<(), Memory>
-    ensures { OnOk result (told story.new.items ≡ told story.old.items ++ compared_facts values) }
-{
-    let (name, between) = name_of(rule);
-    match values {
-        Some((Some(later), other)) => push_parts(
-            &[
-                Part::Words(name),
-                Part::Number(later),
-                Part::Words(between),
-                Part::Number(other),
-            ],
-            story,
-        ),
-        Some((None, other)) => push_parts(
-            &[
-                Part::Words(name),
-                Part::Says(Said::UnknownTime, b"unknown, the one before "),
-                Part::Number(other),
-            ],
-            story,
-        ),
-        None => Ok(()),
+    fn tell_rule(
+        &mut self,
+        rule: DestinationRule,
+        values: Option<(Option<u64>, u64)>,
+    ) -> Result<(), Memory>
+        ensures { OnOk result (told self.new ≡ told self.old ++ rule_facts rule values) }
+    {
+        match values {
+            Some((Some(later), other)) => {
+                self.tell(
+                    Said::Rule(rule),
+                    &[Part::Number(later), Part::Number(other)],
+                )
+            }
+            Some((None, other)) => self.tell(Said::UnknownTime, &[Part::Number(other)]),
+            None => self.tell(Said::Rule(rule), &[]),
+        }
     }
-}
 
-// What puts an address after the one before it, by this rule.
-fn push_rule<A: Allocator>(
-    rule: DestinationRule,
-    earlier: &DestinationAttributes,
-    later: &DestinationAttributes,
-    story: &mut Vec<Part<Said>, A>,
-) -> Result<(), Memory>
-    ensures { OnOk result (told story.new.items ≡ told story.old.items ++ rule_facts rule earlier.now later.now) }
-{
-    push_compared(rule, compared(rule, earlier, later), story)?;
-    push_parts(&[Part::Says(Said::Rule(rule), words_of(rule))], story)
-}
-
-fn push_reason<A: Allocator>(
-    earlier: Option<DestinationAttributes>,
-    address: &Preferred,
-    story: &mut Vec<Part<Said>, A>,
-) -> Result<(), Memory>
-    ensures { OnOk result (told story.new.items ≡ told story.old.items ++ reason_facts earlier address.now.rule
-        address.now.attributes) }
-{
-    let Some(earlier) = earlier else {
-        return Ok(());
-    };
-    match address.rule {
-        Some(rule) => push_rule(rule, &earlier, &address.attributes, story),
-        None => Ok(()),
+    // What puts the address after the one before it.
+    fn tell_reason(
+        &mut self,
+        earlier: Option<DestinationAttributes>,
+        address: &Preferred,
+    ) -> Result<(), Memory>
+        ensures { OnOk result (told self.new ≡ told self.old ++ reason_facts earlier address.now.rule
+            address.now.attributes) }
+    {
+        let Some(earlier) = earlier else {
+            return Ok(());
+        };
+        match address.rule {
+            Some(rule) => self.tell_rule(rule, compared(rule, &earlier, &address.attributes)),
+            None => Ok(()),
+        }
     }
-}
 
-// NUMBER. ADDRESS (KIND) from SOURCE; REASON, counted from 1.
-fn push_address<A: Allocator>(
-    width: usize,
-    number: u64,
-    earlier: Option<DestinationAttributes>,
-    address: &Preferred,
-    story: &mut Vec<Part<Said>, A>,
-) -> Result<(), Memory>
-    ensures { OnOk result (told story.new.items ≡ told story.old.items ++ address_facts number earlier address.now) }
-{
-    push_parts(
-        &[
-            Part::Words(b"\n"),
-            Part::Aligned(width, number),
-            Part::Words(b". "),
-            Part::Ip(address.attributes.ip),
-        ],
-        story,
-    )?;
-    push_block(address.attributes.ip, story)?;
-    push_reached(address, story)?;
-    push_reason(earlier, address, story)
-}
-
-fn push_addresses<A: Allocator>(
-    addresses: &[Preferred],
-    story: &mut Vec<Part<Said>, A>,
-) -> Result<(), Memory>
-    ensures { OnOk result (told story.new.items ≡ told story.old.items ++ address_lines 1 None addresses.now) }
-{
-    let width = width_of(addresses.len() as u64);
-    let mut earlier = None;
-    for (place, address) in addresses.iter().enumerate() {
-        push_address(width, place as u64 + 1, earlier, address, story)?;
-        earlier = Some(address.attributes);
+    fn tell_address(
+        &mut self,
+        width: usize,
+        number: u64,
+        earlier: Option<DestinationAttributes>,
+        address: &Preferred,
+    ) -> Result<(), Memory>
+        ensures { OnOk result (told self.new ≡ told self.old ++ address_facts number earlier address.now) }
+    {
+        let ip = address.attributes.ip;
+        self.tell(Said::Address, &[Part::Aligned(width, number), Part::Ip(ip)])?;
+        self.tell_block(ip)?;
+        self.tell_reached(address)?;
+        self.tell_reason(earlier, address)
     }
-    Ok(())
-}
 
-// What stands above the addresses.
-fn push_title<A: Allocator>(
-    addresses: &[Preferred],
-    story: &mut Vec<Part<Said>, A>,
-) -> Result<(), Memory>
-    ensures { OnOk result (told story.new.items ≡ told story.old.items ++ title_facts addresses.now) }
-{
-    let title = if addresses.is_empty() {
-        Part::Says(Said::NoAddress, b"\nno address to try")
-    } else {
-        Part::Says(Said::Preferred, b"\npreferred, once every answer is known:")
-    };
-    push_parts(&[title], story)
-}
+    fn tell_addresses(&mut self, addresses: &[Preferred]) -> Result<(), Memory>
+        ensures { OnOk result (told self.new ≡ told self.old ++ address_lines 1 None addresses.now) }
+    {
+        let width = width_of(addresses.len() as u64);
+        let mut earlier = None;
+        for (place, address) in addresses.iter().enumerate() {
+            self.tell_address(width, place as u64 + 1, earlier, address)?;
+            earlier = Some(address.attributes);
+        }
+        Ok(())
+    }
 
-pub(crate) fn push_preferred<A: Allocator>(
-    addresses: &[Preferred],
-    story: &mut Vec<Part<Said>, A>,
-) -> Result<(), Memory>
-    ensures { OnOk result (told story.new.items ≡ told story.old.items ++ preferred_facts addresses.now) }
-{
-    push_title(addresses, story)?;
-    push_addresses(addresses, story)
+    // What stands above the addresses.
+    fn tell_title(&mut self, addresses: &[Preferred]) -> Result<(), Memory>
+        ensures { OnOk result (told self.new ≡ told self.old ++ title_facts addresses.now) }
+    {
+        if addresses.is_empty() {
+            self.tell(Said::NoAddress, &[])
+        } else {
+            self.tell(Said::Preferred, &[])
+        }
+    }
+
+    pub(crate) fn tell_preferred(&mut self, addresses: &[Preferred]) -> Result<(), Memory>
+        ensures { OnOk result (told self.new ≡ told self.old ++ preferred_facts addresses.now) }
+    {
+        self.tell_title(addresses)?;
+        self.tell_addresses(addresses)
+    }
 }

@@ -4,12 +4,11 @@ use he_addr::Family;
 use he_course::Turn;
 use he_select::DestinationRule;
 
-/// What words of a story say. The numbers, places and addresses beside them are facts of their own.
+/// What words of a story say. The numbers, places and addresses that stand in them are facts of their own.
 #[derive(Clone, Copy, Debug, PartialEq, Eq)]
 pub enum Said {
-    // How a race ended.
+    // Which race it is, and how it ended.
     Race,
-    Line,
     Connected,
     NothingLeft,
     LimitReached,
@@ -23,16 +22,18 @@ pub enum Said {
     // Its addresses.
     NoAddress,
     Preferred,
+    Address,
     Nat64,
     SixToFour,
     Teredo,
     From,
     NoSource,
     NoRoute,
-    UnknownTime,
     Rule(DestinationRule),
+    UnknownTime,
     // Its events.
     Course,
+    At,
     Paused,
     Late,
     Answered(Family),
@@ -56,7 +57,6 @@ pub enum Said {
     CameWith(Family),
     HeldBack,
     OnlyOne,
-    Known,
     Turn(Turn),
     // What had to wait, and what a floor would have changed.
     NoAnswer(Family),
@@ -64,4 +64,5 @@ pub enum Said {
     Untried(Family),
     Passed(Family),
     WithFloor,
+    End,
 }

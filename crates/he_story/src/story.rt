@@ -1,51 +1,61 @@
 // The story of a race, for a person to read.
 
-ghost use Rattle.std.specs.Prelude.{◌≡◌, ◌++◌, OnOk, OnErr};
+ghost use Rattle.std.specs.Prelude.{◌≡◌, ◌++◌, ◌∷◌, OnOk, OnErr};
+ghost use Rattle.std.specs.List.{flat_map};
+ghost use Rattle.he_print.specs.Parts.{fact_of};
+ghost use Rattle.he_print.specs.declared.part.Fact.TheVariants as facts;
 ghost use Rattle.he_story.specs.Lines.{told};
 ghost use Rattle.he_story.specs.Story.{Tells, story_facts};
 
-use crate::closing::{push_closing, push_sooner};
-use crate::happening::push_happening;
-use crate::heading::push_heading;
-use crate::preferred::push_preferred;
 use crate::said::Said;
+use crate::words::{cut, words_of};
 use he_addr::Memory;
 use he_course::Course;
 use he_print::{Part, push_parts, write_parts};
 use std::alloc::Allocator;
 
 // Room for the parts of most stories: those of a line, and those of the other lines.
-const PARTS_PER_LINE: usize = 16;
+const PARTS_PER_LINE: usize = 24;
+
 const OTHER_PARTS: usize = 64;
 
-fn push_story<A: Allocator, B: Allocator>(
-    course: &Course<B>,
-    story: &mut Vec<Part<Said>, A>,
-) -> Result<(), Memory>
-    ensures { OnOk result (told story.new.items ≡ told story.old.items ++ story_facts course.now) }
-{
-    push_heading(course, story)?;
-    push_preferred(&course.addresses, story)?;
-    push_happening(course, story)?;
-    push_closing(course, story)?;
-    push_sooner(course.sooner, story)?;
-    push_end(story)
+// What is told so far.
+#[derive(Drop)]
+pub(crate) struct Story<A: Allocator> {
+    pub(crate) parts: Vec<Part<Said>, A>,
 }
 
-fn push_end<A: Allocator>(story: &mut Vec<Part<Said>, A>) -> Result<(), Memory>
-    ensures { OnOk result (told story.new.items ≡ told story.old.items) }
-{
-    push_parts(&[Part::Words(b"\n")], story)
+impl<A: Allocator> Story<A> {
+    // Tells something, with the parts that stand in its words.
+    pub(crate) fn tell(&mut self, said: Said, parts: &[Part<Said>]) -> Result<(), Memory>
+        ensures { OnOk result (told self.new ≡ told self.old ++ (facts.Said said ∷ flat_map fact_of parts.now)) }
+    {
+        let (first, mut rest) = cut(words_of(said));
+        push_parts(&[Part::Says(said, first)], &mut self.parts)?;
+        for part in parts {
+            let (words, more) = cut(rest);
+            push_parts(&[*part, Part::Words(words)], &mut self.parts)?;
+            rest = more;
+        }
+        Ok(())
+    }
+
+    fn tell_all<B: Allocator>(&mut self, course: &Course<B>) -> Result<(), Memory>
+        ensures { OnOk result (told self.new ≡ told self.old ++ story_facts course.now) }
+    {
+        self.tell_heading(course)?;
+        self.tell_preferred(&course.addresses)?;
+        self.tell_events(course)?;
+        self.tell_answers(course)?;
+        self.tell_sooner(course.sooner)?;
+        self.tell(Said::End, &[])
+    }
 }
 
-fn lines_of<A: Allocator>(course: &Course<A>) -> usize {
-    course.addresses.len().saturating_add(course.events.len())
-}
-
-/// Appends the story of a course to `out`: a line on how the race ended; its usable addresses in order of preference,
-/// each with its source and what puts it after the one before; its events in order of ticks, each after its tick in
-/// milliseconds; then the answers that did not come, or came after the end, how long an answer waited for the first
-/// attempt at one of its addresses, and how the race would have ended with a floor, if earlier.
+/// Appends the story of a course to `out`: a line on how the race ended and what it lost; its usable addresses in order
+/// of preference, each with its source and what puts it after the one before; its events in order of ticks, each after
+/// its tick in milliseconds; then the answers that did not come, or came after the end, how long an answer waited for
+/// the first attempt at one of its addresses, and how the race would have ended with a floor, if earlier.
 ///
 /// # Errors
 ///
@@ -58,10 +68,12 @@ pub fn write_story<A: Allocator + Copy, B: Allocator>(
     ensures ok { OnOk result (Tells course.now out.old.items out.new.items) }
     ensures err { OnErr result (out.new.items ≡ out.old.items) }
 {
-    let room = lines_of(course).saturating_mul(PARTS_PER_LINE);
-    let mut story = Vec::with_capacity(alloc, room.saturating_add(OTHER_PARTS))?;
-    push_story(course, &mut story)?;
+    let lines = course.addresses.len().saturating_add(course.events.len());
+    let room = lines.saturating_mul(PARTS_PER_LINE);
+    let parts = Vec::with_capacity(alloc, room.saturating_add(OTHER_PARTS))?;
+    let mut story = Story { parts };
+    story.tell_all(course)?;
     let mut text = Vec::new(alloc);
-    write_parts(&story, &mut text)?;
+    write_parts(&story.parts, &mut text)?;
     out.extend_from_slice(&text).map_err(|_| Memory)
 }

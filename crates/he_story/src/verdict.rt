@@ -2,14 +2,15 @@
 
 ghost use Rattle.std.specs.Prelude.{◌≡◌, ◌++◌, OnOk};
 ghost use Rattle.std.specs.List.{flat_map, list_any};
-ghost use Rattle.he_story.specs.Story.{between_facts, had_failed, has_waited, is_wait, lost_facts, more_facts, stood_facts, verdict_facts, wait_facts};
 ghost use Rattle.he_story.specs.Lines.{told};
+ghost use Rattle.he_story.specs.Story.{between_facts, had_failed, has_waited, is_wait, lost_facts, more_facts, stood_facts, verdict_facts, wait_facts};
 
 use crate::said::Said;
+use crate::story::Story;
 use he_addr::{Family, Ip, Memory};
 use he_course::{Course, Event, EventKind};
 use he_plan::{Line, Mark};
-use he_print::{Part, push_parts};
+use he_print::Part;
 use std::alloc::Allocator;
 
 /// No more attempts are named that stood between.
@@ -37,21 +38,6 @@ fn has_waited(events: &[Event], ip: Ip) -> bool
     ip.family() == Family::V4 && any_waits(events)
 }
 
-fn push_wait<A: Allocator>(waited: bool, story: &mut Vec<Part<Said>, A>) -> Result<(), Memory>
-    ensures { OnOk result (told story.new.items ≡ told story.old.items ++ wait_facts waited) }
-{
-    if !waited {
-        return Ok(());
-    }
-    push_parts(
-        &[Part::Says(
-            Said::WaitForAaaa,
-            b": the wait for the AAAA answer",
-        )],
-        story,
-    )
-}
-
 fn had_failed(tick: u64, mark: Mark) -> bool
     ensures { result ≡ had_failed tick mark }
 {
@@ -61,110 +47,85 @@ fn had_failed(tick: u64, mark: Mark) -> bool
     }
 }
 
-// ADDRESS failed, or gave no answer by the tick.
-fn push_stood<A: Allocator>(
-    before: &'static [u8],
-    tick: u64,
-    line: Line,
-    story: &mut Vec<Part<Said>, A>,
-) -> Result<(), Memory>
-    ensures { OnOk result (told story.new.items ≡ told story.old.items ++ stood_facts tick line) }
-{
-    let what = if had_failed(tick, line.mark) {
-        Part::Says(Said::HadFailed, b" failed")
-    } else {
-        Part::Says(Said::GaveNoAnswer, b" gave no answer")
-    };
-    push_parts(&[Part::Words(before), Part::Ip(line.ip), what], story)
-}
-
 fn comma(is_first: bool) -> &'static [u8] {
-    if is_first { b": " } else { b", " }
+    if is_first { b"" } else { b"," }
 }
 
-fn push_named<A: Allocator>(
-    waited: bool,
-    tick: u64,
-    lines: &[Line],
-    story: &mut Vec<Part<Said>, A>,
-) -> Result<(), Memory>
-    ensures { OnOk result (told story.new.items ≡ told story.old.items ++ flat_map (stood_facts tick) lines.now) }
-{
-    for (place, line) in lines.iter().enumerate() {
-        push_stood(comma(place == 0 && !waited), tick, *line, story)?;
+impl<A: Allocator> Story<A> {
+    fn tell_wait(&mut self, waited: bool) -> Result<(), Memory>
+        ensures { OnOk result (told self.new ≡ told self.old ++ wait_facts waited) }
+    {
+        if waited {
+            self.tell(Said::WaitForAaaa, &[])
+        } else {
+            Ok(())
+        }
     }
-    Ok(())
-}
 
-fn push_more<A: Allocator>(count: usize, story: &mut Vec<Part<Said>, A>) -> Result<(), Memory>
-    ensures { OnOk result (told story.new.items ≡ told story.old.items ++ more_facts count) }
-{
-    if count == 0 {
-        return Ok(());
+    // An attempt before that of the winner, which started at the tick.
+    fn tell_stood(&mut self, comma: &'static [u8], tick: u64, line: Line) -> Result<(), Memory>
+        ensures { OnOk result (told self.new ≡ told self.old ++ stood_facts tick line) }
+    {
+        let parts = [Part::Words(comma), Part::Ip(line.ip)];
+        if had_failed(tick, line.mark) {
+            self.tell(Said::HadFailed, &parts)
+        } else {
+            self.tell(Said::GaveNoAnswer, &parts)
+        }
     }
-    push_parts(
-        &[
-            Part::Words(b" and "),
-            Part::Number(count as u64),
-            Part::Says(Said::More, b" more"),
-        ],
-        story,
-    )
-}
 
-// The attempts before the winner's, which started at the tick.
-fn push_between<A: Allocator>(
-    waited: bool,
-    tick: u64,
-    lines: &[Line],
-    story: &mut Vec<Part<Said>, A>,
-) -> Result<(), Memory>
-    ensures { OnOk result (told story.new.items ≡ told story.old.items ++ between_facts tick lines.now) }
-{
-    let named = &lines[..MAX_NAMED.min(lines.len())];
-    push_named(waited, tick, named, story)?;
-    push_more(lines.len().saturating_sub(MAX_NAMED), story)
-}
-
-// N ms lost: WHAT STOOD BETWEEN
-fn push_lost<A: Allocator, B: Allocator>(
-    course: &Course<B>,
-    winner: Line,
-    lost: u64,
-    story: &mut Vec<Part<Said>, A>,
-) -> Result<(), Memory>
-    ensures { OnOk result (told story.new.items ≡ told story.old.items ++ lost_facts course.now winner lost) }
-{
-    push_parts(
-        &[
-            Part::Words(b"; "),
-            Part::Number(lost),
-            Part::Says(Said::Lost, b" ms lost"),
-        ],
-        story,
-    )?;
-    let waited = has_waited(&course.events, winner.ip);
-    push_wait(waited, story)?;
-    push_between(waited, winner.tick, course.before_winner(), story)
-}
-
-pub(crate) fn push_verdict<A: Allocator, B: Allocator>(
-    course: &Course<B>,
-    story: &mut Vec<Part<Said>, A>,
-) -> Result<(), Memory>
-    ensures { OnOk result (told story.new.items ≡ told story.old.items ++ verdict_facts course.now) }
-{
-    let Some(winner) = course.ended.winner else {
-        return Ok(());
-    };
-    let Some(lost) = course.lost() else {
-        return Ok(());
-    };
-    if lost == 0 {
-        return push_parts(
-            &[Part::Says(Said::NothingLost, b"; nothing lost")],
-            story,
-        );
+    fn tell_named(&mut self, waited: bool, tick: u64, lines: &[Line]) -> Result<(), Memory>
+        ensures { OnOk result (told self.new ≡ told self.old ++ flat_map (stood_facts tick) lines.now) }
+    {
+        for (place, line) in lines.iter().enumerate() {
+            self.tell_stood(comma(place == 0 && !waited), tick, *line)?;
+        }
+        Ok(())
     }
-    push_lost(course, winner, lost, story)
+
+    fn tell_more(&mut self, count: usize) -> Result<(), Memory>
+        ensures { OnOk result (told self.new ≡ told self.old ++ more_facts count) }
+    {
+        if count == 0 {
+            return Ok(());
+        }
+        self.tell(Said::More, &[Part::Number(count as u64)])
+    }
+
+    // The attempts before that of the winner, which started at the tick.
+    fn tell_between(&mut self, waited: bool, tick: u64, lines: &[Line]) -> Result<(), Memory>
+        ensures { OnOk result (told self.new ≡ told self.old ++ between_facts tick lines.now) }
+    {
+        self.tell_named(waited, tick, &lines[..MAX_NAMED.min(lines.len())])?;
+        self.tell_more(lines.len().saturating_sub(MAX_NAMED))
+    }
+
+    fn tell_lost<B: Allocator>(
+        &mut self,
+        course: &Course<B>,
+        winner: Line,
+        lost: u64,
+    ) -> Result<(), Memory>
+        ensures { OnOk result (told self.new ≡ told self.old ++ lost_facts course.now winner lost) }
+    {
+        self.tell(Said::Lost, &[Part::Number(lost)])?;
+        let waited = has_waited(&course.events, winner.ip);
+        self.tell_wait(waited)?;
+        self.tell_between(waited, winner.tick, course.before_winner())
+    }
+
+    pub(crate) fn tell_verdict<B: Allocator>(&mut self, course: &Course<B>) -> Result<(), Memory>
+        ensures { OnOk result (told self.new ≡ told self.old ++ verdict_facts course.now) }
+    {
+        let Some(winner) = course.ended.winner else {
+            return Ok(());
+        };
+        let Some(lost) = course.lost() else {
+            return Ok(());
+        };
+        if lost == 0 {
+            return self.tell(Said::NothingLost, &[]);
+        }
+        self.tell_lost(course, winner, lost)
+    }
 }

@@ -1,5 +1,5 @@
 -- What is written of the races that are summed.
-use Rattle.std.specs.Prelude.{ℕ, ◌≡◌, ◌++◌, List, [], ◌∷◌, filter, map, take, IsPermutation, Some}
+use Rattle.std.specs.Prelude.{ℕ, ◌≡◌, ◌++◌, List, [], ◌∷◌, filter, map, take, IsPermutation, Option, Some}
 use Rattle.std.specs.List.Sorted.{IsSortedByKey}
 use Rattle.std.specs.Option.{unwrap_or}
 use Rattle.std.specs.Ordering.{nat_cmp, ordering_then}
@@ -14,10 +14,12 @@ use Rattle.he_summary.specs.Summed.{all_tries}
 use Rattle.he_summary.specs.Totals.{AreTotals, is_kind, time_of}
 use Rattle.he_summary.specs.Tries.{AreFailing}
 use Rattle.he_summary.specs.declared.figures.Form.{Form}
+use Rattle.he_summary.specs.declared.figures.Form.TheVariants as forms
 use Rattle.he_summary.specs.declared.figures.Said.{Said}
 use Rattle.he_summary.specs.declared.kept.Ending.{Ending}
 use Rattle.he_summary.specs.declared.kept.Ending.TheVariants as endings
 use Rattle.he_summary.specs.declared.kept.Kept.{Kept}
+use Rattle.he_summary.specs.declared.kept.Place.{Place}
 use Rattle.he_summary.specs.declared.tallies.Tally.{Tally}
 use Rattle.he_summary.specs.declared.totals.Kind.TheVariants.{Won}
 use Rattle.he_summary.specs.declared.totals.Totals.{Totals}
@@ -40,25 +42,29 @@ AreSlowest most kept slow =
     (sorted : List Kept) × IsPermutation (filter (is_kind Won) kept) sorted
     × IsSortedByKey slow_key slowest_first sorted × (slow ≡ take most sorted)
 
--- where it begins, its number, the time to connect, to which address, and what it lost
-abbrev pub slow_facts_by : Kept → Ending → List (Fact Said)
-slow_facts_by race (endings.Won (Some ip) time) =
-    facts.Number race.place.line ∷ facts.Number race.place.number ∷ facts.Number time ∷ facts.Ip ip
-    ∷ facts.Number (unwrap_or race.lost 0) ∷ []
-slow_facts_by race _ = []
+-- where a race stands: at which line it begins, and its number
+abbrev pub place_facts : {S : Type 0} → Form → Place → List (Fact S)
+place_facts forms.Text place = facts.Number place.line ∷ facts.Number place.number ∷ []
+place_facts forms.Json place = facts.Number place.number ∷ facts.Number place.line ∷ []
 
-abbrev pub slow_facts : Kept → List (Fact Said)
-slow_facts race = slow_facts_by race race.ending
+-- the time to connect, to which address, and what the race lost
+abbrev pub won_facts : Option ℕ → Ending → List (Fact Said)
+won_facts lost (endings.Won (Some ip) time) =
+    facts.Number time ∷ facts.Ip ip ∷ facts.Number (unwrap_or lost 0) ∷ []
+won_facts lost _ = []
+
+abbrev pub slow_facts : Form → Kept → List (Fact Said)
+slow_facts form race = place_facts form race.place ++ won_facts race.lost race.ending
 
 -- words have been appended
 abbrev pub IsNamed : List ℕ → List ℕ → Type 0
 IsNamed old new = (words : List ℕ) × (new ≡ old ++ words)
 
 -- these have been appended, each after other words
-abbrev pub TellsSlow : List Kept → List ℕ → List ℕ → Type 0
-TellsSlow [] old new = IsNamed old new
-TellsSlow (race ∷ slow) old new =
-    (words between : List ℕ) × Tells (slow_facts race) (old ++ words) between × TellsSlow slow between new
+abbrev pub TellsSlow : Form → List Kept → List ℕ → List ℕ → Type 0
+TellsSlow form [] old new = IsNamed old new
+TellsSlow form (race ∷ slow) old new =
+    (words between : List ℕ) × Tells (slow_facts form race) (old ++ words) between × TellsSlow form slow between new
 
 -- what is written of these races, and of so many of the slowest ones
 abbrev pub IsWritten : Form → List Run → ℕ → List ℕ → List ℕ → Type 0
@@ -66,4 +72,4 @@ IsWritten form runs most old new =
     (totals : Totals) × (failing : List (Ip × Tally)) × (slow : List Kept) × (between : List ℕ)
     × AreTotals (map kept_of runs) totals × AreFailing (all_tries runs) failing
     × AreSlowest most (map kept_of runs) slow
-    × Tells (summary_facts form totals failing) old between × TellsSlow slow between new
+    × Tells (summary_facts form totals failing) old between × TellsSlow form slow between new

@@ -17,4 +17,4 @@ pub use races::Races;
 pub use tallies::Tally;
 pub use times::Spread;
 pub use totals::{Counts, Totals};
-pub use writing::name_of;
+pub use writing::{name_of, push_place};

@@ -7,11 +7,11 @@ ghost use Rattle.he_summary.specs.Kept.{Run};
 ghost use Rattle.he_summary.specs.Figures.{summary_facts, tally_facts};
 ghost use Rattle.he_summary.specs.Summed.{HasSummed};
 ghost use Rattle.he_summary.specs.Totals.{is_kind};
-ghost use Rattle.he_summary.specs.Written.{AreSlowest, IsNamed, IsWritten, Tells, TellsSlow, slow_facts, slow_key, slowest_first};
+ghost use Rattle.he_summary.specs.Written.{AreSlowest, IsNamed, IsWritten, Tells, TellsSlow, place_facts, slow_facts, slow_key, slowest_first};
 ghost use Rattle.he_summary.specs.declared.totals.Kind.TheVariants.{Won};
 
 use crate::figures::{Form, Said, push_tally, push_totals};
-use crate::kept::{Ending, Kept};
+use crate::kept::{Ending, Kept, Place};
 use crate::races::Races;
 use crate::tallies::Tally;
 use crate::totals::{Kind, Totals, Value, is_kind, value_of};
@@ -115,7 +115,7 @@ fn write_slowest<A: Allocator + Copy>(
     names: &[String],
     text: &mut Vec<u8, A>,
 ) -> Result<(), Memory>
-    ensures { OnOk result (TellsSlow slow.now text.old.items text.new.items) }
+    ensures { OnOk result (TellsSlow form slow.now text.old.items text.new.items) }
 {
     let (begin, end): (&[u8], &[u8]) = match form {
         Form::Text if slow.is_empty() => (b"", b""),
@@ -166,7 +166,7 @@ fn write_slow<A: Allocator + Copy>(
     race: &Kept,
     text: &mut Vec<u8, A>,
 ) -> Result<(), Memory>
-    ensures { OnOk result (Tells (slow_facts race.now) text.old.items text.new.items) }
+    ensures { OnOk result (Tells (slow_facts form race.now) text.old.items text.new.items) }
 {
     let mut parts = Vec::new(alloc);
     push_slow(form, race, &mut parts)?;
@@ -179,40 +179,57 @@ fn push_slow<A: Allocator>(
     race: &Kept,
     text: &mut Vec<Part<Said>, A>,
 ) -> Result<(), Memory>
-    ensures { OnOk result (flat_map fact_of text.new.items ≡ flat_map fact_of text.old.items ++ slow_facts race.now) }
+    ensures { OnOk result (flat_map fact_of text.new.items ≡ flat_map fact_of text.old.items
+        ++ slow_facts form race.now) }
 {
+    push_place(form, race.place, text)?;
     let words = slow_words(form);
-    let Ending::Won(Some(ip), time) = race.ending else {
-        return Ok(());
-    };
-    push_parts(
-        &[
-            Part::Words(words[0]),
-            Part::Number(race.place.line),
-            Part::Words(words[1]),
-            Part::Number(race.place.number as u64),
-            Part::Words(words[2]),
-            Part::Number(time),
-            Part::Words(words[3]),
-            Part::Ip(ip),
-            Part::Words(words[4]),
-            Part::Number(race.lost.unwrap_or(0)),
-            Part::Words(words[5]),
-        ],
-        text,
-    )
+    match race.ending {
+        Ending::Won(Some(ip), time) => push_parts(
+            &[
+                Part::Words(words[0]),
+                Part::Number(time),
+                Part::Words(words[1]),
+                Part::Ip(ip),
+                Part::Words(words[2]),
+                Part::Number(race.lost.unwrap_or(0)),
+                Part::Words(words[3]),
+            ],
+            text,
+        ),
+        _ => Ok(()),
+    }
 }
 
-fn slow_words(form: Form) -> [&'static [u8]; 6] {
+fn slow_words(form: Form) -> [&'static [u8]; 4] {
     match form {
-        Form::Text => [b":", b" race ", b": ", b" ms to ", b", ", b" ms lost\n"],
-        Form::Json => [
-            b",\"line\":",
-            b",\"race\":",
-            b",\"ms\":",
-            b",\"address\":\"",
-            b"\",\"lost_ms\":",
-            b"}",
-        ],
+        Form::Text => [b": ", b" ms to ", b", ", b" ms lost\n"],
+        Form::Json => [b",\"ms\":", b",\"address\":\"", b"\",\"lost_ms\":", b"}"],
+    }
+}
+
+/// Tells where a race stands, after the name of its file: by the line with which it begins, and by its number.
+pub fn push_place<S: Copy, A: Allocator>(
+    form: Form,
+    place: Place,
+    text: &mut Vec<Part<S>, A>,
+) -> Result<(), Memory>
+    ensures { OnOk result (flat_map fact_of text.new.items ≡ flat_map fact_of text.old.items
+        ++ place_facts form place) }
+{
+    let (line, number) = (Part::Number(place.line), Part::Number(place.number as u64));
+    match form {
+        Form::Text => push_parts(&[Part::Words(b":"), line, Part::Words(b" race "), number], text),
+        Form::Json => {
+            push_parts(
+                &[
+                    Part::Words(b",\"race\":"),
+                    number,
+                    Part::Words(b",\"line\":"),
+                    line,
+                ],
+                text,
+            )
+        }
     }
 }

@@ -40,15 +40,15 @@ abbrev pub form_of : Bool → Form
 form_of json = if json then forms.Json else forms.Text
 
 -- the lines of races, where they are told
-abbrev pub AreLinesOf : Bool → List Run → List ℕ → List ℕ → Type 0
-AreLinesOf true runs old new = AreLines None (map kept_of runs) old new
-AreLinesOf false runs old new = new ≡ old
+abbrev pub AreLinesOf : Bool → Form → List Run → List ℕ → List ℕ → Type 0
+AreLinesOf true form runs old new = AreLines form None (map kept_of runs) old new
+AreLinesOf false form runs old new = new ≡ old
 
 -- a summary of these races, or a table of so many rows, below their lines
 abbrev pub IsTold : Task → List Run → ℕ → List ℕ → List ℕ → Type 0
 IsTold (Summarize json slowest) runs rows old new = IsWritten (form_of json) runs slowest old new
 IsTold (Compare json races) runs rows old new =
-    (between : List ℕ) × AreLinesOf races runs old between × IsTable (form_of json) (map kept_of runs) 0 rows between new
+    (between : List ℕ) × AreLinesOf races (form_of json) runs old between × IsTable (form_of json) (map kept_of runs) 0 rows between new
 IsTold _ runs rows old new = Unit {0}
 
 -- that, or a first part of it, was put into the output; or there was no memory for it

@@ -1,9 +1,0 @@
-use Rattle.std.proofs.Common.{◌≡◌, ◌++◌, drop}
-use Rattle.std.specs.List.{flat_map}
-use Rattle.he_story.specs.Lines.{event_facts, told}
-use Rattle.he_story.proofs.happening.push_events.Given as goal
-
-abbrev pub invariant-loop-event : goal.invariant-loop-event
-invariant-loop-event g l =
-    told l.story.items ++ flat_map (event_facts l.course) (drop l.event-index l.course.events.items)
-    ≡ told l.fn.story.items ++ flat_map (event_facts l.course) l.course.events.items
