@@ -5,7 +5,7 @@ use Rattle.he_course.specs.declared.course.Course.{Course}
 use Rattle.he_print.specs.declared.part.Fact.{Fact}
 use Rattle.he_print.specs.declared.part.Fact.TheVariants.{Said, Number, Place}
 use Rattle.he_print.specs.Parts.{States}
-use Rattle.he_story.specs.Story.{Tells}
+use Rattle.he_story.specs.Story.{Tells, race_facts}
 use Rattle.he_story.specs.declared.said.Said.{Said as Words}
 use Rattle.he_draw.specs.declared.rows.Row.{Row}
 use Rattle.he_draw.specs.declared.rows.What.{What}
@@ -14,7 +14,7 @@ use Rattle.he_draw.specs.declared.totals.Counted.{Counted}
 use Rattle.he_draw.specs.declared.totals.Counted.TheVariants as counts
 use Rattle.he_draw.specs.declared.totals.Times.{Times}
 use Rattle.he_draw.specs.declared.totals.Totals.{Totals}
-use Rattle.he_draw.specs.Picture.{heading_facts, label_fact, words_facts}
+use Rattle.he_draw.specs.Picture.{label_fact, words_facts}
 use Rattle.he_draw.specs.Rows.{end_of, rows_of}
 
 -- neither `&` nor `<`, with which HTML begins a character's name or a tag
@@ -60,7 +60,7 @@ opening_facts course file =
 unfoldable pub section_facts : {A : Type 0} → Course A → ℕ → List (Fact Words)
 section_facts course file =
     opening_facts course file
-    ++ (heading_facts course ++ flat_map (page_row_facts (end_of course)) (rows_of course))
+    ++ (race_facts course ++ flat_map (page_row_facts (end_of course)) (rows_of course))
 
 -- the part of a page that a race has: its picture, then its story, of which nothing is read as a tag
 pub record IsSection {A : Type 0} (course : Course A) (file : ℕ) (text : List ℕ) : Type 0 where

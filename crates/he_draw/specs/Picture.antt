@@ -5,8 +5,9 @@ use Rattle.he_addr.specs.declared.ip.Family.TheVariants as families
 use Rattle.he_course.specs.declared.course.Course.{Course}
 use Rattle.he_print.specs.declared.part.Fact.{Fact}
 use Rattle.he_print.specs.declared.part.Fact.TheVariants.{Said, Number, Ip, Times}
-use Rattle.he_print.specs.Parts.{States}
-use Rattle.he_story.specs.Story.{ending_facts}
+use Rattle.he_print.specs.declared.part.Part.{Part}
+use Rattle.he_print.specs.Parts.{States, fact_of}
+use Rattle.he_story.specs.Story.{race_facts}
 use Rattle.he_story.specs.declared.said.Said.{Said as Words}
 use Rattle.he_story.specs.declared.said.Said.TheVariants as says
 use Rattle.he_draw.specs.declared.rows.Row.{Row}
@@ -18,10 +19,9 @@ use Rattle.he_draw.specs.Rows.{end_of, rows_of}
 abbrev pub Prints : {S : Type 0} → List (Fact S) → List ℕ → List ℕ → Type 0
 Prints facts old new = (text : List ℕ) × States facts text × (new ≡ old ++ text)
 
--- which race it is, and how it ended
-abbrev pub heading_facts : {A : Type 0} → Course A → List (Fact Words)
-heading_facts course =
-    (Said says.Race ∷ Number course.number ∷ Said says.Line ∷ Number course.line ∷ []) ++ ending_facts course.ended
+-- the facts of parts
+abbrev pub told : {S : Type 0} → List (Part S) → List (Fact S)
+told parts = flat_map fact_of parts
 
 -- of what a row is
 abbrev pub label_fact : What → Fact Words
@@ -71,5 +71,5 @@ row_facts columns end row =
 -- how the race ended, its rows in so many columns, and the end of the scale below them
 unfoldable pub picture_facts : {A : Type 0} → ℕ → Course A → List (Fact Words)
 picture_facts columns course =
-    heading_facts course
+    race_facts course
     ++ (flat_map (row_facts columns (end_of course)) (rows_of course) ++ Number (end_of course) ∷ [])

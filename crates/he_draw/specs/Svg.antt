@@ -3,12 +3,13 @@ use Rattle.std.specs.Prelude.{ℕ, ◌+◌, ◌-◌, ◌*◌, ◌++◌, List, []
 use Rattle.he_course.specs.declared.course.Course.{Course}
 use Rattle.he_print.specs.declared.part.Fact.{Fact}
 use Rattle.he_print.specs.declared.part.Fact.TheVariants.{Said, Number}
+use Rattle.he_story.specs.Story.{race_facts}
 use Rattle.he_story.specs.declared.said.Said.{Said as Words}
 use Rattle.he_draw.specs.declared.rows.Row.{Row}
 use Rattle.he_draw.specs.declared.rows.What.{What}
 use Rattle.he_draw.specs.declared.rows.What.TheVariants.{Answer, Wait, Missing, Pause, Attempt}
 use Rattle.he_draw.specs.declared.shapes.TheConstants.{COLUMNS, LEFT, ROW, SIGN}
-use Rattle.he_draw.specs.Picture.{column, heading_facts, label_fact, words_facts}
+use Rattle.he_draw.specs.Picture.{column, label_fact, words_facts}
 use Rattle.he_draw.specs.Rows.{end_of, rows_of}
 
 -- where the row of a place begins, from the top: what stands above the rows is as high as two of them
@@ -50,6 +51,6 @@ unfoldable pub svg_facts : {A : Type 0} → Course A → List (Fact Words)
 svg_facts course =
     let top = Number (top_of (length (rows_of course))) in
     (top ∷ [])
-    ++ (heading_facts course
-    ++ (heading_facts course
+    ++ (race_facts course
+    ++ (race_facts course
     ++ ((top ∷ top ∷ Number (end_of course) ∷ []) ++ image_rows_facts (end_of course) 0 (rows_of course))))

@@ -3,8 +3,7 @@
 ghost use Rattle.std.specs.Prelude.{◌≡◌, ◌++◌, [], OnOk};
 ghost use Rattle.std.specs.List.{flat_map};
 ghost use Rattle.he_print.specs.Parts.{fact_of};
-ghost use Rattle.he_story.specs.Lines.{told};
-ghost use Rattle.he_draw.specs.Picture.{bar_facts, columns_facts, row_facts, times};
+ghost use Rattle.he_draw.specs.Picture.{bar_facts, columns_facts, row_facts, times, told};
 
 use crate::frame::{Frame, column};
 use crate::look::{BLANK, Run, Signs};

@@ -3,18 +3,16 @@
 ghost use Rattle.std.specs.Prelude.{ℕ, ◌≡◌, ◌≤◌, ◌++◌, ◌∷◌, [], OnOk, OnErr, IfOk};
 ghost use Rattle.he_print.specs.Parts.{States};
 ghost use Rattle.he_print.specs.declared.part.Fact.TheVariants.{Number};
-ghost use Rattle.he_story.specs.Lines.{told};
-ghost use Rattle.he_draw.specs.Picture.{Prints, picture_facts};
+ghost use Rattle.he_draw.specs.Picture.{Prints, picture_facts, told};
 
 use crate::drawing::{blank, push_rows};
 use crate::frame::{Frame, LEAST_COLUMNS, frame_of};
 use crate::look::Look;
 use crate::rows::collect_rows;
-use crate::words::push_heading;
 use he_addr::Memory;
 use he_course::Course;
 use he_print::{Part, push_parts, write_parts};
-use he_story::Said;
+use he_story::{Said, heading_parts};
 use std::alloc::Allocator;
 
 /// Appends the picture of the race: a line on how it ended; a row for each answer, each pause that begins before the
@@ -48,8 +46,7 @@ fn picture<A: Allocator + Copy, B: Allocator>(
 {
     let rows = collect_rows(alloc, course)?;
     let (frame, labels) = frame_of(alloc, look, width, course.end(), &rows)?;
-    let mut parts = Vec::new(alloc);
-    push_heading(course, &mut parts)?;
+    let mut parts = heading_parts(alloc, course)?;
     push_parts(&[Part::Words(b"\n")], &mut parts)?;
     push_rows(frame, &labels, &rows, &mut parts)?;
     push_scale(frame, &mut parts)?;

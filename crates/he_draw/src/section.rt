@@ -3,18 +3,17 @@
 ghost use Rattle.std.specs.Prelude.{◌≡◌, ◌++◌, [], IfOk, OnOk};
 ghost use Rattle.std.specs.List.{flat_map};
 ghost use Rattle.he_print.specs.Parts.{fact_of};
-ghost use Rattle.he_story.specs.Lines.{told};
 ghost use Rattle.he_story.specs.Story.{Tells};
-ghost use Rattle.he_draw.specs.Picture.{Prints};
+ghost use Rattle.he_draw.specs.Picture.{Prints, told};
 ghost use Rattle.he_draw.specs.Page.{WritesSection, anchor_facts, opening_facts, page_row_facts, section_facts, track_facts};
 
 use crate::escaping::write_escaped;
 use crate::rows::{Row, What, collect_rows};
-use crate::words::{became_word, label, push_heading, push_words};
+use crate::words::{became_word, label, push_words};
 use he_addr::Memory;
 use he_course::Course;
 use he_print::{Part, push_parts, write_parts};
-use he_story::{Said, write_story};
+use he_story::{Said, heading_parts, write_story};
 use std::alloc::Allocator;
 
 /// Appends the race to a page: its rows, with bars on one scale or on its own, and its story, folded. `file` is the
@@ -59,7 +58,7 @@ fn write_rows<A: Allocator + Copy, B: Allocator>(
     let rows = collect_rows(alloc, course)?;
     let mut parts = Vec::new(alloc);
     push_opening(course, file, &mut parts)?;
-    push_heading(course, &mut parts)?;
+    push_parts(&heading_parts(alloc, course)?, &mut parts)?;
     push_parts(&[Part::Words(b"</small></h3>\n")], &mut parts)?;
     push_rows(course.end(), &rows, &mut parts)?;
     push_parts(

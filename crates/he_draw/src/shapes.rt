@@ -2,7 +2,7 @@
 
 ghost use Rattle.std.specs.Prelude.{◌≡◌, ◌≤◌, ◌++◌, OnOk};
 ghost use Rattle.he_print.specs.Parts.{fact_of};
-ghost use Rattle.he_story.specs.Lines.{told};
+ghost use Rattle.he_draw.specs.Picture.{told};
 ghost use Rattle.he_draw.specs.Svg.{bar_places, image_row_facts, image_rows_facts, shape_facts, top_of, x_of};
 
 use crate::frame::column;

@@ -7,10 +7,10 @@ ghost use Rattle.he_draw.specs.Svg.{svg_facts};
 
 use crate::rows::collect_rows;
 use crate::shapes::{push_shapes, top_of};
-use crate::words::push_heading;
 use he_addr::Memory;
 use he_course::Course;
 use he_print::{Part, push_parts, write_parts};
+use he_story::heading_parts;
 use std::alloc::Allocator;
 
 /// Appends the picture of the race as one SVG image: its title says how the race ended, and it has the rows of
@@ -38,11 +38,12 @@ fn svg<A: Allocator + Copy, B: Allocator>(
     let rows = collect_rows(alloc, course)?;
     let top = Part::Number(top_of(rows.len()));
     let end = Part::Number(course.end());
+    let heading = heading_parts(alloc, course)?;
     let mut parts = Vec::new(alloc);
     push_parts(&[Part::Words(OPENING), top, Part::Words(TITLE)], &mut parts)?;
-    push_heading(course, &mut parts)?;
+    push_parts(&heading, &mut parts)?;
     push_parts(&[Part::Words(STYLE)], &mut parts)?;
-    push_heading(course, &mut parts)?;
+    push_parts(&heading, &mut parts)?;
     push_parts(
         &[
             Part::Words(EDGES),

@@ -1,34 +1,14 @@
-// The words of a row, and the first line of a picture.
+// The words of a row.
 
 ghost use Rattle.std.specs.Prelude.{◌≡◌, ◌++◌, ◌∷◌, [], OnOk};
 ghost use Rattle.he_print.specs.Parts.{fact_of};
-ghost use Rattle.he_story.specs.Lines.{told};
-ghost use Rattle.he_draw.specs.Picture.{heading_facts, label_fact, words_facts};
+ghost use Rattle.he_draw.specs.Picture.{label_fact, told, words_facts};
 
 use crate::rows::{Row, What};
 use he_addr::{Family, Memory};
-use he_course::Course;
 use he_print::{Part, push_parts};
-use he_story::{Said, push_ending};
+use he_story::Said;
 use std::alloc::Allocator;
-
-/// race NUMBER, line LINE: ENDING
-pub(crate) fn push_heading<A: Allocator, B: Allocator>(
-    course: &Course<B>,
-    parts: &mut Vec<Part<Said>, A>,
-) -> Result<(), Memory>
-    ensures { OnOk result (told parts.new.items ≡ told parts.old.items ++ heading_facts course.now) }
-{
-    let race = [
-        Part::Says(Said::Race, b"race "),
-        Part::Number(course.number as u64),
-        Part::Says(Said::Line, b", line "),
-        Part::Number(course.line),
-        Part::Words(b": "),
-    ];
-    push_parts(&race, parts)?;
-    push_ending(course.ended, parts)
-}
 
 /// Of what a row is.
 pub(crate) fn label(what: What) -> Part<Said>
