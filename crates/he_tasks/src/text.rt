@@ -139,7 +139,7 @@ fn run_task<R: TaskSystem, I: InputStream, O: OutputStream, F>(
     match text.texts.task {
         Task::Write { content, workers } => {
             let asked = TextRequest {
-                content: content_of(content),
+                content: content_of(session.place, content),
                 changes: text.texts.changes,
                 file: file_of(text.name),
             };
