@@ -1,10 +1,9 @@
 // The exported functions that write what an input comes to.
 
 ghost use Rattle.std.specs.Prelude.{◌≡◌, ◌≢◌};
-ghost use Rattle.he_course.specs.Course.{IsExplanation};
 ghost use Rattle.he_c.specs.Answers.{LeavesNothing};
 ghost use Rattle.he_c.specs.Checks.{LeavesCheck};
-ghost use Rattle.he_c.specs.Outputs.{IsOrderText, IsTextOf, IsTranscriptText, LeavesOutput};
+ghost use Rattle.he_c.specs.Outputs.{IsExplanationText, IsOrderText, IsTextOf, IsTranscriptText, LeavesOutput};
 ghost use Rattle.he_c.specs.declared.codes.TheConstants.{NO_MEMORY};
 
 use crate::answer::{CallDetails, NOTHING, leave};
@@ -41,7 +40,7 @@ pub extern "C" fn he_order(
     tell(alloc, text, Content::Order, room, told)
 }
 
-/// Writes why the races of the text went as they did, up to its first fault.
+/// Writes why the races of the text went as they did, as a JSON object each, up to its first fault.
 #[unsafe(no_mangle)]
 pub extern "C" fn he_explain(
     alloc: Global,
@@ -49,7 +48,7 @@ pub extern "C" fn he_explain(
     room: &mut [u8],
     told: &mut CallDetails,
 ) -> u32
-    ensures left { result ≢ NO_MEMORY → LeavesOutput IsExplanation text.now room.old room.new told.new result }
+    ensures left { result ≢ NO_MEMORY → LeavesOutput IsExplanationText text.now room.old room.new told.new result }
     ensures memory { result ≡ NO_MEMORY → LeavesNothing room.old room.new told.new }
 {
     tell(alloc, text, Content::Explanation, room, told)

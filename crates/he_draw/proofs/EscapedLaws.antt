@@ -6,7 +6,7 @@ use Rattle.std.specs.List.{flat_map, list_all}
 use Rattle.std.proofs.lemmas.Bool.{and_parts}
 use Rattle.std.proofs.lemmas.Bool.Decides.{nat_tests}
 use Rattle.std.proofs.lemmas.List.Folds.{list_all-append}
-use Rattle.he_draw.specs.Escaping.{escaped, is_plain}
+use Rattle.he_draw.specs.Page.{escaped, is_plain}
 
 plain_is_no_tag : (b : ℕ) → is_plain b ≡ true → list_all (λ byte. not (byte == 60)) (b ∷ []) ≡ true
 plain_is_no_tag b plain = grind (arith, nat_tests)

@@ -1,1 +1,2 @@
 mod EscapedLaws
+mod TextLaws

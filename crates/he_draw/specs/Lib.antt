@@ -1,5 +1,3 @@
-pub mod Escaping
-pub mod Facts
 pub mod Page
 pub mod Picture
 pub mod Rows

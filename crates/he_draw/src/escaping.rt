@@ -2,7 +2,7 @@
 
 ghost use Rattle.std.specs.Prelude.{◌≡◌, ◌++◌, OnOk};
 ghost use Rattle.std.specs.List.{flat_map, list_all};
-ghost use Rattle.he_draw.specs.Escaping.{NamesAreNoTags, escaped, is_plain};
+ghost use Rattle.he_draw.specs.Page.{NamesAreNoTags, escaped, is_plain};
 
 use he_addr::Memory;
 use std::alloc::Allocator;

@@ -3,19 +3,19 @@
 ghost use Rattle.std.specs.Prelude.{◌≡◌, ◌≤◌, ◌-◌, IfOk};
 ghost use Rattle.he_draw.specs.Picture.{column};
 
-use crate::look::Look;
+use crate::look::{Look, Signs, signs_of};
 use crate::rows::Row;
-use crate::words::{label, push_words};
+use crate::words::{label as label_of, push_words};
 use he_addr::Memory;
 use he_print::{Part, write_parts};
 use he_story::Said;
 use std::alloc::Allocator;
 
-/// What all rows of a picture have in common: their look, how wide their labels are, how many columns the time has, and
-/// the tick at the right edge.
+/// What all rows of a picture have in common: their signs, how wide their labels are, how many columns the time has,
+/// and the tick at the right edge.
 #[derive(Clone, Copy)]
 pub(crate) struct Frame {
-    pub(crate) look: Look,
+    pub(crate) signs: Signs,
     pub(crate) label: usize,
     pub(crate) columns: usize,
     pub(crate) end: u64,
@@ -39,42 +39,33 @@ pub(crate) fn frame_of<A: Allocator + Copy>(
 {
     let mut labels = Vec::with_capacity(alloc, rows.len())?;
     let mut text = Vec::new(alloc);
-    let mut words = Vec::new(alloc);
-    let (mut label, mut most) = (0, 0);
+    let mut parts = Vec::new(alloc);
+    let (mut label, mut words) = (0, 0);
     for row in rows {
-        let own = label_width(*row, &mut text)?;
+        let own = width_of(&[label_of(row.what)], &mut text)?;
         labels.push(own)?;
         label = own.max(label);
-        most = words_width(*row, &mut words, &mut text)?.max(most);
+        parts.clear();
+        push_words(*row, &mut parts)?;
+        words = width_of(&parts, &mut text)?.max(words);
     }
-    let left = (width as usize)
-        .saturating_sub(label)
-        .saturating_sub(most)
-        .saturating_sub(EDGES);
+    let beside = label.saturating_add(words).saturating_add(EDGES);
     let frame = Frame {
-        look,
+        signs: signs_of(look),
         label,
-        columns: left.max(LEAST_COLUMNS),
+        columns: (width as usize).saturating_sub(beside).max(LEAST_COLUMNS),
         end,
     };
     Ok((frame, labels))
 }
 
-fn label_width<A: Allocator + Copy>(row: Row, text: &mut Vec<u8, A>) -> Result<usize, Memory> {
-    text.clear();
-    write_parts(&[label(row)], text)?;
-    Ok(text.len())
-}
-
-fn words_width<A: Allocator + Copy>(
-    row: Row,
-    words: &mut Vec<Part<Said>, A>,
+// How wide parts are, which are of ASCII.
+fn width_of<A: Allocator + Copy>(
+    parts: &[Part<Said>],
     text: &mut Vec<u8, A>,
 ) -> Result<usize, Memory> {
-    words.clear();
-    push_words(row, words)?;
     text.clear();
-    write_parts(words, text)?;
+    write_parts(parts, text)?;
     Ok(text.len())
 }
 

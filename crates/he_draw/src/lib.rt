@@ -21,9 +21,9 @@
 //!
 //! Proved, for every race: the rows are those of `specs/Rows`, both answers, the pauses that begin before the end, and
 //! each attempt once, by place. What is appended says the facts of `specs/Picture` or `specs/Svg` in this order: how the
-//! race ended, and of each row whose it is, the columns before, in and after its bar, its ticks, and what became of it
-//! (`specs/Facts`). Where memory is refused, the vector is as it was. A section has the same rows with their ticks, and
-//! totals their numbers (`specs/Page`); no byte of a name or a story is read as a tag (`specs/Escaping`).
+//! race ended, and of each row whose it is, the columns before, in and after its bar, its ticks, and what became of it.
+//! Where memory is refused, the vector is as it was. A section has the same rows with their ticks, and totals their
+//! numbers (`specs/Page`); no byte of a name or a story is read as a tag.
 //!
 //! Not proved: the words, signs and colours, that lines are as wide as the terminal, and how a viewer shows an image.
 #![tactic(auto)]
@@ -31,7 +31,6 @@
 mod drawing;
 pub mod escaping;
 mod frame;
-mod heading;
 pub mod look;
 pub mod page;
 pub mod picture;
@@ -45,7 +44,7 @@ mod words;
 pub use look::Look;
 pub use page::{write_head, write_name, write_tail};
 pub use picture::write_picture;
-pub use rows::{Row, collect_rows};
+pub use rows::{Row, What, collect_rows};
 pub use section::write_section;
 pub use svg::write_svg;
 pub use totals::{Times, Totals};

@@ -1,7 +1,7 @@
 // A page of races, for a browser.
 
 ghost use Rattle.std.specs.Prelude.{ℕ, ◌≡◌, ◌++◌, List, OnOk};
-ghost use Rattle.he_draw.specs.Facts.{Prints};
+ghost use Rattle.he_draw.specs.Picture.{Prints};
 ghost use Rattle.he_draw.specs.Page.{HasName, totals_facts};
 
 use crate::escaping::write_escaped;
@@ -71,7 +71,8 @@ pub fn write_name<A: Allocator + Copy>(name: &str, text: &mut Vec<u8, A>) -> Res
 {
     text.extend_from_slice(b"</article><article>\n<h2>")?;
     write_escaped(name.as_bytes(), text)?;
-    text.extend_from_slice(b"</h2>\n")
+    text.extend_from_slice(b"</h2>\n")?;
+    Ok(())
 }
 
 /// Appends what ends a page: the totals of its races, which stand first, and the end of their scale. After `Memory`

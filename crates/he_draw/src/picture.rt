@@ -1,21 +1,18 @@
 // The picture of a race, for a terminal.
 
 ghost use Rattle.std.specs.Prelude.{ℕ, ◌≡◌, ◌≤◌, ◌++◌, ◌∷◌, [], OnOk, OnErr, IfOk};
-ghost use Rattle.std.specs.List.{flat_map};
-ghost use Rattle.he_print.specs.Parts.{States, fact_of};
+ghost use Rattle.he_print.specs.Parts.{States};
 ghost use Rattle.he_print.specs.declared.part.Fact.TheVariants.{Number};
-ghost use Rattle.he_draw.specs.Facts.{Prints};
-ghost use Rattle.he_draw.specs.Picture.{picture_facts};
+ghost use Rattle.he_draw.specs.Picture.{Prints, picture_facts, told};
 
 use crate::drawing::{blank, push_rows};
 use crate::frame::{Frame, LEAST_COLUMNS, frame_of};
-use crate::heading::push_heading;
 use crate::look::Look;
 use crate::rows::collect_rows;
 use he_addr::Memory;
 use he_course::Course;
 use he_print::{Part, push_parts, write_parts};
-use he_story::Said;
+use he_story::{Said, heading_parts};
 use std::alloc::Allocator;
 
 /// Appends the picture of the race: a line on how it ended; a row for each answer, each pause that begins before the
@@ -49,8 +46,7 @@ fn picture<A: Allocator + Copy, B: Allocator>(
 {
     let rows = collect_rows(alloc, course)?;
     let (frame, labels) = frame_of(alloc, look, width, course.end(), &rows)?;
-    let mut parts = Vec::new(alloc);
-    push_heading(course, &mut parts)?;
+    let mut parts = heading_parts(alloc, course)?;
     push_parts(&[Part::Words(b"\n")], &mut parts)?;
     push_rows(frame, &labels, &rows, &mut parts)?;
     push_scale(frame, &mut parts)?;
@@ -64,14 +60,14 @@ const BESIDE_END: usize = 5;
 
 // The scale below the rows, and an empty line.
 fn push_scale<A: Allocator>(frame: Frame, parts: &mut Vec<Part<Said>, A>) -> Result<(), Memory>
-    ensures { OnOk result (flat_map fact_of parts.new.items ≡ flat_map fact_of parts.old.items
-        ++ Number frame.end ∷ []) }
+    ensures { OnOk result (told parts.new.items ≡ told parts.old.items ++ Number frame.end ∷ []) }
 {
+    let end = Part::Aligned(frame.columns.saturating_sub(BESIDE_END), frame.end);
     push_parts(
         &[
             blank(frame.label),
             Part::Words(b"  0 "),
-            Part::Aligned(frame.columns.saturating_sub(BESIDE_END), frame.end),
+            end,
             Part::Words(b" ms\n\n"),
         ],
         parts,

@@ -2,32 +2,39 @@
 
 ghost use Rattle.std.specs.Prelude.{◌≡◌, ◌++◌, map, IfOk, OnOk};
 ghost use Rattle.std.specs.List.{flat_map};
-ghost use Rattle.he_draw.specs.Rows.{a_row, answer_row, pause_rows, rows_of, wait_end, wait_in, waiting_row};
-ghost use Rattle.he_draw.specs.declared.rows.Row.TheVariants as kinds;
+ghost use Rattle.he_draw.specs.Rows.{a_row, answer_row, attempt_row, pause_rows, rows_of, wait_end, wait_in};
 
-use he_addr::{Family, Memory};
+use he_addr::{Family, Ip, Memory};
 use he_course::{Course, Event, EventKind, Seen};
-use he_plan::Line;
+use he_plan::{Line, Mark};
+use he_story::Said;
 use std::alloc::{AllocError, Allocator};
 
-/// What is drawn in a row of a picture. Ticks are milliseconds.
+/// A row of a picture, with the ticks from which and to which it is drawn, in milliseconds.
 #[derive(Clone, Copy, Debug, PartialEq, Eq)]
-pub enum Row {
-    /// The answer of this family is seen at this tick, with so many usable addresses.
-    Answered(Family, u64, usize),
+pub struct Row {
+    pub what: What,
+    pub from: u64,
+    pub to: u64,
+}
 
-    /// The A answer is seen at the first tick, and the client waits for the AAAA answer up to the second one. The A
-    /// answer has so many usable addresses.
-    Waits(u64, u64, usize),
+/// What is drawn in a row.
+#[derive(Clone, Copy, Debug, PartialEq, Eq)]
+pub enum What {
+    /// The answer of this family is seen, with so many usable addresses.
+    Answer(Family, usize),
+
+    /// The A answer is seen, with so many usable addresses, and the client waits for the AAAA answer.
+    Wait(usize),
 
     /// No answer of this family is seen by the end of the race.
     Missing(Family),
 
-    /// The client sees and starts nothing from the first tick up to the second one.
-    Paused(u64, u64),
+    /// The client sees and starts nothing.
+    Pause,
 
-    /// The attempt, with what became of it.
-    Tried(Line),
+    /// An attempt at this address, and what became of it.
+    Attempt(Ip, Said),
 }
 
 // That of the AAAA answer, and that of the A answer.
@@ -44,9 +51,10 @@ pub fn collect_rows<A: Allocator, B: Allocator>(
 {
     // Each pause and each attempt's start is an event.
     let most = course.events.len().saturating_add(ANSWER_ROWS);
+    let end = course.end();
     let mut rows = Vec::with_capacity(alloc, most)?;
-    rows.push(answer_row(course.end(), Family::V6, course.aaaa))?;
-    rows.push(a_row(course))?;
+    rows.push(answer_row(end, Family::V6, course.aaaa))?;
+    rows.push(a_row(end, course.aaaa, wait_in(&course.events), course.a))?;
     push_pauses(&mut rows, &course.events)?;
     push_attempts(&mut rows, course.transcript.attempts())?;
     Ok(rows)
@@ -56,27 +64,29 @@ fn answer_row(end: u64, family: Family, answer: Option<Seen>) -> Row
     ensures { result ≡ answer_row end family answer }
 {
     match answer {
-        Some(answer) if answer.tick <= end => Row::Answered(family, answer.tick, answer.usable),
-        _ => Row::Missing(family),
+        Some(answer) if answer.tick <= end => Row {
+            what: What::Answer(family, answer.usable),
+            from: answer.tick,
+            to: answer.tick,
+        },
+        _ => Row {
+            what: What::Missing(family),
+            from: 0,
+            to: 0,
+        },
     }
 }
 
-fn a_row<A: Allocator>(course: &Course<A>) -> Row
-    ensures { result ≡ a_row course.now }
+fn a_row(end: u64, aaaa: Option<Seen>, until: Option<u64>, a: Option<Seen>) -> Row
+    ensures { result ≡ a_row end aaaa until a }
 {
-    let end = course.end();
-    let row = answer_row(end, Family::V4, course.a);
-    waiting_row(course.aaaa, end, wait_in(&course.events), row)
-}
-
-fn waiting_row(aaaa: Option<Seen>, end: u64, until: Option<u64>, row: Row) -> Row
-    ensures { result ≡ waiting_row aaaa end until row }
-{
-    match (until, row) {
-        (Some(until), Row::Answered(_, tick, usable)) => {
-            Row::Waits(tick, wait_end(aaaa, until.min(end)), usable)
-        }
-        _ => row,
+    match (until, a) {
+        (Some(until), Some(a)) => Row {
+            what: What::Wait(a.usable),
+            from: a.tick,
+            to: wait_end(aaaa, until.min(end)),
+        },
+        _ => answer_row(end, Family::V4, a),
     }
 }
 
@@ -106,18 +116,34 @@ fn push_pauses<A: Allocator>(rows: &mut Vec<Row, A>, events: &[Event]) -> Result
         ++ flat_map (λ event. pause_rows event.tick event.kind) events.now) }
 {
     for event in events {
-        if let EventKind::Paused(until) = event.kind {
-            rows.push(Row::Paused(event.tick, until))?;
+        if let EventKind::Paused(to) = event.kind {
+            let (what, from) = (What::Pause, event.tick);
+            rows.push(Row { what, from, to })?;
         }
     }
     Ok(())
 }
 
 fn push_attempts<A: Allocator>(rows: &mut Vec<Row, A>, lines: &[Line]) -> Result<(), AllocError>
-    ensures { OnOk result (rows.new.items ≡ rows.old.items ++ map kinds.Tried lines.now) }
+    ensures { OnOk result (rows.new.items ≡ rows.old.items ++ map attempt_row lines.now) }
 {
     for line in lines {
-        rows.push(Row::Tried(*line))?;
+        rows.push(attempt_row(line))?;
     }
     Ok(())
+}
+
+fn attempt_row(line: &Line) -> Row
+    ensures { result ≡ attempt_row line.now }
+{
+    let (became, to) = match line.mark {
+        Mark::Won(tick) => (Said::Won, tick),
+        Mark::Failed(tick) => (Said::Failed, tick),
+        Mark::Cancelled(tick) => (Said::Cancelled, tick),
+    };
+    Row {
+        what: What::Attempt(line.ip, became),
+        from: line.tick,
+        to,
+    }
 }

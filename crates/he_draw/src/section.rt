@@ -1,21 +1,19 @@
 // The part of a page that a race has.
 
-ghost use Rattle.std.specs.Prelude.{◌≡◌, ◌++◌, ◌∷◌, [], OnOk};
+ghost use Rattle.std.specs.Prelude.{◌≡◌, ◌++◌, [], IfOk, OnOk};
 ghost use Rattle.std.specs.List.{flat_map};
 ghost use Rattle.he_print.specs.Parts.{fact_of};
-ghost use Rattle.he_print.specs.declared.part.Fact.TheVariants.{Number};
-ghost use Rattle.he_draw.specs.Facts.{Prints};
-ghost use Rattle.he_draw.specs.Page.{WritesSection, anchor_facts, length_facts, opening_facts, page_row_facts, section_facts, track_facts};
+ghost use Rattle.he_story.specs.Story.{Tells};
+ghost use Rattle.he_draw.specs.Picture.{Prints, told};
+ghost use Rattle.he_draw.specs.Page.{WritesSection, anchor_facts, opening_facts, page_row_facts, section_facts, track_facts};
 
 use crate::escaping::write_escaped;
-use crate::heading::push_heading;
-use crate::rows::{Row, collect_rows};
-use crate::shapes::kind_of;
-use crate::words::{became, label, push_words, stop_of_mark};
+use crate::rows::{Row, What, collect_rows};
+use crate::words::{became_word, label, push_words};
 use he_addr::Memory;
 use he_course::Course;
 use he_print::{Part, push_parts, write_parts};
-use he_story::{Said, write_story};
+use he_story::{Said, heading_parts, write_story};
 use std::alloc::Allocator;
 
 /// Appends the race to a page: its rows, with bars on one scale or on its own, and its story, folded. `file` is the
@@ -30,10 +28,21 @@ pub fn write_section<A: Allocator + Copy, B: Allocator>(
 {
     let alloc = *text.allocator();
     write_rows(alloc, course, file, text)?;
+    let story = story(alloc, course)?;
+    write_escaped(&story, text)?;
+    text.extend_from_slice(b"</pre></details></section>\n")?;
+    Ok(())
+}
+
+fn story<A: Allocator + Copy, B: Allocator>(
+    alloc: A,
+    course: &Course<B>,
+) -> Result<Vec<u8, A>, Memory>
+    ensures { IfOk result (λ story. Tells course.now [] story.items) }
+{
     let mut story = Vec::new(alloc);
     write_story(alloc, course, &mut story)?;
-    write_escaped(&story, text)?;
-    text.extend_from_slice(b"</pre></details></section>\n")
+    Ok(story)
 }
 
 // All but the story.
@@ -49,10 +58,13 @@ fn write_rows<A: Allocator + Copy, B: Allocator>(
     let rows = collect_rows(alloc, course)?;
     let mut parts = Vec::new(alloc);
     push_opening(course, file, &mut parts)?;
-    push_heading(course, &mut parts)?;
+    push_parts(&heading_parts(alloc, course)?, &mut parts)?;
     push_parts(&[Part::Words(b"</small></h3>\n")], &mut parts)?;
     push_rows(course.end(), &rows, &mut parts)?;
-    push_parts(&[Part::Words(b"<details><summary>why</summary><pre>")], &mut parts)?;
+    push_parts(
+        &[Part::Words(b"<details><summary>why</summary><pre>")],
+        &mut parts,
+    )?;
     write_parts(&parts, text)
 }
 
@@ -62,8 +74,7 @@ fn push_opening<A: Allocator, B: Allocator>(
     file: usize,
     parts: &mut Vec<Part<Said>, A>,
 ) -> Result<(), Memory>
-    ensures { OnOk result (flat_map fact_of parts.new.items ≡ flat_map fact_of parts.old.items
-        ++ opening_facts course.now file) }
+    ensures { OnOk result (told parts.new.items ≡ told parts.old.items ++ opening_facts course.now file) }
 {
     let number = course.number;
     let end = Part::Number(course.end());
@@ -72,7 +83,10 @@ fn push_opening<A: Allocator, B: Allocator>(
     push_anchor(b"</a><section id='race-", file, number, parts)?;
     push_parts(&[Part::Words(b"' style='--t:"), end], parts)?;
     push_anchor(b"'><h3><a href='#race-", file, number, parts)?;
-    push_parts(&[Part::Words(b"'>"), end, Part::Words(b" ms</a> <small>")], parts)
+    push_parts(
+        &[Part::Words(b"'>"), end, Part::Words(b" ms</a> <small>")],
+        parts,
+    )
 }
 
 // The name of a section, after the words before it.
@@ -82,8 +96,7 @@ fn push_anchor<A: Allocator>(
     number: usize,
     parts: &mut Vec<Part<Said>, A>,
 ) -> Result<(), Memory>
-    ensures { OnOk result (flat_map fact_of parts.new.items ≡ flat_map fact_of parts.old.items
-        ++ anchor_facts file number) }
+    ensures { OnOk result (told parts.new.items ≡ told parts.old.items ++ anchor_facts file number) }
 {
     push_parts(&[Part::Words(before), Part::Number(number as u64)], parts)?;
     if file == 0 {
@@ -97,8 +110,7 @@ fn push_rows<A: Allocator>(
     rows: &[Row],
     parts: &mut Vec<Part<Said>, A>,
 ) -> Result<(), Memory>
-    ensures { OnOk result (flat_map fact_of parts.new.items ≡ flat_map fact_of parts.old.items
-        ++ flat_map (page_row_facts end) rows.now) }
+    ensures { OnOk result (told parts.new.items ≡ told parts.old.items ++ flat_map (page_row_facts end) rows.now) }
 {
     for row in rows {
         push_row(end, *row, parts)?;
@@ -107,78 +119,67 @@ fn push_rows<A: Allocator>(
 }
 
 // Label, bars and words of a row.
-fn push_row<A: Allocator>(
-    end: u64,
-    row: Row,
-    parts: &mut Vec<Part<Said>, A>,
-) -> Result<(), Memory>
-    ensures { OnOk result (flat_map fact_of parts.new.items ≡ flat_map fact_of parts.old.items
-        ++ page_row_facts end row) }
+fn push_row<A: Allocator>(end: u64, row: Row, parts: &mut Vec<Part<Said>, A>) -> Result<(), Memory>
+    ensures { OnOk result (told parts.new.items ≡ told parts.old.items ++ page_row_facts end row) }
 {
-    push_parts(&[Part::Words(b"<div><span>"), label(row), Part::Words(b"</span><p>")], parts)?;
+    push_parts(
+        &[
+            Part::Words(b"<div><span>"),
+            label(row.what),
+            Part::Words(b"</span><p>"),
+        ],
+        parts,
+    )?;
     push_track(end, row, parts)?;
     push_parts(&[Part::Words(b"</p><small>")], parts)?;
     push_words(row, parts)?;
     push_parts(&[Part::Words(b"</small></div>\n")], parts)
 }
 
+// The bars of a row: where an answer is seen, and what lasts up to a tick, or to the end of the race.
 fn push_track<A: Allocator>(
     end: u64,
     row: Row,
     parts: &mut Vec<Part<Said>, A>,
 ) -> Result<(), Memory>
-    ensures { OnOk result (flat_map fact_of parts.new.items ≡ flat_map fact_of parts.old.items ++ track_facts end row) }
+    ensures { OnOk result (told parts.new.items ≡ told parts.old.items
+        ++ track_facts end row.from row.to row.what) }
 {
-    match row {
-        Row::Answered(_, tick, _) => push_dot(tick, parts),
-        Row::Waits(from, to, _) => {
-            push_length(Part::Words(b"wait"), end, from, to, parts)?;
-            push_dot(from, parts)
+    let from = Part::Number(row.from);
+    let length = Part::Number(row.to.min(end).saturating_sub(row.from));
+    let dot = [
+        Part::Words(b"<i class='dot' style='--s:"),
+        from,
+        Part::Words(CLOSING),
+    ];
+    match row.what {
+        What::Answer(_, _) => push_parts(&dot, parts),
+        What::Wait(_) => {
+            push_parts(&bar(Part::Words(b"wait"), from, length), parts)?;
+            push_parts(&dot, parts)
         }
-        Row::Missing(_) => Ok(()),
-        Row::Paused(from, to) => push_length(Part::Words(b"pause"), end, from, to, parts),
-        Row::Tried(line) => {
-            let kind = Part::Says(became(line.mark), kind_of(line.mark));
-            push_length(kind, end, line.tick, stop_of_mark(line.mark), parts)
+        What::Missing(_) => Ok(()),
+        What::Pause => push_parts(&bar(Part::Words(b"pause"), from, length), parts),
+        What::Attempt(_, became) => {
+            let kind = Part::Says(became, became_word(became));
+            push_parts(&bar(kind, from, length), parts)
         }
     }
 }
 
-// Where an answer is seen.
-fn push_dot<A: Allocator>(tick: u64, parts: &mut Vec<Part<Said>, A>) -> Result<(), Memory>
-    ensures { OnOk result (flat_map fact_of parts.new.items ≡ flat_map fact_of parts.old.items ++ Number tick ∷ []) }
-{
-    push_parts(
-        &[
-            Part::Words(b"<i class='dot' style='--s:"),
-            Part::Number(tick),
-            Part::Words(b"'></i>"),
-        ],
-        parts,
-    )
-}
+const CLOSING: &[u8] = b"'></i>";
 
-// A bar of a kind from a tick to another one, or to the end of the race.
-fn push_length<A: Allocator>(
-    kind: Part<Said>,
-    end: u64,
-    from: u64,
-    to: u64,
-    parts: &mut Vec<Part<Said>, A>,
-) -> Result<(), Memory>
-    ensures { OnOk result (flat_map fact_of parts.new.items ≡ flat_map fact_of parts.old.items
-        ++ (fact_of kind ++ length_facts end from to)) }
+// A bar of a kind, from a tick and so long.
+fn bar(kind: Part<Said>, from: Part<Said>, length: Part<Said>) -> [Part<Said>; 7]
+    ensures { told result ≡ fact_of kind ++ (fact_of from ++ fact_of length) }
 {
-    push_parts(
-        &[
-            Part::Words(b"<i class='"),
-            kind,
-            Part::Words(b"' style='--s:"),
-            Part::Number(from),
-            Part::Words(b";--l:"),
-            Part::Number(to.min(end).saturating_sub(from)),
-            Part::Words(b"'></i>"),
-        ],
-        parts,
-    )
+    [
+        Part::Words(b"<i class='"),
+        kind,
+        Part::Words(b"' style='--s:"),
+        from,
+        Part::Words(b";--l:"),
+        length,
+        Part::Words(CLOSING),
+    ]
 }

@@ -1,19 +1,16 @@
 // The picture of a race as an SVG image.
 
-ghost use Rattle.std.specs.Prelude.{◌≡◌, ◌++◌, ◌∷◌, [], length, IfOk, OnOk, OnErr};
-ghost use Rattle.std.specs.List.{flat_map};
-ghost use Rattle.he_print.specs.Parts.{States, fact_of};
-ghost use Rattle.he_print.specs.declared.part.Fact.TheVariants.{Number};
-ghost use Rattle.he_draw.specs.Facts.{Prints};
-ghost use Rattle.he_draw.specs.Svg.{svg_facts, top_of};
+ghost use Rattle.std.specs.Prelude.{◌≡◌, IfOk, OnOk, OnErr};
+ghost use Rattle.he_print.specs.Parts.{States};
+ghost use Rattle.he_draw.specs.Picture.{Prints};
+ghost use Rattle.he_draw.specs.Svg.{svg_facts};
 
-use crate::heading::push_heading;
 use crate::rows::collect_rows;
 use crate::shapes::{push_shapes, top_of};
 use he_addr::Memory;
 use he_course::Course;
 use he_print::{Part, push_parts, write_parts};
-use he_story::Said;
+use he_story::heading_parts;
 use std::alloc::Allocator;
 
 /// Appends the picture of the race as one SVG image: its title says how the race ended, and it has the rows of
@@ -32,17 +29,33 @@ pub fn write_svg<A: Allocator + Copy, B: Allocator>(
 
 // The image in a text of its own, so that nothing is appended of one that memory does not suffice for.
 #[tactic(auto, unfolding(crate::specs::Svg::svg_facts))]
-fn svg<A: Allocator + Copy, B: Allocator>(alloc: A, course: &Course<B>) -> Result<Vec<u8, A>, Memory>
+fn svg<A: Allocator + Copy, B: Allocator>(
+    alloc: A,
+    course: &Course<B>,
+) -> Result<Vec<u8, A>, Memory>
     ensures { IfOk result (λ text. States (svg_facts course.now) text.items) }
 {
     let rows = collect_rows(alloc, course)?;
-    let top = top_of(rows.len());
+    let top = Part::Number(top_of(rows.len()));
+    let end = Part::Number(course.end());
+    let heading = heading_parts(alloc, course)?;
     let mut parts = Vec::new(alloc);
-    push_opening(top, &mut parts)?;
-    push_heading(course, &mut parts)?;
+    push_parts(&[Part::Words(OPENING), top, Part::Words(TITLE)], &mut parts)?;
+    push_parts(&heading, &mut parts)?;
     push_parts(&[Part::Words(STYLE)], &mut parts)?;
-    push_heading(course, &mut parts)?;
-    push_edges(course.end(), top, &mut parts)?;
+    push_parts(&heading, &mut parts)?;
+    push_parts(
+        &[
+            Part::Words(EDGES),
+            top,
+            Part::Words(b"M801 48V"),
+            top,
+            Part::Words(SCALE),
+            end,
+            Part::Words(b" ms</text>\n"),
+        ],
+        &mut parts,
+    )?;
     push_shapes(course.end(), &rows, &mut parts)?;
     push_parts(&[Part::Words(b"</svg>\n")], &mut parts)?;
     let mut text = Vec::new(alloc);
@@ -50,22 +63,13 @@ fn svg<A: Allocator + Copy, B: Allocator>(alloc: A, course: &Course<B>) -> Resul
     Ok(text)
 }
 
-// What begins an image that is so high.
-fn push_opening<A: Allocator>(top: u64, parts: &mut Vec<Part<Said>, A>) -> Result<(), Memory>
-    ensures { OnOk result (flat_map fact_of parts.new.items ≡ flat_map fact_of parts.old.items ++ Number top ∷ []) }
-{
-    push_parts(
-        &[
-            Part::Words(b"<svg xmlns='http://www.w3.org/2000/svg' viewBox='-8 0 1056 "),
-            Part::Number(top),
-            Part::Words(b"' font-family='monospace' font-size='12'>\n<title>"),
-        ],
-        parts,
-    )
-}
+const OPENING: &[u8] = b"<svg xmlns='http://www.w3.org/2000/svg' viewBox='-8 0 1056 ";
+
+const TITLE: &[u8] = b"' font-family='monospace' font-size='12'>\n<title>";
 
 // The colours, in a light and in a dark scheme; a wait is dotted, a pause is hatched.
-const STYLE: &[u8] = b"</title>\n<style>\nsvg{background:#fff}\ntext{fill:#222}\ncircle{fill:#24a}\npath{stroke:#888}\n\
+const STYLE: &[u8] =
+    b"</title>\n<style>\nsvg{background:#fff}\ntext{fill:#222}\ncircle{fill:#24a}\npath{stroke:#888}\n\
 .wait{fill:url(#dots)}\n.pause{fill:url(#hatch)}\n.won{fill:#171}\n.failed{fill:#b22}\n.cancelled{fill:#999}\n\
 @media(prefers-color-scheme:dark){svg{background:#222}text{fill:#ddd}circle{fill:#8af}.won{fill:#4c4}\
 .failed{fill:#f66}}\n</style>\n\
@@ -73,25 +77,7 @@ const STYLE: &[u8] = b"</title>\n<style>\nsvg{background:#fff}\ntext{fill:#222}\
 <pattern id='hatch' width='5' height='5' patternUnits='userSpaceOnUse'><path d='M0 5L5 0'/></pattern>\n</defs>\n\
 <text y='18'>";
 
-// The two edges of the time, down to where the rows end, and their ticks.
-fn push_edges<A: Allocator>(
-    end: u64,
-    top: u64,
-    parts: &mut Vec<Part<Said>, A>,
-) -> Result<(), Memory>
-    ensures { OnOk result (flat_map fact_of parts.new.items ≡ flat_map fact_of parts.old.items
-        ++ (Number top ∷ Number top ∷ Number end ∷ [])) }
-{
-    push_parts(
-        &[
-            Part::Words(b"</text>\n<path d='M300 48V"),
-            Part::Number(top),
-            Part::Words(b"M801 48V"),
-            Part::Number(top),
-            Part::Words(b"'/>\n<text x='300' y='42'>0</text><text x='801' y='42' text-anchor='end'>"),
-            Part::Number(end),
-            Part::Words(b" ms</text>\n"),
-        ],
-        parts,
-    )
-}
+// The two edges of the time, down to where the rows end, and its ends.
+const EDGES: &[u8] = b"</text>\n<path d='M300 48V";
+
+const SCALE: &[u8] = b"'/>\n<text x='300' y='42'>0</text><text x='801' y='42' text-anchor='end'>";

@@ -56,27 +56,43 @@ pub(crate) fn push_totals<A: Allocator>(
     ensures { OnOk result (flat_map fact_of parts.new.items ≡ flat_map fact_of parts.old.items ++ totals_facts totals) }
 {
     push_parts(
-        &[
-            Part::Says(Counted::End, b"</article></main>\n<style>:root{--end:"),
-            Part::Number(totals.end),
-            Part::Says(Counted::Races, b"}</style>\n<header><h1>Races</h1><p><span><b>"),
-            Part::Number(totals.races),
-            Part::Words(b"</b> races</span>"),
-        ],
+        &number(
+            Counted::End,
+            b"</article></main>\n<style>:root{--end:",
+            totals.end,
+        ),
+        parts,
+    )?;
+    push_parts(
+        &[Part::Words(b"}</style>\n<header><h1>Races</h1><p>")],
+        parts,
+    )?;
+    push_parts(
+        &count(Counted::Races, totals.races, b"</b> races</span>"),
         parts,
     )?;
     push_times(totals.times, parts)?;
-    push_count(Counted::ByV6, totals.by_v6, b"</b> won by IPv6</span>", parts)?;
-    push_count(Counted::ByV4, totals.by_v4, b"</b> won by IPv4</span>", parts)?;
-    push_count(Counted::NotWon, totals.not_won, b"</b> not won</span>", parts)?;
     push_parts(
-        &[
-            Part::Says(Counted::End, b"</p><p class='scale'>one scale for all races: 0 to "),
-            Part::Number(totals.end),
-            Part::Words(b" ms</p></header>\n"),
-        ],
+        &count(Counted::ByV6, totals.by_v6, b"</b> won by IPv6</span>"),
         parts,
-    )
+    )?;
+    push_parts(
+        &count(Counted::ByV4, totals.by_v4, b"</b> won by IPv4</span>"),
+        parts,
+    )?;
+    push_parts(
+        &count(Counted::NotWon, totals.not_won, b"</b> not won</span>"),
+        parts,
+    )?;
+    push_parts(
+        &number(
+            Counted::End,
+            b"</p><p class='scale'>one scale for all races: 0 to ",
+            totals.end,
+        ),
+        parts,
+    )?;
+    push_parts(&[Part::Words(b" ms</p></header>\n")], parts)
 }
 
 fn push_times<A: Allocator>(
@@ -88,26 +104,32 @@ fn push_times<A: Allocator>(
     let Some(times) = times else {
         return Ok(());
     };
-    push_count(Counted::Median, times.median, b"</b> median ms</span>", parts)?;
-    push_count(Counted::P90, times.p90, b"</b> p90 ms</span>", parts)?;
-    push_count(Counted::P99, times.p99, b"</b> p99 ms</span>", parts)
-}
-
-fn push_count<A: Allocator>(
-    counted: Counted,
-    number: u64,
-    what: &'static [u8],
-    parts: &mut Vec<Part<Counted>, A>,
-) -> Result<(), Memory>
-    ensures { OnOk result (flat_map fact_of parts.new.items ≡ flat_map fact_of parts.old.items
-        ++ count_facts counted number) }
-{
     push_parts(
-        &[
-            Part::Says(counted, b"<span><b>"),
-            Part::Number(number),
-            Part::Words(what),
-        ],
+        &count(Counted::Median, times.median, b"</b> median ms</span>"),
+        parts,
+    )?;
+    push_parts(
+        &count(Counted::P90, times.p90, b"</b> p90 ms</span>"),
+        parts,
+    )?;
+    push_parts(
+        &count(Counted::P99, times.p99, b"</b> p99 ms</span>"),
         parts,
     )
+}
+
+fn count(counted: Counted, number: u64, what: &'static [u8]) -> [Part<Counted>; 3]
+    ensures { flat_map fact_of result ≡ count_facts counted number }
+{
+    [
+        Part::Says(counted, b"<span><b>"),
+        Part::Number(number),
+        Part::Words(what),
+    ]
+}
+
+fn number(counted: Counted, what: &'static [u8], number: u64) -> [Part<Counted>; 2]
+    ensures { flat_map fact_of result ≡ count_facts counted number }
+{
+    [Part::Says(counted, what), Part::Number(number)]
 }

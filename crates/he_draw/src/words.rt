@@ -1,28 +1,26 @@
-// The label of a row, at its left, and its words, at its right.
+// The words of a row.
 
 ghost use Rattle.std.specs.Prelude.{◌≡◌, ◌++◌, ◌∷◌, [], OnOk};
-ghost use Rattle.std.specs.List.{flat_map};
 ghost use Rattle.he_print.specs.Parts.{fact_of};
-ghost use Rattle.he_draw.specs.Facts.{became, label_fact, stop_of_mark, words_facts};
+ghost use Rattle.he_draw.specs.Picture.{label_fact, told, words_facts};
 
-use crate::rows::Row;
+use crate::rows::{Row, What};
 use he_addr::{Family, Memory};
-use he_plan::Mark;
 use he_print::{Part, push_parts};
 use he_story::Said;
 use std::alloc::Allocator;
 
 /// Of what a row is.
-pub(crate) fn label(row: Row) -> Part<Said>
-    ensures { fact_of result ≡ label_fact row ∷ [] }
+pub(crate) fn label(what: What) -> Part<Said>
+    ensures { fact_of result ≡ label_fact what ∷ [] }
 {
-    match row {
-        Row::Answered(family, _, _) | Row::Missing(family) => {
+    match what {
+        What::Answer(family, _) | What::Missing(family) => {
             Part::Says(Said::Answered(family), answer_words(family))
         }
-        Row::Waits(_, _, _) => Part::Says(Said::Answered(Family::V4), answer_words(Family::V4)),
-        Row::Paused(_, _) => Part::Says(Said::Paused, b"pause"),
-        Row::Tried(line) => Part::Ip(line.ip),
+        What::Wait(_) => Part::Says(Said::Answered(Family::V4), answer_words(Family::V4)),
+        What::Pause => Part::Says(Said::Paused, b"pause"),
+        What::Attempt(ip, _) => Part::Ip(ip),
     }
 }
 
@@ -33,33 +31,12 @@ fn answer_words(family: Family) -> &'static [u8] {
     }
 }
 
-/// The tick at which an attempt ended.
-pub(crate) fn stop_of_mark(mark: Mark) -> u64
-    ensures { result ≡ stop_of_mark mark }
-{
-    match mark {
-        Mark::Won(tick) => tick,
-        Mark::Failed(tick) => tick,
-        Mark::Cancelled(tick) => tick,
-    }
-}
-
-/// What became of an attempt.
-pub(crate) fn became(mark: Mark) -> Said
-    ensures { result ≡ became mark }
-{
-    match mark {
-        Mark::Won(_) => Said::Won,
-        Mark::Failed(_) => Said::Failed,
-        Mark::Cancelled(_) => Said::Cancelled,
-    }
-}
-
-fn became_words(mark: Mark) -> &'static [u8] {
-    match mark {
-        Mark::Won(_) => b" ms won",
-        Mark::Failed(_) => b" ms failed",
-        Mark::Cancelled(_) => b" ms cancelled",
+/// What became of an attempt, in one word.
+pub(crate) fn became_word(became: Said) -> &'static [u8] {
+    match became {
+        Said::Won => b"won",
+        Said::Failed => b"failed",
+        _ => b"cancelled",
     }
 }
 
@@ -68,47 +45,33 @@ pub(crate) fn push_words<A: Allocator>(
     row: Row,
     parts: &mut Vec<Part<Said>, A>,
 ) -> Result<(), Memory>
-    ensures { OnOk result (flat_map fact_of parts.new.items ≡ flat_map fact_of parts.old.items ++ words_facts row) }
+    ensures { OnOk result (told parts.new.items ≡ told parts.old.items ++ words_facts row.from row.to row.what) }
 {
-    match row {
-        Row::Answered(_, tick, usable) => push_parts(
-            &[
-                Part::Number(tick),
-                Part::Words(b" ms, "),
-                Part::Number(usable as u64),
-                Part::Says(Said::ToTry, b" usable"),
-            ],
-            parts,
-        ),
-        Row::Waits(from, to, usable) => push_parts(
-            &[
-                Part::Number(from),
-                Part::Words(b"-"),
-                Part::Number(to),
-                Part::Says(Said::Waits, b" ms wait, "),
-                Part::Number(usable as u64),
-                Part::Says(Said::ToTry, b" usable"),
-            ],
-            parts,
-        ),
-        Row::Missing(family) => push_parts(&[Part::Says(Said::NoAnswer(family), b"none by the end")], parts),
-        Row::Paused(from, to) => push_parts(
-            &[
-                Part::Number(from),
-                Part::Words(b"-"),
-                Part::Number(to),
-                Part::Words(b" ms"),
-            ],
-            parts,
-        ),
-        Row::Tried(line) => push_parts(
-            &[
-                Part::Number(line.tick),
-                Part::Words(b"-"),
-                Part::Number(stop_of_mark(line.mark)),
-                Part::Says(became(line.mark), became_words(line.mark)),
-            ],
-            parts,
-        ),
+    let from = Part::Number(row.from);
+    let to = Part::Number(row.to);
+    let between = Part::Words(b"-");
+    match row.what {
+        What::Answer(_, usable) => {
+            let usable = Part::Number(usable as u64);
+            let words = Part::Says(Said::ToTry, b" usable");
+            push_parts(&[from, Part::Words(b" ms, "), usable, words], parts)
+        }
+        What::Wait(usable) => {
+            let wait = Part::Says(Said::Waits, b" ms wait, ");
+            let usable = Part::Number(usable as u64);
+            let words = Part::Says(Said::ToTry, b" usable");
+            push_parts(&[from, between, to, wait, usable, words], parts)
+        }
+        What::Missing(family) => {
+            push_parts(
+                &[Part::Says(Said::NoAnswer(family), b"none by the end")],
+                parts,
+            )
+        }
+        What::Pause => push_parts(&[from, between, to, Part::Words(b" ms")], parts),
+        What::Attempt(_, became) => {
+            let became = Part::Says(became, became_word(became));
+            push_parts(&[from, between, to, Part::Words(b" ms "), became], parts)
+        }
     }
 }

@@ -1,20 +1,18 @@
 -- Each text is one line.
 use Rattle.std.proofs.Common.{◌≡◌, ℕ, Bool, true, false, List, [], ◌∷◌, ◌++◌, map, codes, decimal, refl, ◌∙◌, append_assoc}
 use Rattle.std.specs.Prelude.{Option, None, Some}
-use Rattle.std.specs.Borrow.{Bor}
 use Rattle.std.specs.Cmp.Derive.{both_true}
 use Rattle.std.specs.List.{list_all}
 use Rattle.std.proofs.lemmas.List.Folds.{list_all-append}
 use Rattle.he_addr.specs.declared.ip.Ip.{Ip}
 use Rattle.he_addr.specs.Printing.{printed}
 use Rattle.he_print.specs.Escaping.{StringsAreLines, string_text}
-use Rattle.he_json.specs.Documents.{beginning_text, explanation_text, file_text, order_text, transcript_text}
+use Rattle.he_json.specs.Documents.{Spot, beginning_text, explanation_text, file_text, order_text, transcript_text}
 use Rattle.he_json.specs.Json.{address_text, member_text, object_text, objects_text, parted, value_text}
 use Rattle.he_json.specs.Laws.{IsLine}
 use Rattle.he_json.specs.declared.members.Member.{Member}
 use Rattle.he_json.specs.declared.members.Value.{Value}
 use Rattle.he_json.specs.declared.members.Value.TheVariants as values
-use Rattle.he_json.specs.declared.place.Place.{Place}
 use Rattle.he_json.proofs.CharacterLaws.{decimal_stands, printed_stands, stands}
 
 abbrev Stands : List ℕ → Type 0
@@ -32,8 +30,8 @@ parted_stands f each gap between (x ∷ xs) =
     both gap (f x ++ parted (codes ",") (map f xs)) between
     (both (f x) (parted (codes ",") (map f xs)) (each x) (parted_stands f each (codes ",") refl xs))
 
-bracketed : (open text close : List ℕ) → Stands open → Stands text → Stands close → Stands (open ++ (text ++ close))
-bracketed open text close one two three = both open (text ++ close) one (both text close two three)
+bracketed : (first text last : List ℕ) → Stands first → Stands text → Stands last → Stands (first ++ (text ++ last))
+bracketed first text last one two three = both first (text ++ last) one (both text last two three)
 
 module _ (strings : StringsAreLines) where
   value_stands : (value : Value) → Stands (value_text value)
@@ -56,37 +54,40 @@ module _ (strings : StringsAreLines) where
   objects_stands : (rows : List (List Member)) → Stands (objects_text rows)
   objects_stands rows = bracketed (codes "[") (parted [] (map object_text rows)) (codes "]") refl (parted_stands object_text object_stands [] refl rows) refl
 
-  file_stands : (file : Option (Bor (List ℕ))) → Stands (file_text file)
+  file_stands : (file : Option (List ℕ)) → Stands (file_text file)
   file_stands None = refl
-  file_stands (Some name) = strings name.now
+  file_stands (Some name) = strings name
 
-  beginning_stands : (place : Place) → Stands (beginning_text place)
-  beginning_stands place =
-      bracketed (codes "{\"file\":") (file_text place.file) (codes ",\"race\":" ++ (decimal place.number ++ (codes ",\"line\":" ++ decimal place.line))) refl (file_stands place.file)
-      (bracketed (codes ",\"race\":") (decimal place.number) (codes ",\"line\":" ++ decimal place.line) refl (decimal_stands place.number)
-      (both (codes ",\"line\":") (decimal place.line) refl (decimal_stands place.line)))
+  beginning_stands : (spot : Spot) → Stands (beginning_text spot)
+  beginning_stands spot =
+      bracketed (codes "{\"file\":") (file_text spot.file) (codes ",\"race\":" ++ (decimal spot.number ++ (codes ",\"line\":" ++ decimal spot.line))) refl (file_stands spot.file)
+      (bracketed (codes ",\"race\":") (decimal spot.number) (codes ",\"line\":" ++ decimal spot.line) refl (decimal_stands spot.number)
+      (both (codes ",\"line\":") (decimal spot.line) refl (decimal_stands spot.line)))
 
-  pub order_is_line : (place : Place) (addresses : List (List Member)) → IsLine (order_text place addresses)
-  order_is_line place addresses =
-      ( beginning_text place ++ (codes ",\"order\":" ++ (objects_text addresses ++ codes "}"))
-      , simp append_assoc
-      , both (beginning_text place) (codes ",\"order\":" ++ (objects_text addresses ++ codes "}")) (beginning_stands place)
-        (bracketed (codes ",\"order\":") (objects_text addresses) (codes "}") refl (objects_stands addresses) refl) )
+  pub order_is_line : (spot : Spot) (addresses : List (List Member)) → IsLine (order_text spot addresses)
+  order_is_line spot addresses = (
+    beginning_text spot ++ (codes ",\"order\":" ++ (objects_text addresses ++ codes "}")),
+    simp append_assoc,
+    both (beginning_text spot) (codes ",\"order\":" ++ (objects_text addresses ++ codes "}")) (beginning_stands spot)
+        (bracketed (codes ",\"order\":") (objects_text addresses) (codes "}") refl (objects_stands addresses) refl),
+  )
 
-  pub transcript_is_line : (place : Place) (attempts : List (List Member)) (end : List Member) → IsLine (transcript_text place attempts end)
-  transcript_is_line place attempts end =
-      let last : List ℕ = codes ",\"result\":" ++ (object_text end ++ codes "}") in
-      ( beginning_text place ++ (codes ",\"attempts\":" ++ (objects_text attempts ++ last))
-      , simp append_assoc
-      , both (beginning_text place) (codes ",\"attempts\":" ++ (objects_text attempts ++ last)) (beginning_stands place)
-        (bracketed (codes ",\"attempts\":") (objects_text attempts) last refl (objects_stands attempts)
-        (bracketed (codes ",\"result\":") (object_text end) (codes "}") refl (object_stands end) refl)) )
+  pub transcript_is_line : (spot : Spot) (attempts : List (List Member)) (end : List Member) → IsLine (transcript_text spot attempts end)
+  transcript_is_line spot attempts end =
+      let last : List ℕ = codes ",\"result\":" ++ (object_text end ++ codes "}") in (
+        beginning_text spot ++ (codes ",\"attempts\":" ++ (objects_text attempts ++ last)),
+        simp append_assoc,
+        both (beginning_text spot) (codes ",\"attempts\":" ++ (objects_text attempts ++ last)) (beginning_stands spot)
+            (bracketed (codes ",\"attempts\":") (objects_text attempts) last refl (objects_stands attempts)
+            (bracketed (codes ",\"result\":") (object_text end) (codes "}") refl (object_stands end) refl)),
+      )
 
-  pub explanation_is_line : (place : Place) (addresses events : List (List Member)) → IsLine (explanation_text place addresses events)
-  explanation_is_line place addresses events =
-      let last : List ℕ = codes ",\"events\":" ++ (objects_text events ++ codes "}") in
-      ( beginning_text place ++ (codes ",\"order\":" ++ (objects_text addresses ++ last))
-      , simp append_assoc
-      , both (beginning_text place) (codes ",\"order\":" ++ (objects_text addresses ++ last)) (beginning_stands place)
-        (bracketed (codes ",\"order\":") (objects_text addresses) last refl (objects_stands addresses)
-        (bracketed (codes ",\"events\":") (objects_text events) (codes "}") refl (objects_stands events) refl)) )
+  pub explanation_is_line : (spot : Spot) (addresses events : List (List Member)) → IsLine (explanation_text spot addresses events)
+  explanation_is_line spot addresses events =
+      let last : List ℕ = codes ",\"events\":" ++ (objects_text events ++ codes "}") in (
+        beginning_text spot ++ (codes ",\"order\":" ++ (objects_text addresses ++ last)),
+        simp append_assoc,
+        both (beginning_text spot) (codes ",\"order\":" ++ (objects_text addresses ++ last)) (beginning_stands spot)
+            (bracketed (codes ",\"order\":") (objects_text addresses) last refl (objects_stands addresses)
+            (bracketed (codes ",\"events\":") (objects_text events) (codes "}") refl (objects_stands events) refl)),
+      )

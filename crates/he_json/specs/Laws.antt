@@ -4,24 +4,23 @@ use Rattle.std.specs.List.{list_all}
 use Rattle.he_addr.specs.declared.ip.Ip.{Ip}
 use Rattle.he_addr.specs.Printing.{printed}
 use Rattle.he_print.specs.Escaping.{is_control, is_plain}
-use Rattle.he_json.specs.Documents.{explanation_text, order_text, transcript_text}
+use Rattle.he_json.specs.Documents.{Spot, explanation_text, order_text, transcript_text}
 use Rattle.he_json.specs.declared.members.Member.{Member}
-use Rattle.he_json.specs.declared.place.Place.{Place}
 
 -- a line: characters that are no control characters, and a line end
 abbrev pub IsLine : List ℕ → Type 0
 IsLine text = (line : List ℕ) × (text ≡ line ++ 10 ∷ []) × IsTrue (list_all (λ byte. not (is_control byte)) line)
 
 abbrev pub TranscriptsAreLines : Type 0
-TranscriptsAreLines = (place : Place) (attempts : List (List Member)) (end : List Member)
-    → IsLine (transcript_text place attempts end)
+TranscriptsAreLines = (spot : Spot) (attempts : List (List Member)) (end : List Member)
+    → IsLine (transcript_text spot attempts end)
 
 abbrev pub OrdersAreLines : Type 0
-OrdersAreLines = (place : Place) (addresses : List (List Member)) → IsLine (order_text place addresses)
+OrdersAreLines = (spot : Spot) (addresses : List (List Member)) → IsLine (order_text spot addresses)
 
 abbrev pub ExplanationsAreLines : Type 0
-ExplanationsAreLines = (place : Place) (addresses events : List (List Member))
-    → IsLine (explanation_text place addresses events)
+ExplanationsAreLines = (spot : Spot) (addresses events : List (List Member))
+    → IsLine (explanation_text spot addresses events)
 
 -- no character of an address needs an escape in a string
 abbrev pub AddressesArePlain : Type 0

@@ -1,7 +1,7 @@
 //! The objects of a race.
 
 ghost use Rattle.std.specs.Prelude.{◌≡◌, ◌++◌, map, IfOk, OnErr, OnOk};
-ghost use Rattle.he_json.specs.Documents.{Appends, IsExplanationJson, IsOrderJson, IsTranscriptJson, beginning_text, explanation_text, file_text, order_text, transcript_text};
+ghost use Rattle.he_json.specs.Documents.{Appends, IsExplanationJson, IsOrderJson, IsTranscriptJson, beginning_text, explanation_text, file_text, name_of, order_text, spot_of, transcript_text};
 
 use crate::attempts::{attempt_rows, result_row};
 use crate::events::event_rows;
@@ -15,11 +15,8 @@ use he_print::write_string;
 use he_select::DestinationAttributes;
 use std::alloc::Allocator;
 
-fn write_file<A: Allocator + Copy>(
-    file: Option<&str>,
-    text: &mut Vec<u8, A>,
-) -> Result<(), Memory>
-    ensures { OnOk result (text.new.items ≡ text.old.items ++ file_text file.entry) }
+fn write_file<A: Allocator + Copy>(file: Option<&str>, text: &mut Vec<u8, A>) -> Result<(), Memory>
+    ensures { OnOk result (text.new.items ≡ text.old.items ++ file_text (name_of file.entry)) }
 {
     match file {
         Some(name) => write_string(name.as_bytes(), text),
@@ -32,7 +29,7 @@ fn write_beginning<A: Allocator + Copy>(
     place: Place<'_>,
     text: &mut Vec<u8, A>,
 ) -> Result<(), Memory>
-    ensures { OnOk result (text.new.items ≡ text.old.items ++ beginning_text place.entry) }
+    ensures { OnOk result (text.new.items ≡ text.old.items ++ beginning_text (spot_of place.entry)) }
 {
     write_words(b"{\"file\":", text)?;
     write_file(place.file, text)?;
@@ -48,7 +45,7 @@ fn write_transcript<A: Allocator + Copy>(
     end: &[Member],
     text: &mut Vec<u8, A>,
 ) -> Result<(), Memory>
-    ensures { OnOk result (text.new.items ≡ text.old.items ++ transcript_text place.entry
+    ensures { OnOk result (text.new.items ≡ text.old.items ++ transcript_text (spot_of place.entry)
         (map (λ row. row.items) attempts.now) end.now) }
 {
     write_beginning(place, text)?;
@@ -64,7 +61,7 @@ fn write_order<A: Allocator + Copy>(
     addresses: &[Vec<Member, A>],
     text: &mut Vec<u8, A>,
 ) -> Result<(), Memory>
-    ensures { OnOk result (text.new.items ≡ text.old.items ++ order_text place.entry
+    ensures { OnOk result (text.new.items ≡ text.old.items ++ order_text (spot_of place.entry)
         (map (λ row. row.items) addresses.now)) }
 {
     write_beginning(place, text)?;
@@ -79,7 +76,7 @@ fn write_explanation<A: Allocator + Copy>(
     events: &[Vec<Member, A>],
     text: &mut Vec<u8, A>,
 ) -> Result<(), Memory>
-    ensures { OnOk result (text.new.items ≡ text.old.items ++ explanation_text place.entry
+    ensures { OnOk result (text.new.items ≡ text.old.items ++ explanation_text (spot_of place.entry)
         (map (λ row. row.items) addresses.now) (map (λ row. row.items) events.now)) }
 {
     write_beginning(place, text)?;
@@ -97,7 +94,7 @@ fn transcript_of<A: Allocator + Copy>(
     lines: &[Line],
     ending: Outcome3,
 ) -> Result<Vec<u8, A>, Memory>
-    ensures { IfOk result (λ text. IsTranscriptJson place.entry (record { lines = lines.now; result = ending })
+    ensures { IfOk result (λ text. IsTranscriptJson (spot_of place.entry) (record { lines = lines.now; result = ending })
         text.items) }
 {
     let attempts = attempt_rows(alloc, lines)?;
@@ -112,7 +109,7 @@ fn order_of<A: Allocator + Copy>(
     place: Place<'_>,
     sorted: &[DestinationAttributes],
 ) -> Result<Vec<u8, A>, Memory>
-    ensures { IfOk result (λ text. IsOrderJson place.entry sorted.now text.items) }
+    ensures { IfOk result (λ text. IsOrderJson (spot_of place.entry) sorted.now text.items) }
 {
     let addresses = place_rows(alloc, sorted)?;
     let mut text = Vec::new(alloc);
@@ -126,7 +123,7 @@ fn explanation_of<A: Allocator + Copy>(
     addresses: &[Preferred],
     events: &[Event],
 ) -> Result<Vec<u8, A>, Memory>
-    ensures { IfOk result (λ text. IsExplanationJson place.entry addresses.now events.now text.items) }
+    ensures { IfOk result (λ text. IsExplanationJson (spot_of place.entry) addresses.now events.now text.items) }
 {
     let addresses = preferred_rows(alloc, addresses)?;
     let events = event_rows(alloc, events)?;
@@ -154,7 +151,7 @@ pub fn write_transcript_json<A: Allocator + Copy, B: Allocator, T: Allocator>(
     transcript: &Transcript<B>,
     out: &mut Vec<u8, T>,
 ) -> Result<(), Memory>
-    ensures ok { OnOk result (Appends (IsTranscriptJson place.entry transcript.now) out.old.items out.new.items) }
+    ensures ok { OnOk result (Appends (IsTranscriptJson (spot_of place.entry) transcript.now) out.old.items out.new.items) }
     ensures err { OnErr result (out.new.items ≡ out.old.items) }
 {
     let text = transcript_of(alloc, place, transcript.attempts(), transcript.result())?;
@@ -178,7 +175,7 @@ pub fn write_order_json<A: Allocator + Copy, T: Allocator>(
     sorted: &[DestinationAttributes],
     out: &mut Vec<u8, T>,
 ) -> Result<(), Memory>
-    ensures ok { OnOk result (Appends (IsOrderJson place.entry sorted.now) out.old.items out.new.items) }
+    ensures ok { OnOk result (Appends (IsOrderJson (spot_of place.entry) sorted.now) out.old.items out.new.items) }
     ensures err { OnErr result (out.new.items ≡ out.old.items) }
 {
     let text = order_of(alloc, place, sorted)?;
@@ -225,7 +222,7 @@ pub fn write_explanation_json<A: Allocator + Copy, B: Allocator, T: Allocator>(
     out: &mut Vec<u8, T>,
 ) -> Result<(), Memory>
     ensures ok { OnOk result (Appends (IsExplanationJson
-        (record { file = file.entry; number = course.now.number; line = course.now.line })
+        (record { file = name_of file.entry; number = course.now.number; line = course.now.line })
         course.now.addresses.items course.now.events.items) out.old.items out.new.items) }
     ensures err { OnErr result (out.new.items ≡ out.old.items) }
 {

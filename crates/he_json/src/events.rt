@@ -130,7 +130,10 @@ fn push_cause<A: Allocator>(cause: Cause, row: &mut Vec<Member, A>) -> Result<()
     ensures { OnOk result (flat_map fact_of row.new.items ≡ flat_map fact_of row.old.items ++ cause_facts cause) }
 {
     let words = cause_words(cause);
-    push(&[Member(b"cause", Value::Says(Said::Cause(cause), words))], row)?;
+    push(
+        &[Member(b"cause", Value::Says(Said::Cause(cause), words))],
+        row,
+    )?;
     match cause {
         Cause::AttemptDelay(place, delay) | Cause::Floor(place, delay) => {
             push_delay(delay, place, row)
@@ -180,7 +183,10 @@ fn push_listed<A: Allocator>(
         Member(b"held", Value::Truth(held)),
         Member(b"listed", Value::Number(listed.place as u64)),
         Member(b"of", Value::Number(listed.count as u64)),
-        Member(b"turn", Value::Says(Said::Turn(listed.turn), turn_words(listed.turn))),
+        Member(
+            b"turn",
+            Value::Says(Said::Turn(listed.turn), turn_words(listed.turn)),
+        ),
     ];
     push(&members, row)
 }

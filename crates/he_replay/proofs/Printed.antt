@@ -1,7 +1,6 @@
 -- A text is told of a race's course, whichever allocator the course has.
 use Rattle.std.proofs.Common.{ℕ, ◌≡◌, ◌++◌, List, Result, Ok, Err, OnOk, refl}
 use Rattle.std.specs.Prelude.{Option}
-use Rattle.std.specs.Borrow.{Bor}
 use Rattle.std.specs.declared.vec.Vec.{Vec}
 use Rattle.he_timeline.specs.Race.{Race}
 use Rattle.he_course.specs.Course.{IsCourse}
@@ -10,7 +9,7 @@ use Rattle.he_draw.specs.Page.{section_facts}
 use Rattle.he_draw.specs.Picture.{picture_facts}
 use Rattle.he_draw.specs.Rows.{rows_of}
 use Rattle.he_draw.specs.Svg.{svg_facts}
-use Rattle.he_json.specs.declared.place.Place.{Place}
+use Rattle.he_json.specs.Documents.{Spot}
 use Rattle.he_replay.specs.Output.{IsOfCourse, IsPrinted}
 use Rattle.he_replay.specs.Rounds.{WritesText}
 use Rattle.he_replay.specs.declared.race_texts.Printer.{Printer}
@@ -51,13 +50,13 @@ is_course race number line course is = record {
   events = is.events;
 }
 
-is_printed : {A : Type 0} (printer : Printer) (file : Option (Bor (List ℕ))) (course : Course A) (text : List ℕ) → IsPrinted printer file course text → IsPrinted printer file (bare course) text
+is_printed : {A : Type 0} (printer : Printer) (file : Option (List ℕ)) (course : Course A) (text : List ℕ) → IsPrinted printer file course text → IsPrinted printer file (bare course) text
 unfolding bare bare_items picture_facts svg_facts section_facts rows_of
 is_printed printers.Story file course text is = is
 is_printed printers.Json file course text is = is
 is_printed (printers.Picture look width) file course text is = is
 is_printed printers.Image file course text is = is
-is_printed printers.Section file course text is = record {
+is_printed (printers.Section place) file course text is = record {
   picture = is.picture;
   story = is.story;
   last = is.last;
@@ -66,9 +65,9 @@ is_printed printers.Section file course text is = record {
   parts = is.parts;
 }
 
-pub of_course : {A F E : Type 0} (result : Result F E) (printer : Printer) (place : Place) (race : Race) (course : Course A) (old new : List ℕ)
-    → IsCourse race place.number place.line course → OnOk result (WritesText (IsPrinted printer place.file course) old new)
-    → OnOk result (WritesText (λ told. IsOfCourse printer place told race) old new)
-of_course (Ok done) printer place race course old new is told =
-    record { told = told.told; is_told = (bare course, is_course race place.number place.line course is, is_printed printer place.file course told.told told.is_told); appended = told.appended }
-of_course (Err fault) printer place race course old new is told = tt
+pub of_course : {A F E : Type 0} (result : Result F E) (printer : Printer) (spot : Spot) (race : Race) (course : Course A) (old new : List ℕ)
+    → IsCourse race spot.number spot.line course → OnOk result (WritesText (IsPrinted printer spot.file course) old new)
+    → OnOk result (WritesText (λ told. IsOfCourse printer spot told race) old new)
+of_course (Ok done) printer spot race course old new is told =
+    record { told = told.told; is_told = (bare course, is_course race spot.number spot.line course is, is_printed printer spot.file course told.told told.is_told); appended = told.appended }
+of_course (Err fault) printer spot race course old new is told = tt

@@ -1,6 +1,5 @@
 -- What is written for an input.
 use Rattle.std.specs.Prelude.{ℕ, ◌≡◌, ◌≤◌, ◌+◌, ◌++◌, Bool, true, false, List, [], ◌∷◌, Option}
-use Rattle.std.specs.Borrow.{Bor}
 use Rattle.he_timeline.specs.Changes.{ChangeValues, changed}
 use Rattle.he_timeline.specs.Race.{Race}
 use Rattle.he_plan.specs.Transcript.{IsTranscript, Report}
@@ -18,8 +17,7 @@ use Rattle.he_draw.specs.Page.{IsSection}
 use Rattle.he_draw.specs.Picture.{picture_facts}
 use Rattle.he_draw.specs.Svg.{svg_facts}
 use Rattle.he_draw.specs.declared.frame.TheConstants.{LEAST_COLUMNS}
-use Rattle.he_json.specs.Documents.{IsExplanationJson, IsOrderJson, IsTranscriptJson}
-use Rattle.he_json.specs.declared.place.Place.{Place}
+use Rattle.he_json.specs.Documents.{IsExplanationJson, IsOrderJson, IsTranscriptJson, Spot}
 use Rattle.he_replay.specs.declared.race_texts.Content.{Content}
 use Rattle.he_replay.specs.declared.race_texts.Content.TheVariants as contents
 use Rattle.he_replay.specs.declared.race_texts.Printer.{Printer}
@@ -34,7 +32,7 @@ abbrev pub IsOrderText : List ℕ → Race → Type 0
 IsOrderText text race = text ≡ order_text race
 
 -- what a printer says of a course, whose text comes from a file of this name, if it has one
-abbrev pub IsPrinted : {A : Type 0} → Printer → Option (Bor (List ℕ)) → Course A → List ℕ → Type 0
+abbrev pub IsPrinted : {A : Type 0} → Printer → Option (List ℕ) → Course A → List ℕ → Type 0
 IsPrinted printers.Story file course text = Tells course [] text
 IsPrinted printers.Json file course text =
     IsExplanationJson (record { file = file; number = course.number; line = course.line }) course.addresses.items
@@ -42,23 +40,21 @@ IsPrinted printers.Json file course text =
 IsPrinted (printers.Picture look width) file course text =
     (columns : ℕ) × (LEAST_COLUMNS ≤ columns) × States (picture_facts columns course) text
 IsPrinted printers.Image file course text = States (svg_facts course) text
-IsPrinted printers.Section file course text = IsSection course text
+IsPrinted (printers.Section place) file course text = IsSection course place text
 
 -- so it is of the race's course
-abbrev pub IsOfCourse : Printer → Place → List ℕ → Race → Type 0
-IsOfCourse printer place text race =
-    (course : Course (Unit {0})) × IsCourse race place.number place.line course
-    × IsPrinted printer place.file course text
+abbrev pub IsOfCourse : Printer → Spot → List ℕ → Race → Type 0
+IsOfCourse printer spot text race =
+    (course : Course (Unit {0})) × IsCourse race spot.number spot.line course × IsPrinted printer spot.file course text
 
--- the text of what is asked for of the race at this place
-abbrev pub IsTextOf : Content → Place → List ℕ → Race → Type 0
-IsTextOf contents.Transcript place text race = IsTranscriptText text race
-IsTextOf contents.TranscriptJson place text race =
-    (report : Report) × IsTranscript race report × IsTranscriptJson place report text
-IsTextOf contents.Order place text race = IsOrderText text race
-IsTextOf contents.OrderJson place text race =
-    IsOrderJson place (all_attributes_of race) text
-IsTextOf (contents.Course printer) place text race = IsOfCourse printer place text race
+-- the text of what is asked for of the race that stands here
+abbrev pub IsTextOf : Content → Spot → List ℕ → Race → Type 0
+IsTextOf contents.Transcript spot text race = IsTranscriptText text race
+IsTextOf contents.TranscriptJson spot text race =
+    (report : Report) × IsTranscript race report × IsTranscriptJson spot report text
+IsTextOf contents.Order spot text race = IsOrderText text race
+IsTextOf contents.OrderJson spot text race = IsOrderJson spot (all_attributes_of race) text
+IsTextOf (contents.Course printer) spot text race = IsOfCourse printer spot text race
 
 -- whether that has the race's place in the input
 abbrev pub has_place : Content → Bool
@@ -67,7 +63,7 @@ has_place contents.Order = false
 has_place _ = true
 
 -- the same of the race of this number in the file, which begins at this line, with these changes of its settings
-abbrev pub IsTextWith : Content → ChangeValues → Option (Bor (List ℕ)) → ℕ → ℕ → List ℕ → Race → Type 0
+abbrev pub IsTextWith : Content → ChangeValues → Option (List ℕ) → ℕ → ℕ → List ℕ → Race → Type 0
 IsTextWith content changes file number line text race =
     IsTextOf content (record { file = file; number = number; line = line }) text (changed changes race)
 

@@ -1,6 +1,5 @@
 -- What is taken from an input of races and put into an output.
 use Rattle.std.specs.Prelude.{ℕ, ◌≡◌, ◌≤◌, ◌⊎◌, ◌++◌, Bool, List, Option, None, Some, Result, Ok, Err, length}
-use Rattle.std.specs.Borrow.{Bor}
 use Rattle.he_timeline.specs.Changes.{ChangeValues}
 use Rattle.he_timeline.specs.Race.{Race}
 use Rattle.he_pool.specs.declared.limits.TheConstants.{LEAST_WORKERS, MOST_WORKERS}
@@ -71,6 +70,6 @@ abbrev pub HasWorkers : ℕ → Type 0
 HasWorkers workers = (LEAST_WORKERS ≤ workers) × (workers ≤ MOST_WORKERS)
 
 -- what is asked for of the races of an input of this name, if it has one, each with the changes of its settings
-abbrev pub Replays : Content → ChangeValues → Option (Bor (List ℕ)) → (List ℕ → Bool → Type 0) → (List ℕ → Type 0) → (List ℕ → Type 0)
+abbrev pub Replays : Content → ChangeValues → Option (List ℕ) → (List ℕ → Bool → Type 0) → (List ℕ → Type 0) → (List ℕ → Type 0)
     → (List ℕ → Type 0) → (List ℕ → Type 0) → Result (Unit {0}) StreamFault → Type 0
 Replays content changes file = Streams (IsTextWith content changes file)

@@ -39,5 +39,5 @@ mod sharing;
 mod streaming;
 
 pub use he_pool::{Gate, NoGate, batch_jobs, replay_batch};
-pub use race_texts::{Content, TextRequest};
+pub use race_texts::{Content, Printer, TextRequest};
 pub use replaying::replay;

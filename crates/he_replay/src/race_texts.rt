@@ -1,6 +1,7 @@
 //! What is written of a race, and its text: the table of printers.
 ghost use Rattle.std.specs.Prelude.{◌≡◌, ◌++◌, None, OnOk};
 ghost use Rattle.he_write.specs.Written.{transcript_text};
+ghost use Rattle.he_json.specs.Documents.{name_of, spot_of};
 ghost use Rattle.he_replay.specs.Output.{IsPrinted, IsTextOf, IsTranscriptText, has_place};
 ghost use Rattle.he_replay.specs.Rounds.{IsAsked, WritesText};
 
@@ -41,8 +42,8 @@ pub enum Printer {
     Picture { look: Look, width: u16 },
     /// The same as an SVG image ([`write_svg`]).
     Image,
-    /// A part of a page ([`write_section`]).
-    Section,
+    /// A part of a page, of the text of this place among those of the page ([`write_section`]).
+    Section { text: usize },
 }
 
 impl Content {
@@ -113,7 +114,7 @@ fn append<A: Allocator + Copy, T: Allocator + Copy>(
     place: Place<'_>,
     text: &mut Vec<u8, T>,
 ) -> Result<(), AllocError>
-    ensures { OnOk result (WritesText (λ told. IsTextOf content place.entry told timeline.now) text.old.items
+    ensures { OnOk result (WritesText (λ told. IsTextOf content (spot_of place.entry) told timeline.now) text.old.items
         text.new.items) }
 {
     match content {
@@ -150,7 +151,7 @@ fn append_own<A: Allocator + Copy, T: Allocator + Copy>(
     place: Place<'_>,
     text: &mut Vec<u8, T>,
 ) -> Result<(), AllocError>
-    ensures { OnOk result (WritesText (λ told. IsTextOf content place.entry told timeline.now) text.old.items
+    ensures { OnOk result (WritesText (λ told. IsTextOf content (spot_of place.entry) told timeline.now) text.old.items
         text.new.items) }
 {
     let mut own = Vec::with_capacity(alloc, TEXT_ROOM)?;
@@ -158,6 +159,7 @@ fn append_own<A: Allocator + Copy, T: Allocator + Copy>(
     text.extend_from_slice(&own)
 }
 
+#[tactic(auto, unfolding(he_course::specs::Addresses::all_attributes_of))]
 fn write<A: Allocator + Copy>(
     content: Content,
     alloc: A,
@@ -165,7 +167,7 @@ fn write<A: Allocator + Copy>(
     place: Place<'_>,
     text: &mut Vec<u8, A>,
 ) -> Result<(), Memory>
-    ensures { OnOk result (WritesText (λ told. IsTextOf content place.entry told timeline.now) text.old.items
+    ensures { OnOk result (WritesText (λ told. IsTextOf content (spot_of place.entry) told timeline.now) text.old.items
         text.new.items) }
 {
     match content {
@@ -192,14 +194,14 @@ impl Printer {
         file: Option<&str>,
         text: &mut Vec<u8, A>,
     ) -> Result<(), Memory>
-        ensures { OnOk result (WritesText (IsPrinted self file.entry course.now) text.old.items text.new.items) }
+        ensures { OnOk result (WritesText (IsPrinted self (name_of file.entry) course.now) text.old.items text.new.items) }
     {
         match self {
             Printer::Story => write_story(alloc, course, text),
             Printer::Json => write_explanation_json(alloc, course, file, text),
             Printer::Picture { look, width } => write_picture(course, look, width, text),
             Printer::Image => write_svg(course, text),
-            Printer::Section => write_section(course, text),
+            Printer::Section { text: place } => write_section(course, place, text),
         }
     }
 }

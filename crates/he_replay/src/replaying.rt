@@ -2,6 +2,7 @@
 ghost use Rattle.std.specs.Prelude.{◌≤◌};
 ghost use Rattle.he_stream.specs.Input.{Gives, GivesSoFar};
 ghost use Rattle.he_stream.specs.Output.{PutsAndEnds, PutsInRounds, PutsRoundsPart};
+ghost use Rattle.he_json.specs.Documents.{name_of};
 ghost use Rattle.he_replay.specs.Stream.{Replays};
 
 use crate::limits::{LEAST_WORKERS, MOST_WORKERS};
@@ -56,7 +57,7 @@ pub fn replay<
 ) -> Result<(), StreamFault>
     requires some { LEAST_WORKERS ≤ workers }
     requires few { workers ≤ MOST_WORKERS }
-    ensures { Replays asked.now.content asked.now.changes asked.now.file (Gives I.remaining I.takes input.old input.new)
+    ensures { Replays asked.now.content asked.now.changes (name_of asked.now.file) (Gives I.remaining I.takes input.old input.new)
         (GivesSoFar I.remaining I.takes input.old input.new)
         (PutsAndEnds O.contents O.puts O.flushes output.old output.new)
         (PutsRoundsPart O.contents O.puts O.flushes output.old output.new)

@@ -39,8 +39,8 @@ pub enum Content {
     Transcript { is_json: bool },
     /// In which order its addresses are to be tried.
     Order { is_json: bool },
-    /// Why it went as it did, for scripts.
-    Explanation { is_json: bool },
+    /// Why it went as it did, as JSON.
+    ExplanationJson,
     /// The same for a person to read.
     Story,
     /// Its picture, of so many columns.

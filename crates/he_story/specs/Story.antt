@@ -39,6 +39,11 @@ ended_by winner attempts (results.Limit tick) = say says.LimitReached (facts.Num
 abbrev pub ending_facts : Ended → List (Fact Said)
 ending_facts ended = ended_by ended.winner ended.attempts ended.result
 
+-- which race it is, and how it ended
+abbrev pub race_facts : {A : Type 0} → Course A → List (Fact Said)
+race_facts course =
+    say says.Race (facts.Number course.number ∷ facts.Number course.line ∷ []) ++ ending_facts course.ended
+
 abbrev pub is_wait : EventKind → Bool
 is_wait (kinds.Waits end) = true
 is_wait _ = false

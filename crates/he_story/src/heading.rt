@@ -1,8 +1,10 @@
 // The first line of a story: which race it is, how it ended, and what it lost.
 
-ghost use Rattle.std.specs.Prelude.{◌≡◌, ◌++◌, OnOk};
+ghost use Rattle.std.specs.Prelude.{◌≡◌, ◌++◌, IfOk, OnOk};
+ghost use Rattle.std.specs.List.{flat_map};
+ghost use Rattle.he_print.specs.Parts.{fact_of};
 ghost use Rattle.he_story.specs.Lines.{told};
-ghost use Rattle.he_story.specs.Story.{ending_facts, heading_facts};
+ghost use Rattle.he_story.specs.Story.{ending_facts, heading_facts, race_facts};
 
 use crate::said::Said;
 use crate::story::Story;
@@ -33,14 +35,46 @@ impl<A: Allocator> Story<A> {
         }
     }
 
+    // Which race it is, after a gap, and how it ended.
+    fn tell_race<B: Allocator>(
+        &mut self,
+        gap: &'static [u8],
+        course: &Course<B>,
+    ) -> Result<(), Memory>
+        ensures { OnOk result (told self.new ≡ told self.old ++ race_facts course.now) }
+    {
+        let number = Part::Number(course.number as u64);
+        self.tell(
+            Said::Race,
+            &[Part::Words(gap), number, Part::Number(course.line)],
+        )?;
+        self.tell_ending(course.ended)
+    }
+
     // After a blank line where it is not the first race.
     pub(crate) fn tell_heading<B: Allocator>(&mut self, course: &Course<B>) -> Result<(), Memory>
         ensures { OnOk result (told self.new ≡ told self.old ++ heading_facts course.now) }
     {
-        let gap = Part::Words(noun(course.number, b"", b"\n"));
-        let number = Part::Number(course.number as u64);
-        self.tell(Said::Race, &[gap, number, Part::Number(course.line)])?;
-        self.tell_ending(course.ended)?;
+        self.tell_race(noun(course.number, b"", b"\n"), course)?;
         self.tell_verdict(course)
     }
+}
+
+/// Which race it is and how it ended, in the words of a story, for other printers.
+///
+/// # Errors
+///
+/// `Memory` where an allocation was refused.
+pub fn heading_parts<A: Allocator, B: Allocator>(
+    alloc: A,
+    course: &Course<B>,
+) -> Result<Vec<Part<Said>, A>, Memory>
+    ensures { IfOk result (λ parts. flat_map fact_of parts.items ≡ race_facts course.now) }
+{
+    let mut story = Story {
+        parts: Vec::new(alloc),
+    };
+    story.tell_race(b"", course)?;
+    let Story { parts } = story;
+    Ok(parts)
 }

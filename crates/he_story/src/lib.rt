@@ -19,5 +19,6 @@ pub mod story;
 mod verdict;
 mod words;
 
+pub use heading::heading_parts;
 pub use said::Said;
 pub use story::write_story;

@@ -25,7 +25,9 @@ pub(crate) fn end_texts<R, O: OutputStream, F: Write>(
     ensures { EndsTexts O.OutputStream texts.now sums session.old.output session.new.output result }
 {
     match (texts.task, sums) {
-        (Task::Compare { .. } | Task::Summarize { .. }, Some(races)) => put_sums(session, texts, &races),
+        (Task::Compare { .. } | Task::Summarize { .. }, Some(races)) => put_sums(
+            session, texts, &races,
+        ),
         (Task::Compare { .. } | Task::Summarize { .. }, None) => FAULT,
         _ => DONE,
     }

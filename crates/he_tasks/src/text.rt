@@ -1,11 +1,12 @@
 //! What is written of one text of races, or told of it.
 ghost use Rattle.std.specs.Prelude.{◌≡◌, IfOk, OnErr, OnOk, true};
 ghost use Rattle.he_draw.specs.Page.{HasName};
+ghost use Rattle.he_json.specs.Documents.{name_of};
 ghost use Rattle.he_tasks.specs.Status.{status_of};
 ghost use Rattle.he_tasks.specs.Summaries.{AddsSums};
 ghost use Rattle.he_request.specs.Requests.{HasTaskWorkers};
 ghost use Rattle.he_tasks.specs.Texts.{HasHeading, LacksHeading, RunsHeaded, RunsOne, RunsTask};
-ghost use Rattle.he_tasks.specs.Texts.{has_headings, heading, name_line, shown_name};
+ghost use Rattle.he_tasks.specs.Texts.{file_of, has_headings, heading, name_line, naming};
 
 use crate::content::content_of;
 use crate::name::Name;
@@ -39,7 +40,7 @@ pub(crate) fn run_text<R: TaskSystem, I: InputStream, O: OutputStream, F: Write>
     sums: &mut Option<Races<Global>>,
 ) -> u8
     requires { HasTaskWorkers text.texts.now.task }
-    ensures { RunsOne O.OutputStream text.entry.texts.now (shown_name text.entry.name) I I.InputStream
+    ensures { RunsOne O.OutputStream text.entry.texts.now (naming text.entry.name) I I.InputStream
         input.old input.new (session.old.output, sums.old) (session.new.output, sums.new) result }
 {
     let mut told = Vec::new(session.alloc);
@@ -59,14 +60,13 @@ fn run_headed<R: TaskSystem, I: InputStream, O: OutputStream, F>(
 ) -> Result<(), StreamFault>
     requires { HasTaskWorkers text.texts.now.task }
     ensures { RunsHeaded I.InputStream O.OutputStream text.entry.texts.now.task text.entry.texts.now.changes
-        (heading text.entry.texts.now.task (has_headings text.entry.texts.now.files.items)
-        (shown_name text.entry.name)) input.old input.new (session.old.output, sums.old)
-        (session.new.output, sums.new) result }
+        (has_headings text.entry.texts.now.files.items) (naming text.entry.name) input.old input.new
+        (session.old.output, sums.old) (session.new.output, sums.new) result }
 {
     if has_headings(text.texts) {
         put_heading(session.alloc, text, &mut session.output)?;
     }
-    run_task(session, text.texts, input, sums, told)
+    run_task(session, text, input, sums, told)
 }
 
 // Whether there are several texts, so that they have headings.
@@ -83,9 +83,9 @@ fn put_heading<O: OutputStream>(
     output: &mut O,
 ) -> Result<(), StreamFault>
     ensures ok { OnOk result (HasHeading O.OutputStream text.entry.texts.now.task
-        (heading text.entry.texts.now.task true (shown_name text.entry.name)) output.old output.new) }
+        (heading text.entry.texts.now.task true (naming text.entry.name)) output.old output.new) }
     ensures err { OnErr result (LacksHeading O.OutputStream text.entry.texts.now.task
-        (heading text.entry.texts.now.task true (shown_name text.entry.name)) output.old output.new) }
+        (heading text.entry.texts.now.task true (naming text.entry.name)) output.old output.new) }
 {
     let Some(name) = text.name else {
         return Ok(());
@@ -125,33 +125,39 @@ fn name_in_page(alloc: Global, name: &str) -> Result<Vec<u8>, Memory>
 // Does it with one text. What a check tells of it stands in `told` then.
 fn run_task<R: TaskSystem, I: InputStream, O: OutputStream, F>(
     session: &mut Session<'_, '_, R, O, F>,
-    texts: &Texts<'_>,
+    text: Text<'_>,
     input: &mut I,
     sums: &mut Option<Races<Global>>,
     told: &mut Vec<u8>,
 ) -> Result<(), StreamFault>
-    requires { HasTaskWorkers texts.now.task }
-    ensures { RunsTask I.InputStream O.OutputStream texts.now.task texts.now.changes input.old input.new
-        (session.old.output, sums.old) (session.new.output, sums.new) result }
+    requires { HasTaskWorkers text.texts.now.task }
+    ensures { RunsTask I.InputStream O.OutputStream text.entry.texts.now.task text.entry.texts.now.changes
+        (file_of (naming text.entry.name)) input.old input.new (session.old.output, sums.old)
+        (session.new.output, sums.new) result }
 {
-    let (alloc, changes) = (session.alloc, texts.changes);
-    match texts.task {
+    let alloc = session.alloc;
+    match text.texts.task {
         Task::Write { content, workers } => {
             let asked = TextRequest {
-                content: content_of(content),
-                changes,
+                content: content_of(session.place, content),
+                changes: text.texts.changes,
+                file: file_of(text.name),
             };
-            replay(
-                session.system,
-                alloc,
-                asked,
-                workers,
-                input,
-                &mut session.output,
-            )
+            let output = &mut session.output;
+            replay(session.system, alloc, &asked, workers, input, output)
         }
         Task::Check { is_all } => check(alloc, is_all, input, &mut session.output, told),
         Task::Compare { .. } | Task::Summarize { .. } => add_text(session.place, input, sums),
+    }
+}
+
+// The name of the file, as JSON has it.
+fn file_of<'n>(name: Option<Name<'n>>) -> Option<&'n str>
+    ensures { name_of result ≡ file_of (naming name.entry) }
+{
+    match name {
+        Some(name) => Some(name.path),
+        None => None,
     }
 }
 

@@ -1,6 +1,6 @@
 use Rattle.std.proofs.Common.{◌≡◌, ◌++◌, drop}
 use Rattle.std.specs.List.{flat_map}
-use Rattle.he_draw.specs.Escaping.{escaped}
+use Rattle.he_draw.specs.Page.{escaped}
 use Rattle.he_draw.proofs.escaping.write_each.Given as goal
 
 abbrev pub invariant-loop-byte : goal.invariant-loop-byte
