@@ -7,4 +7,4 @@ use Rattle.he_story.proofs.story.Story.tell.Given as goal
 
 abbrev pub invariant-loop-part : goal.invariant-loop-part
 invariant-loop-part g l =
-    told l.self ++ flat_map fact_of (drop l.part-index l.parts) ≡ told l.fn.self ++ (facts.Said l.said ∷ flat_map fact_of l.parts)
+    told l.self ++ flat_map fact_of (drop l.part-index l.parts) ≡ told l.fn.self ++ (facts.Said l.fn.said ∷ flat_map fact_of l.parts)
