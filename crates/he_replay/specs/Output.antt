@@ -40,7 +40,7 @@ IsPrinted printers.Json file course text =
 IsPrinted (printers.Picture look width) file course text =
     (columns : ℕ) × (LEAST_COLUMNS ≤ columns) × States (picture_facts columns course) text
 IsPrinted printers.Image file course text = States (svg_facts course) text
-IsPrinted printers.Section file course text = IsSection course text
+IsPrinted (printers.Section place) file course text = IsSection course place text
 
 -- so it is of the race's course
 abbrev pub IsOfCourse : Printer → Spot → List ℕ → Race → Type 0

@@ -19,22 +19,27 @@ use Rattle.he_request.specs.declared.texts.Content.{Content as Asked}
 use Rattle.he_request.specs.declared.texts.Task.{Task}
 use Rattle.he_request.specs.declared.texts.Task.TheVariants.{Write, Compare, Check, Summarize}
 use Rattle.he_request.specs.declared.texts.Texts.{Texts}
+use Rattle.he_tasks.specs.Pages.{PutsSections}
 use Rattle.he_tasks.specs.Status.{first_fault, status_of}
 use Rattle.he_tasks.specs.Streams.{Gave, GaveSoFar, TookAll, TookPart, TookRounds, TookRoundsPart, TookToTheEnd}
 use Rattle.he_tasks.specs.Summaries.{AddsSums}
 use Rattle.he_tasks.specs.declared.name.Name.{Name}
 use Rattle.he_tasks.specs.declared.reports.TheConstants.{DONE, FAULT}
 
--- what he_replay writes of a race where this is asked for
-abbrev pub content_of : Asked → Content
-content_of (asked.Transcript json) = if json then contents.TranscriptJson else contents.Transcript
-content_of (asked.Order json) = if json then contents.OrderJson else contents.Order
-content_of asked.ExplanationJson = contents.Course printers.Json
-content_of asked.Story = contents.Course printers.Story
-content_of (asked.Picture ascii width) =
+-- what he_replay writes of a race where this is asked for, of the text of this place
+abbrev pub content_of : ℕ → Asked → Content
+content_of place (asked.Transcript json) = if json then contents.TranscriptJson else contents.Transcript
+content_of place (asked.Order json) = if json then contents.OrderJson else contents.Order
+content_of place asked.ExplanationJson = contents.Course printers.Json
+content_of place asked.Story = contents.Course printers.Story
+content_of place (asked.Picture ascii width) =
     contents.Course (printers.Picture (if ascii then looks.Ascii else looks.Unicode) width)
-content_of asked.Image = contents.Course printers.Image
-content_of asked.Section = contents.Course printers.Section
+content_of place asked.Image = contents.Course printers.Image
+content_of place asked.Section = contents.Course printers.Section
+
+abbrev pub is_section : Asked → Bool
+is_section asked.Section = true
+is_section _ = false
 
 -- the name of a text, as the system takes it and as it is shown
 pub record Naming : Type 0 where
@@ -53,9 +58,10 @@ file_of name = option_map (λ n. n.path) name
 abbrev pub RunsTask : {I O : Type 0} → inputs.Ghosts I → outputs.Ghosts O → Task → ChangeValues → Option (List ℕ) → I
     → I → O × Option Sums → O × Option Sums → Result (Unit {0}) StreamFault → Type 0
 RunsTask input output (Write content workers) changes file first last before after =
-    Replays (content_of content) changes file (Gave input first last) (GaveSoFar input first last)
-    (TookToTheEnd output before.0 after.0) (TookRoundsPart output before.0 after.0)
-    (TookRounds output before.0 after.0)
+    λ result. ((is_section content ≡ true) × PutsSections input output changes first last before after result)
+    ⊎ ((place : ℕ) × Replays (content_of place content) changes file (Gave input first last)
+    (GaveSoFar input first last) (TookToTheEnd output before.0 after.0) (TookRoundsPart output before.0 after.0)
+    (TookRounds output before.0 after.0) result)
 RunsTask input output (Compare json races) changes file first last before after =
     λ result. (after.0 ≡ before.0) × AddsSums input first last before.1 after.1 result
 RunsTask input output (Check is_all) changes file first last before after =

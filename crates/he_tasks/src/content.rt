@@ -7,9 +7,9 @@ use he_draw::Look;
 use he_replay::{Content, Printer};
 use he_request::texts::Content as Asked;
 
-// What `he_replay` writes where this is asked for.
-pub(crate) fn content_of(asked: Asked) -> Content
-    ensures { result ≡ content_of asked }
+// What `he_replay` writes where this is asked for of the text of this place.
+pub(crate) fn content_of(asked: Asked, place: usize) -> Content
+    ensures { result ≡ content_of place asked }
 {
     match asked {
         Asked::Transcript { is_json: false } => Content::Transcript,
@@ -23,7 +23,7 @@ pub(crate) fn content_of(asked: Asked) -> Content
             width,
         }),
         Asked::Image => Content::Course(Printer::Image),
-        Asked::Section => Content::Course(Printer::Section),
+        Asked::Section => Content::Course(Printer::Section(place)),
     }
 }
 
