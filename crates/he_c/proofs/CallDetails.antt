@@ -49,7 +49,7 @@ AreTold-snoc IsText number line (first ∷ races) bytes text (head, behind, spli
       ap (λ (t : List ℕ). t ++ told) written ∙ append_assoc one after told,
       is_one,
       AreTold-snoc IsText (number + 1) (line + line_count head) races behind after later race own told read
-      (told_at IsText race told _ _ (number + 1 + length races) (line + line_count head + line_count behind) (omega arith) (omega arith) is),
+          (told_at IsText race told _ _ (number + 1 + length races) (line + line_count head + line_count behind) (omega arith) (omega arith) is),
     )
 
 -- up to the end of a range: up to its start, and the range

@@ -42,8 +42,8 @@ pub enum Printer {
     Picture { look: Look, width: u16 },
     /// The same as an SVG image ([`write_svg`]).
     Image,
-    /// A part of a page ([`write_section`]), of the text of this place among those of the page.
-    Section(usize),
+    /// A part of a page, of the text of this place among those of the page ([`write_section`]).
+    Section { text: usize },
 }
 
 impl Content {
@@ -201,7 +201,7 @@ impl Printer {
             Printer::Json => write_explanation_json(alloc, course, file, text),
             Printer::Picture { look, width } => write_picture(course, look, width, text),
             Printer::Image => write_svg(course, text),
-            Printer::Section(place) => write_section(course, place, text),
+            Printer::Section { text: place } => write_section(course, place, text),
         }
     }
 }

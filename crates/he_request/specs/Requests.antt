@@ -76,8 +76,8 @@ AsksOrder found task = (json : Bool) × HasFlag found (codes "json") json × (ta
 
 abbrev pub AsksExplain : Found → Task → Type 0
 AsksExplain found task =
-    (json lines : Bool) × HasFlag found (codes "json") json × HasFlag found (codes "lines") lines
-    × (task ≡ Write (if json || lines then contents.Explanation json else contents.Story) 1)
+    (json : Bool) × HasFlag found (codes "json") json
+    × (task ≡ Write (if json then contents.ExplanationJson else contents.Story) 1)
 
 abbrev pub AsksSummary : {E : Type 0} → (List ℕ → Result ℕ E → Type 0) → Found → Task → Type 0
 AsksSummary gives found task =

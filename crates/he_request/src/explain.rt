@@ -2,15 +2,13 @@
 ghost use Rattle.clap.specs.Matches.{found_of};
 ghost use Rattle.he_request.specs.Requests.{AsksExplain};
 
-use crate::arguments::{HEADED_FILES_HELP, files, flag, flag_of, json, plain, verbose};
+use crate::arguments::{HEADED_FILES_HELP, files, flag_of, json, plain, verbose};
 use crate::settings::set;
 use crate::texts::{Content, Task, alone};
 use clap::{ArgMatches, Command};
 use std::alloc::{AllocError, Global};
 
 const ABOUT: &str = "Explain why races went as they did";
-
-const LINES_HELP: &str = "Write lines for scripts, to be cut at their spaces";
 
 const EXAMPLE: &str = "\
 Reads timelines, as `he replay` does. Standard output has for each race how it
@@ -35,25 +33,11 @@ For the example of `he replay --help` it writes:
            address known
     25 ms  A answer: 1 address to try
     55 ms  attempt 1 connected after 35 ms
-  no address of the A answer was tried
-
-With --lines it writes (the second line is one line):
-
-  order 0 2001:db8:1::1 source 2001:db8::2
-  order 1 198.51.100.1 source 192.0.2.2, behind 0 by rule 6, prefer higher
-    precedence: 35 after 40
-  20 answer aaaa usable 1
-  20 attempt 0 2001:db8:1::1, on the AAAA answer, listed at 0 of 1, its family
-    leads
-  25 answer a usable 1
-  55 won attempt 0
-  end";
+  no address of the A answer was tried";
 
 pub(crate) fn command<'a>(alloc: Global) -> Result<Command<'a>, AllocError> {
-    let lines = flag(alloc, "lines", LINES_HELP).conflicts_with("json")?;
     let args = vec![in alloc;
         files(alloc, HEADED_FILES_HELP),
-        lines,
         set(alloc),
         json(alloc),
         verbose(alloc),
@@ -65,10 +49,9 @@ pub(crate) fn command<'a>(alloc: Global) -> Result<Command<'a>, AllocError> {
 pub(crate) fn task_of(matches: &ArgMatches<'_>) -> Task
     ensures { AsksExplain (found_of matches.now) result }
 {
-    let (json, lines) = (flag_of(matches, "json"), flag_of(matches, "lines"));
-    if json || lines {
-        alone(Content::Explanation { is_json: json })
+    alone(if flag_of(matches, "json") {
+        Content::ExplanationJson
     } else {
-        alone(Content::Story)
-    }
+        Content::Story
+    })
 }

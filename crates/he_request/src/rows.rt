@@ -84,11 +84,13 @@ fn changes_at(alloc: Global, row: usize, texts: &[&str]) -> Result<Changes, Refu
 }
 
 fn is_setting_at(alloc: Global, row: usize, text: &[u8]) -> Result<bool, AllocError> {
-    Ok(number_at(alloc, b"resolution=", row, text)?.is_some()
-        || number_at(alloc, b"attempt=", row, text)?.is_some()
-        || number_at(alloc, b"count=", row, text)?.is_some()
-        || number_at(alloc, b"limit=", row, text)?.is_some()
-        || number_at(alloc, b"floor=", row, text)?.is_some())
+    Ok(
+        number_at(alloc, b"resolution=", row, text)?.is_some()
+            || number_at(alloc, b"attempt=", row, text)?.is_some()
+            || number_at(alloc, b"count=", row, text)?.is_some()
+            || number_at(alloc, b"limit=", row, text)?.is_some()
+            || number_at(alloc, b"floor=", row, text)?.is_some(),
+    )
 }
 
 // The number that the last of the texts which gives the setting one gives it in a row.
@@ -108,12 +110,7 @@ fn last_number_at(
 }
 
 // The number that the text gives the setting in a row, as `attempt=100,150`.
-fn number_at(
-    alloc: Global,
-    name: &[u8],
-    row: usize,
-    text: &[u8],
-) -> Result<Option<u64>, AllocError>
+fn number_at(alloc: Global, name: &[u8], row: usize, text: &[u8]) -> Result<Option<u64>, AllocError>
     ensures { IfOk result (λ number. number ≡ number_at name.now row text.now) }
 {
     let Some(list) = text.strip_prefix(name) else {

@@ -46,7 +46,9 @@ pub(crate) fn command<'a>(alloc: Global) -> Result<Command<'a>, AllocError> {
     let args = vec![in alloc;
         files(alloc, FILES_HELP),
         flag(alloc, "json", JSON_HELP),
-        value(alloc, "slowest", "N", SLOWEST_HELP).value_parser(value_parser!(u16).range(1..=65_535)),
+        value(alloc, "slowest", "N", SLOWEST_HELP).value_parser(value_parser!(u16).range(
+            1..=65_535
+        )),
         flag(alloc, "keep-going", KEEP_GOING_HELP),
         set(alloc),
         verbose(alloc),

@@ -1,3 +1,4 @@
+pub mod Loops
 pub mod Percentiles
 pub mod Tallied
 pub mod Walked

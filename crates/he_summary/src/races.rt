@@ -1,5 +1,5 @@
 //! The races of some inputs, each with the settings of one or more rows.
-ghost use Rattle.std.specs.Prelude.{◌≡◌, ◌++◌, [], ◌∷◌, IfOk, List, OnOk};
+ghost use Rattle.std.specs.Prelude.{◌≡◌, ◌<◌, ◌++◌, [], ◌∷◌, length, slice_get, Some, IfOk, List, OnOk};
 ghost use Rattle.he_course.specs.Course.{IsCourse};
 ghost use Rattle.he_stream.specs.Input.{Gives};
 ghost use Rattle.he_summary.specs.Steps.{AddsRace, AddsRuns};
@@ -109,11 +109,18 @@ impl<A: Allocator + Copy> Races<A> {
         ensures { OnOk result (AddsRace race.now place self.old self.new) }
     {
         for row in 0..self.settings.len() {
-            let changed = race.copy(arena)?.with_changes(self.settings[row]);
+            let changed = race.copy(arena)?.with_changes(self.settings_of(row));
             let course = Course::of(arena, &changed, place.number, place.line)?;
             self.add_run(row, place, &changed, &course)?;
         }
         Ok(())
+    }
+
+    fn settings_of(&self, row: usize) -> Changes
+        requires { row < length self.now.settings }
+        ensures { slice_get self.now.settings row ≡ Some result }
+    {
+        self.settings[row]
     }
 
     // Adds a race that runs with the settings of a row, by its course.

@@ -60,16 +60,16 @@ fn push_failing<A: Allocator>(
         ++ flat_map (tally_facts form) failing.now) }
 {
     let (begin, between, end): (&'static [u8], &'static [u8], &'static [u8]) = match form {
-        Form::Text if failing.is_empty() => (b"\n", b"", b""),
+        Form::Text if failing.is_empty() => (b"", b"", b"\n"),
         Form::Text => (b"\nfailed or silent most often:\n", b"", b""),
+        Form::Json if failing.is_empty() => (b"", b"", b",\"failing\":[]"),
         Form::Json => (b",\"failing\":[", b",", b"]"),
     };
-    push_parts(&[Part::Words(begin)], text)?;
-    for (index, tallied) in failing.iter().enumerate() {
-        if index > 0 {
-            push_parts(&[Part::Words(between)], text)?;
-        }
+    let mut before = begin;
+    for tallied in failing {
+        push_parts(&[Part::Words(before)], text)?;
         push_tally(form, *tallied, text)?;
+        before = between;
     }
     push_parts(&[Part::Words(end)], text)
 }
@@ -102,7 +102,7 @@ fn sort_slowest<A: Allocator>(won: &mut Vec<Kept, A>)
 {
     won.sort_unstable_by_key(|race| {
         (
-            Reverse(value_of(Value::Time, race)),
+            Reverse(value_of(Value::Time, race).unwrap_or(0)),
             (race.place.file, race.place.number),
         )
     });
@@ -117,18 +117,16 @@ fn write_slowest<A: Allocator + Copy>(
 ) -> Result<(), Memory>
     ensures { OnOk result (TellsSlow form slow.now text.old.items text.new.items) }
 {
-    let (begin, end): (&[u8], &[u8]) = match form {
-        Form::Text if slow.is_empty() => (b"", b""),
-        Form::Text => (b"slowest:\n", b""),
-        Form::Json => (b",\"slowest\":[", b"]"),
+    let (begin, between, end): (&[u8], &[u8], &[u8]) = match form {
+        Form::Text => (b"slowest:\n  ", b"  ", b""),
+        Form::Json if slow.is_empty() => (b"", b"", b",\"slowest\":[]"),
+        Form::Json => (b",\"slowest\":[", b",", b"]"),
     };
-    text.extend_from_slice(begin)?;
-    for (index, race) in slow.iter().enumerate() {
-        if index > 0 && form == Form::Json {
-            text.push(b',')?;
-        }
-        write_name(form, name_of(race.place.file, names), text)?;
+    let mut before = begin;
+    for race in slow {
+        write_name(form, before, name_of(race.place.file, names), text)?;
         write_slow(alloc, form, race, text)?;
+        before = between;
     }
     text.extend_from_slice(end)?;
     Ok(())
@@ -142,13 +140,18 @@ pub fn name_of(place: usize, names: &[String]) -> &str {
     }
 }
 
-// Appends the name of a file, which is as it may be shown.
-fn write_name<A: Allocator>(form: Form, name: &str, text: &mut Vec<u8, A>) -> Result<(), Memory>
+// Appends the name of a file, which is as it may be shown, after these words.
+fn write_name<A: Allocator>(
+    form: Form,
+    before: &[u8],
+    name: &str,
+    text: &mut Vec<u8, A>,
+) -> Result<(), Memory>
     ensures { OnOk result (IsNamed text.old.items text.new.items) }
 {
+    text.extend_from_slice(before)?;
     match form {
         Form::Text => {
-            text.extend_from_slice(b"  ")?;
             text.extend_from_slice(name.as_bytes())?;
             Ok(())
         }

@@ -35,7 +35,7 @@ content_of place asked.Story = contents.Course printers.Story
 content_of place (asked.Picture ascii width) =
     contents.Course (printers.Picture (if ascii then looks.Ascii else looks.Unicode) width)
 content_of place asked.Image = contents.Course printers.Image
-content_of place asked.Section = contents.Course printers.Section
+content_of place asked.Section = contents.Course (printers.Section place)
 
 abbrev pub is_section : Asked → Bool
 is_section asked.Section = true

@@ -7,8 +7,8 @@ use he_draw::Look;
 use he_replay::{Content, Printer};
 use he_request::texts::Content as Asked;
 
-// What `he_replay` writes where this is asked for of the text of this place.
-pub(crate) fn content_of(asked: Asked, place: usize) -> Content
+// What `he_replay` writes where this is asked for, of the text of this place.
+pub(crate) fn content_of(place: usize, asked: Asked) -> Content
     ensures { result ≡ content_of place asked }
 {
     match asked {
@@ -23,7 +23,7 @@ pub(crate) fn content_of(asked: Asked, place: usize) -> Content
             width,
         }),
         Asked::Image => Content::Course(Printer::Image),
-        Asked::Section => Content::Course(Printer::Section(place)),
+        Asked::Section => Content::Course(Printer::Section { text: place }),
     }
 }
 

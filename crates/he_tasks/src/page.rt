@@ -40,7 +40,7 @@ pub(crate) fn put_sections<R, I: InputStream, O: OutputStream, F>(
 {
     let place = session.place;
     let asked = TextRequest {
-        content: Content::Course(Printer::Section(place)),
+        content: Content::Course(Printer::Section { text: place }),
         changes,
         file: None,
     };

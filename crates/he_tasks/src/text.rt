@@ -143,7 +143,7 @@ fn run_task<R: TaskSystem, I: InputStream, O: OutputStream, F>(
         }
         Task::Write { content, workers } => {
             let asked = TextRequest {
-                content: content_of(content, session.place),
+                content: content_of(session.place, content),
                 changes: text.texts.changes,
                 file: file_of(text.name),
             };

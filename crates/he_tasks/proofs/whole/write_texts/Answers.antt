@@ -1,4 +1,4 @@
-use Rattle.std.proofs.Common.{inl}
+use Rattle.std.proofs.Common.{inl, ◌∙◌}
 use Rattle.he_tasks.proofs.whole.write_texts.Goals as goal
 
 pub returns-in-Ok : goal.returns-in-Ok
@@ -10,7 +10,8 @@ returns-in-Ok g c =
       c.run_all-own.new.sums,
       c.run_all-own.result,
       c.end_texts-end.result,
-      c.new.ensures,
+      c.new.ensures.none,
+      c.new.ensures.settings ∙ c.in-Ok-rows_of.ensures,
       c.in-Ok.ensures.ok,
       c.run_all-own.ensures,
       c.end_texts-end.ensures,
