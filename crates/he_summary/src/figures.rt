@@ -63,8 +63,20 @@ pub(crate) fn push_totals<A: Allocator>(
 {
     push_counts(form, totals.counts, text)?;
     push_times(form, totals.times, text)?;
-    push_lost(form, Loss::Failed, totals.lost_to_failed, totals.counts.won, text)?;
-    push_lost(form, Loss::Silent, totals.lost_to_silent, totals.counts.won, text)?;
+    push_lost(
+        form,
+        Loss::Failed,
+        totals.lost_to_failed,
+        totals.counts.won,
+        text,
+    )?;
+    push_lost(
+        form,
+        Loss::Silent,
+        totals.lost_to_silent,
+        totals.counts.won,
+        text,
+    )?;
     push_end(form, totals, text)
 }
 
@@ -193,7 +205,11 @@ pub(crate) fn push_tally<A: Allocator>(
         text,
     )?;
     match form {
-        Form::Text => push_parts(&[Part::Words(b" to "), Part::Ip(ip), Part::Words(b"\n")], text),
+        Form::Text => push_parts(
+            &[Part::Words(b" to "), Part::Ip(ip), Part::Words(b"
+")],
+            text,
+        ),
         Form::Json | Form::Metrics => {
             push_parts(
                 &[
