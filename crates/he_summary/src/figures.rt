@@ -63,8 +63,20 @@ pub(crate) fn push_totals<A: Allocator>(
 {
     push_counts(form, totals.counts, text)?;
     push_times(form, totals.times, text)?;
-    push_lost(form, Loss::Failed, totals.lost_to_failed, totals.counts.won, text)?;
-    push_lost(form, Loss::Silent, totals.lost_to_silent, totals.counts.won, text)?;
+    push_lost(
+        form,
+        Loss::Failed,
+        totals.lost_to_failed,
+        totals.counts.won,
+        text,
+    )?;
+    push_lost(
+        form,
+        Loss::Silent,
+        totals.lost_to_silent,
+        totals.counts.won,
+        text,
+    )?;
     push_end(form, totals, text)
 }
 
@@ -193,7 +205,10 @@ pub(crate) fn push_tally<A: Allocator>(
         text,
     )?;
     match form {
-        Form::Text => push_parts(&[Part::Words(b" to "), Part::Ip(ip), Part::Words(b"\n")], text),
+        Form::Text => push_parts(
+            &[Part::Words(b" to "), Part::Ip(ip), Part::Words(b"\n")],
+            text,
+        ),
         Form::Json | Form::Metrics => {
             push_parts(
                 &[
@@ -231,8 +246,16 @@ pub(crate) fn push_metrics<A: Allocator>(
         &[
             told(Said::Total(Value::Time), total_of(totals.times), 0),
             told(Said::Count(Value::Time), counts.won, 0),
-            told(Said::Total(Value::LostTo(Loss::Failed)), total_of(totals.lost_to_failed), 0),
-            told(Said::Total(Value::LostTo(Loss::Silent)), total_of(totals.lost_to_silent), 0),
+            told(
+                Said::Total(Value::LostTo(Loss::Failed)),
+                total_of(totals.lost_to_failed),
+                0,
+            ),
+            told(
+                Said::Total(Value::LostTo(Loss::Silent)),
+                total_of(totals.lost_to_silent),
+                0,
+            ),
             told(Said::Total(Value::Attempts), total_of(totals.attempts), 0),
             told(Said::Are(Kind::Waited), counts.waited, 0),
         ],

@@ -140,5 +140,7 @@ pub(crate) fn loss_of<A: Allocator>(race: &Timeline<A>, line: &Line) -> Option<L
 fn is_delay_over(events: &[Event]) -> bool
     ensures { result ≡ list_any (λ event. is_delay_over event.kind) events.now }
 {
-    events.iter().any(|event| matches!(event.kind, EventKind::DelayOver))
+    events
+        .iter()
+        .any(|event| matches!(event.kind, EventKind::DelayOver))
 }
