@@ -180,7 +180,8 @@ fn push_verdict<A: Allocator>(
     verdict: Verdict,
     text: &mut Vec<Part<Told>, A>,
 ) -> Result<(), Memory>
-    ensures { OnOk result (flat_map fact_of text.new.items ≡ flat_map fact_of text.old.items ++ verdict_facts verdict) }
+    ensures { OnOk result (flat_map fact_of text.new.items ≡ flat_map fact_of text.old.items
+        ++ verdict_facts verdict) }
 {
     push_parts(
         &[Part::Says(Told::Is(verdict), verdict_words(form, verdict))],

@@ -143,7 +143,8 @@ fn push_verdicts<A: Allocator>(
     verdicts: Verdicts,
     text: &mut Vec<Part<Said>, A>,
 ) -> Result<(), Memory>
-    ensures { OnOk result (flat_map fact_of text.new.items ≡ flat_map fact_of text.old.items ++ verdict_facts verdicts) }
+    ensures { OnOk result (flat_map fact_of text.new.items ≡ flat_map fact_of text.old.items
+        ++ verdict_facts verdicts) }
 {
     push_parts(
         &[
