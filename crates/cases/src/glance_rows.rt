@@ -22,7 +22,8 @@ A answer      |            o               | 25 ms, 1 usable
 ==> - <==
 ";
 
-const SUMMARY: &[u8] = b"1 race: 1 won (100.0 %), 1 by IPv6 (100.0 %), 0 by IPv4 (0.0 %), 0 exhausted (0.0 %), \
+const SUMMARY: &[u8] =
+    b"1 race: 1 won (100.0 %), 1 by IPv6 (100.0 %), 0 by IPv4 (0.0 %), 0 exhausted (0.0 %), \
 0 at the limit (0.0 %)
 time to connect: median 55 ms, 90 of 100 within 55 ms, 99 of 100 within 55 ms, greatest 55 ms
 no time was lost to addresses that failed
@@ -32,7 +33,8 @@ the Resolution Delay was waited out in 0 races (0.0 %)
 ";
 
 // The same with the slowest race.
-const SLOWEST: &[u8] = b"1 race: 1 won (100.0 %), 1 by IPv6 (100.0 %), 0 by IPv4 (0.0 %), 0 exhausted (0.0 %), \
+const SLOWEST: &[u8] =
+    b"1 race: 1 won (100.0 %), 1 by IPv6 (100.0 %), 0 by IPv4 (0.0 %), 0 exhausted (0.0 %), \
 0 at the limit (0.0 %)
 time to connect: median 55 ms, 90 of 100 within 55 ms, 99 of 100 within 55 ms, greatest 55 ms
 no time was lost to addresses that failed
@@ -44,7 +46,8 @@ slowest:
 ";
 
 // Of the input, and of a file with a race that is given up at its limit.
-const SUMMARY_OF_TWO: &[u8] = b"2 races: 1 won (50.0 %), 1 by IPv6 (50.0 %), 0 by IPv4 (0.0 %), 0 exhausted (0.0 %), \
+const SUMMARY_OF_TWO: &[u8] =
+    b"2 races: 1 won (50.0 %), 1 by IPv6 (50.0 %), 0 by IPv4 (0.0 %), 0 exhausted (0.0 %), \
 1 at the limit (50.0 %)
 time to connect: median 55 ms, 90 of 100 within 55 ms, 99 of 100 within 55 ms, greatest 55 ms
 no time was lost to addresses that failed

@@ -30,7 +30,8 @@ const COMPARISON: &[u8] =
 ";
 
 // With a line for each race and row.
-const COMPARED_RACES: &[u8] = b"-:1 race 1: connected to 2001:db8:1::1 after 55 ms, the same (as they stand)
+const COMPARED_RACES: &[u8] =
+    b"-:1 race 1: connected to 2001:db8:1::1 after 55 ms, the same (as they stand)
 -:1 race 1: not connected by the limit of 30 ms, won only without (limit=30)
     p50    p90";
 
@@ -217,7 +218,14 @@ pub static TELLING_ROWS: [Row; 20] = [
         b"",
     ),
     (
-        &["he", "compare", "--set", "limit=30,40", "--set", "floor=10,20"],
+        &[
+            "he",
+            "compare",
+            "--set",
+            "limit=30,40",
+            "--set",
+            "floor=10,20",
+        ],
         TEXT,
         Streams::Whole,
         2,

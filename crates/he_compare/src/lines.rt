@@ -97,7 +97,11 @@ fn append_line<A: Allocator + Copy>(
     let mut parts = Vec::new(alloc);
     push_place(form, race.place, &mut parts)?;
     push_ending(form, race.ending, &mut parts)?;
-    push_verdict(form, Verdict::of(stands, value_of(Value::Time, race)), &mut parts)?;
+    push_verdict(
+        form,
+        Verdict::of(stands, value_of(Value::Time, race)),
+        &mut parts,
+    )?;
     write_parts(parts.as_slice(), text)
 }
 
@@ -152,7 +156,10 @@ fn push_end<A: Allocator>(
 {
     let (before, after): (&'static [u8], &'static [u8]) = match (form, said) {
         (Form::Text, Told::Won) => (b": connected after ", b" ms"),
-        (Form::Text, Told::Exhausted) => (b": not connected: nothing is left to try after ", b" ms"),
+        (Form::Text, Told::Exhausted) => (
+            b": not connected: nothing is left to try after ",
+            b" ms",
+        ),
         (Form::Text, _) => (b": not connected by the limit of ", b" ms"),
         (_, Told::Won) => (b",\"ended\":\"won\",\"ms\":", b""),
         (_, Told::Exhausted) => (b",\"ended\":\"exhausted\",\"ms\":", b""),
@@ -173,9 +180,13 @@ fn push_verdict<A: Allocator>(
     verdict: Verdict,
     text: &mut Vec<Part<Told>, A>,
 ) -> Result<(), Memory>
-    ensures { OnOk result (flat_map fact_of text.new.items ≡ flat_map fact_of text.old.items ++ verdict_facts verdict) }
+    ensures { OnOk result (flat_map fact_of text.new.items ≡ flat_map fact_of text.old.items
+        ++ verdict_facts verdict) }
 {
-    push_parts(&[Part::Says(Told::Is(verdict), verdict_words(form, verdict))], text)
+    push_parts(
+        &[Part::Says(Told::Is(verdict), verdict_words(form, verdict))],
+        text,
+    )
 }
 
 fn verdict_words(form: Form, verdict: Verdict) -> &'static [u8] {

@@ -59,7 +59,8 @@ pub(crate) fn push_totals<A: Allocator>(
     totals: Totals,
     text: &mut Vec<Part<Said>, A>,
 ) -> Result<(), Memory>
-    ensures { OnOk result (flat_map fact_of text.new.items ≡ flat_map fact_of text.old.items ++ totals_facts form totals) }
+    ensures { OnOk result (flat_map fact_of text.new.items ≡ flat_map fact_of text.old.items
+        ++ totals_facts form totals) }
 {
     push_counts(form, totals.counts, text)?;
     push_times(form, totals.times, text)?;
@@ -85,7 +86,8 @@ fn push_counts<A: Allocator>(
     counts: Counts,
     text: &mut Vec<Part<Said>, A>,
 ) -> Result<(), Memory>
-    ensures { OnOk result (flat_map fact_of text.new.items ≡ flat_map fact_of text.old.items ++ count_facts form counts) }
+    ensures { OnOk result (flat_map fact_of text.new.items ≡ flat_map fact_of text.old.items
+        ++ count_facts form counts) }
 {
     let races = counts.races;
     push_figures(
@@ -107,7 +109,8 @@ fn push_times<A: Allocator>(
     times: Option<Spread>,
     text: &mut Vec<Part<Said>, A>,
 ) -> Result<(), Memory>
-    ensures { OnOk result (flat_map fact_of text.new.items ≡ flat_map fact_of text.old.items ++ time_facts form times) }
+    ensures { OnOk result (flat_map fact_of text.new.items ≡ flat_map fact_of text.old.items
+        ++ time_facts form times) }
 {
     let value = Value::Time;
     match times {
@@ -132,7 +135,8 @@ fn push_lost<A: Allocator>(
     won: u64,
     text: &mut Vec<Part<Said>, A>,
 ) -> Result<(), Memory>
-    ensures { OnOk result (flat_map fact_of text.new.items ≡ flat_map fact_of text.old.items ++ lost_facts form loss lost won) }
+    ensures { OnOk result (flat_map fact_of text.new.items ≡ flat_map fact_of text.old.items
+        ++ lost_facts form loss lost won) }
 {
     let value = Value::LostTo(loss);
     match lost {
@@ -155,7 +159,8 @@ fn push_none<A: Allocator>(
     value: Value,
     text: &mut Vec<Part<Said>, A>,
 ) -> Result<(), Memory>
-    ensures { OnOk result (flat_map fact_of text.new.items ≡ flat_map fact_of text.old.items ++ facts.Said (NoOne value) ∷ []) }
+    ensures { OnOk result (flat_map fact_of text.new.items ≡ flat_map fact_of text.old.items
+        ++ facts.Said (NoOne value) ∷ []) }
 {
     let said = Said::NoOne(value);
     push_parts(&[Part::Says(said, before(form, said))], text)
@@ -167,7 +172,8 @@ fn push_end<A: Allocator>(
     totals: Totals,
     text: &mut Vec<Part<Said>, A>,
 ) -> Result<(), Memory>
-    ensures { OnOk result (flat_map fact_of text.new.items ≡ flat_map fact_of text.old.items ++ end_facts form totals) }
+    ensures { OnOk result (flat_map fact_of text.new.items ≡ flat_map fact_of text.old.items
+        ++ end_facts form totals) }
 {
     let value = Value::Attempts;
     let (total, greatest) = match totals.attempts {
@@ -192,7 +198,8 @@ pub(crate) fn push_tally<A: Allocator>(
     tallied: (Ip, Tally),
     text: &mut Vec<Part<Said>, A>,
 ) -> Result<(), Memory>
-    ensures { OnOk result (flat_map fact_of text.new.items ≡ flat_map fact_of text.old.items ++ tally_facts form tallied) }
+    ensures { OnOk result (flat_map fact_of text.new.items ≡ flat_map fact_of text.old.items
+        ++ tally_facts form tallied) }
 {
     let (ip, tally) = tallied;
     push_figures(
@@ -206,8 +213,7 @@ pub(crate) fn push_tally<A: Allocator>(
     )?;
     match form {
         Form::Text => push_parts(
-            &[Part::Words(b" to "), Part::Ip(ip), Part::Words(b"
-")],
+            &[Part::Words(b" to "), Part::Ip(ip), Part::Words(b"\n")],
             text,
         ),
         Form::Json | Form::Metrics => {
@@ -247,8 +253,16 @@ pub(crate) fn push_metrics<A: Allocator>(
         &[
             told(Said::Total(Value::Time), total_of(totals.times), 0),
             told(Said::Count(Value::Time), counts.won, 0),
-            told(Said::Total(Value::LostTo(Loss::Failed)), total_of(totals.lost_to_failed), 0),
-            told(Said::Total(Value::LostTo(Loss::Silent)), total_of(totals.lost_to_silent), 0),
+            told(
+                Said::Total(Value::LostTo(Loss::Failed)),
+                total_of(totals.lost_to_failed),
+                0,
+            ),
+            told(
+                Said::Total(Value::LostTo(Loss::Silent)),
+                total_of(totals.lost_to_silent),
+                0,
+            ),
             told(Said::Total(Value::Attempts), total_of(totals.attempts), 0),
             told(Said::Are(Kind::Waited), counts.waited, 0),
         ],
@@ -290,7 +304,8 @@ fn push_figure<A: Allocator>(
     figure: Figure,
     text: &mut Vec<Part<Said>, A>,
 ) -> Result<(), Memory>
-    ensures { OnOk result (flat_map fact_of text.new.items ≡ flat_map fact_of text.old.items ++ figure_facts form figure) }
+    ensures { OnOk result (flat_map fact_of text.new.items ≡ flat_map fact_of text.old.items
+        ++ figure_facts form figure) }
 {
     let said = figure.said;
     push_parts(
@@ -314,7 +329,8 @@ fn push_share<A: Allocator>(
     text: &mut Vec<Part<Said>, A>,
 ) -> Result<(), Memory>
     requires { 0 < of }
-    ensures { OnOk result (flat_map fact_of text.new.items ≡ flat_map fact_of text.old.items ++ share_facts number of) }
+    ensures { OnOk result (flat_map fact_of text.new.items ≡ flat_map fact_of text.old.items
+        ++ share_facts number of) }
 {
     let tenths = share(number, of);
     push_parts(

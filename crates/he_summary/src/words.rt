@@ -111,9 +111,7 @@ fn before_in_metrics(said: Said) -> &'static [u8] {
         }
         Said::Are(Kind::WonBy(Family::V4)) => b"he_races_total{result=\"won\",family=\"ipv4\"} ",
         Said::Are(Kind::Exhausted) => b"he_races_total{result=\"exhausted\"} ",
-        Said::Are(Kind::Limit) => {
-            b"he_races_total{result=\"limit\"} "
-        }
+        Said::Are(Kind::Limit) => { b"he_races_total{result=\"limit\"} " }
         Said::NoOne(_) => b"# TYPE he_connect_milliseconds summary\n",
         Said::Median(_) => {
             b"# TYPE he_connect_milliseconds summary\nhe_connect_milliseconds{quantile=\"0.5\"} "

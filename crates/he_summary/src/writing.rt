@@ -238,7 +238,10 @@ pub fn push_place<S: Copy, A: Allocator>(
 {
     let (line, number) = (Part::Number(place.line), Part::Number(place.number as u64));
     match form {
-        Form::Text => push_parts(&[Part::Words(b":"), line, Part::Words(b" race "), number], text),
+        Form::Text => push_parts(
+            &[Part::Words(b":"), line, Part::Words(b" race "), number],
+            text,
+        ),
         Form::Json | Form::Metrics => {
             push_parts(
                 &[
