@@ -85,4 +85,5 @@ IsTail kept text = (totals : PageTotals) × ArePageTotals kept totals × States 
 -- the totals of these races were put into the output, or a first part of them; or there was no memory for them
 abbrev pub PutsTail : {O : Type 0} → outputs.Ghosts O → Sums → O → O → ℕ → Type 0
 PutsTail output sums before after status =
-    ((status ≡ FAULT) × (after ≡ before)) ⊎ ((text : List ℕ) × IsTail sums.kept text × PutsText output text before after status)
+    ((status ≡ FAULT) × (after ≡ before))
+    ⊎ ((text : List ℕ) × IsTail sums.kept text × PutsText output text before after status)
