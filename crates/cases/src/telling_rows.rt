@@ -161,7 +161,13 @@ pub static TELLING_ROWS: [Row; 18] = [
         WRITE_LINE,
     ),
     (
-        &["he", "explain", "--json", "-", "explained-no-answer.timeline"],
+        &[
+            "he",
+            "explain",
+            "--json",
+            "-",
+            "explained-no-answer.timeline",
+        ],
         TEXT,
         Streams::Whole,
         0,
