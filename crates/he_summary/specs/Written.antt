@@ -1,5 +1,5 @@
 -- What is written of the races that are summed.
-use Rattle.std.specs.Prelude.{ℕ, ◌≡◌, ◌++◌, List, [], ◌∷◌, filter, map, take, IsPermutation, Option, Some}
+use Rattle.std.specs.Prelude.{ℕ, zero, suc, ◌≡◌, ◌++◌, List, [], ◌∷◌, filter, map, take, IsPermutation, Option, Some}
 use Rattle.std.specs.List.Sorted.{IsSortedByKey}
 use Rattle.std.specs.Option.{unwrap_or}
 use Rattle.std.specs.Ordering.{nat_cmp, ordering_then}
@@ -66,10 +66,15 @@ TellsSlow form [] old new = IsNamed old new
 TellsSlow form (race ∷ slow) old new =
     (words between : List ℕ) × Tells (slow_facts form race) (old ++ words) between × TellsSlow form slow between new
 
+-- so many of the slowest of these have been appended, or words alone
+abbrev pub TellsSlowest : Form → ℕ → List Kept → List ℕ → List ℕ → Type 0
+TellsSlowest form zero kept old new = IsNamed old new
+TellsSlowest form (suc most) kept old new =
+    (slow : List Kept) × AreSlowest (suc most) kept slow × TellsSlow form slow old new
+
 -- what is written of these races, and of so many of the slowest ones
 abbrev pub IsWritten : Form → List Run → ℕ → List ℕ → List ℕ → Type 0
 IsWritten form runs most old new =
-    (totals : Totals) × (failing : List (Ip × Tally)) × (slow : List Kept) × (between : List ℕ)
+    (totals : Totals) × (failing : List (Ip × Tally)) × (between : List ℕ)
     × AreTotals (map kept_of runs) totals × AreFailing (all_tries runs) failing
-    × AreSlowest most (map kept_of runs) slow
-    × Tells (summary_facts form totals failing) old between × TellsSlow form slow between new
+    × Tells (summary_facts form totals failing) old between × TellsSlowest form most (map kept_of runs) between new

@@ -5,14 +5,10 @@ ghost use Rattle.he_stream.specs.Input.{Gives};
 ghost use Rattle.he_summary.specs.Steps.{AddsRace, AddsRuns};
 ghost use Rattle.he_summary.specs.Summed.{Adds, HasSummed};
 ghost use Rattle.he_summary.specs.Tries.{AreRanked};
-ghost use Rattle.he_summary.specs.Kept.{Run};
-ghost use Rattle.he_summary.specs.Written.{IsWritten};
 
 use crate::adding::add_races;
-use crate::figures::Form;
 use crate::kept::{Kept, Place};
 use crate::tallies::{Tallies, Tally};
-use crate::writing::write_summary;
 use he_addr::{Ip, Memory};
 use he_course::Course;
 use he_inputs::StreamFault;
@@ -25,7 +21,7 @@ use std::marker::Model;
 /// race and row, and a tally for each address to which an attempt was made.
 #[derive(Drop)]
 pub struct Races<A: Allocator> {
-    alloc: A,
+    pub(crate) alloc: A,
     settings: Vec<Changes, A>,
     kept: Vec<Kept, A>,
     tallies: Tallies<A>,
@@ -155,24 +151,5 @@ impl<A: Allocator + Copy> Races<A> {
         ensures { IfOk result (λ told. AreRanked self.now.tallies told.items) }
     {
         self.tallies.ranked(self.alloc)
-    }
-
-    /// Appends a summary, with the slowest races, so many, each with the name of its file: these are the names by
-    /// place, as they may be shown; a file without one stands as `-`.
-    ///
-    /// # Errors
-    ///
-    /// `Memory` where an allocation was refused. A first part of the summary may then have been appended.
-    pub fn write(
-        &self,
-        form: Form,
-        slowest: usize,
-        names: &[String],
-        text: &mut Vec<u8, A>,
-    ) -> Result<(), Memory>
-        ensures { (runs : List Run) → HasSummed self.now runs
-            → OnOk result (IsWritten form runs slowest text.old.items text.new.items) }
-    {
-        write_summary(self.alloc, self, form, slowest, names, text)
     }
 }

@@ -7,7 +7,7 @@ ghost use Rattle.he_summary.specs.Kept.{Run};
 ghost use Rattle.he_summary.specs.Figures.{summary_facts, tally_facts};
 ghost use Rattle.he_summary.specs.Summed.{HasSummed};
 ghost use Rattle.he_summary.specs.Totals.{is_kind};
-ghost use Rattle.he_summary.specs.Written.{AreSlowest, IsNamed, IsWritten, Tells, TellsSlow, place_facts, slow_facts, slow_key, slowest_first};
+ghost use Rattle.he_summary.specs.Written.{AreSlowest, IsNamed, IsWritten, Tells, TellsSlow, TellsSlowest, place_facts, slow_facts, slow_key, slowest_first};
 ghost use Rattle.he_summary.specs.declared.totals.Kind.TheVariants.{Won};
 
 use crate::figures::{Form, Said, push_metrics, push_tally, push_totals};
@@ -20,35 +20,55 @@ use he_print::{Part, push_parts, write_parts, write_string};
 use std::alloc::Allocator;
 use std::cmp::Reverse;
 
-// Appends a summary of races: what is counted of them, the addresses to which most attempts were lost, and the slowest
-// races, so many, each with the name of its file.
-pub(crate) fn write_summary<A: Allocator + Copy>(
-    alloc: A,
-    races: &Races<A>,
-    form: Form,
-    slowest: usize,
-    names: &[String],
-    text: &mut Vec<u8, A>,
-) -> Result<(), Memory>
-    ensures { (runs : List Run) → HasSummed races.now runs
-        → OnOk result (IsWritten form runs slowest text.old.items text.new.items) }
-{
-    let totals = Totals::of(alloc, races.kept())?;
-    let failing = races.failing()?;
-    let mut parts = Vec::new(alloc);
-    push_summary(form, totals, failing.as_slice(), &mut parts)?;
-    write_parts(parts.as_slice(), text)?;
-    if slowest > 0 {
-        let slow = slowest_of(alloc, races.kept(), slowest)?;
-        write_slowest(alloc, form, slow.as_slice(), names, text)?;
+impl<A: Allocator + Copy> Races<A> {
+    /// Appends a summary, with the slowest races, so many, each with the name of its file: these are the names by
+    /// place, as they may be shown; a file without one stands as `-`.
+    ///
+    /// # Errors
+    ///
+    /// `Memory` where an allocation was refused. A first part of the summary may then have been appended.
+    pub fn write(
+        &self,
+        form: Form,
+        slowest: usize,
+        names: &[String],
+        text: &mut Vec<u8, A>,
+    ) -> Result<(), Memory>
+        ensures { (runs : List Run) → HasSummed self.now runs
+            → OnOk result (IsWritten form runs slowest text.old.items text.new.items) }
+    {
+        let totals = Totals::of(self.alloc, self.kept())?;
+        let failing = self.failing()?;
+        let mut parts = Vec::new(self.alloc);
+        push_summary(form, totals, failing.as_slice(), &mut parts)?;
+        write_parts(parts.as_slice(), text)?;
+        self.write_rest(form, slowest, names, text)
     }
-    let end: &[u8] = match form {
-        Form::Text => b"",
-        Form::Json => b"}\n",
-        Form::Metrics => b"# EOF\n",
-    };
-    text.extend_from_slice(end)?;
-    Ok(())
+
+    // Appends so many of the slowest races, and the end.
+    fn write_rest(
+        &self,
+        form: Form,
+        slowest: usize,
+        names: &[String],
+        text: &mut Vec<u8, A>,
+    ) -> Result<(), Memory>
+        ensures { OnOk result (TellsSlowest form slowest self.now.kept text.old.items text.new.items) }
+    {
+        let end: &[u8] = match form {
+            Form::Text => b"",
+            Form::Json => b"}\n",
+            Form::Metrics => b"# EOF\n",
+        };
+        if slowest == 0 {
+            text.extend_from_slice(end)?;
+            return Ok(());
+        }
+        let slow = slowest_of(self.alloc, self.kept(), slowest)?;
+        write_slowest(self.alloc, form, slow.as_slice(), names, text)?;
+        text.extend_from_slice(end)?;
+        Ok(())
+    }
 }
 
 fn push_summary<A: Allocator>(
