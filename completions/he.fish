@@ -50,7 +50,6 @@ complete -c he -n '__fish_seen_subcommand_from replay' -l json -d 'Write one JSO
 complete -c he -n '__fish_seen_subcommand_from replay' -s v -l verbose -d 'Explain the fault of a file as `he check` does, and say why a file can'\''t be read or written'
 complete -c he -n '__fish_seen_subcommand_from replay' -s h -l help -d 'Print help'
 complete -c he -n '__fish_seen_subcommand_from explain' -F
-complete -c he -n '__fish_seen_subcommand_from explain' -l lines -d 'Write lines for scripts, to be cut at their spaces'
 complete -c he -n '__fish_seen_subcommand_from explain' -l set -x -a 'attempt= resolution= count= limit= floor=' -d 'Override a setting in every race'
 complete -c he -n '__fish_seen_subcommand_from explain' -l json -d 'Write one JSON object for each race, each on a line'
 complete -c he -n '__fish_seen_subcommand_from explain' -s v -l verbose -d 'Explain the fault of a file as `he check` does, and say why a file can'\''t be read or written'
@@ -65,6 +64,7 @@ complete -c he -n '__fish_seen_subcommand_from draw' -s v -l verbose -d 'Explain
 complete -c he -n '__fish_seen_subcommand_from draw' -s h -l help -d 'Print help'
 complete -c he -n '__fish_seen_subcommand_from summary' -F
 complete -c he -n '__fish_seen_subcommand_from summary' -l json -d 'Write the sums as one JSON object, on one line'
+complete -c he -n '__fish_seen_subcommand_from summary' -l openmetrics -d 'Write the counts and times as OpenMetrics text'
 complete -c he -n '__fish_seen_subcommand_from summary' -l slowest -x -d 'Add the N slowest races that were won, each with its file and line'
 complete -c he -n '__fish_seen_subcommand_from summary' -l keep-going -d 'Go on to the next file after a faulty one'
 complete -c he -n '__fish_seen_subcommand_from summary' -l set -x -a 'attempt= resolution= count= limit= floor=' -d 'Override a setting in every race'

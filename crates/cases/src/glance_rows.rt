@@ -22,7 +22,8 @@ A answer      |            o               | 25 ms, 1 usable
 ==> - <==
 ";
 
-const SUMMARY: &[u8] = b"1 race: 1 won (100.0 %), 1 by IPv6 (100.0 %), 0 by IPv4 (0.0 %), 0 exhausted (0.0 %), \
+const SUMMARY: &[u8] =
+    b"1 race: 1 won (100.0 %), 1 by IPv6 (100.0 %), 0 by IPv4 (0.0 %), 0 exhausted (0.0 %), \
 0 at the limit (0.0 %)
 time to connect: median 55 ms, 90 of 100 within 55 ms, 99 of 100 within 55 ms, greatest 55 ms
 no time was lost to addresses that failed
@@ -32,7 +33,8 @@ the Resolution Delay was waited out in 0 races (0.0 %)
 ";
 
 // The same with the slowest race.
-const SLOWEST: &[u8] = b"1 race: 1 won (100.0 %), 1 by IPv6 (100.0 %), 0 by IPv4 (0.0 %), 0 exhausted (0.0 %), \
+const SLOWEST: &[u8] =
+    b"1 race: 1 won (100.0 %), 1 by IPv6 (100.0 %), 0 by IPv4 (0.0 %), 0 exhausted (0.0 %), \
 0 at the limit (0.0 %)
 time to connect: median 55 ms, 90 of 100 within 55 ms, 99 of 100 within 55 ms, greatest 55 ms
 no time was lost to addresses that failed
@@ -44,7 +46,8 @@ slowest:
 ";
 
 // Of the input, and of a file with a race that is given up at its limit.
-const SUMMARY_OF_TWO: &[u8] = b"2 races: 1 won (50.0 %), 1 by IPv6 (50.0 %), 0 by IPv4 (0.0 %), 0 exhausted (0.0 %), \
+const SUMMARY_OF_TWO: &[u8] =
+    b"2 races: 1 won (50.0 %), 1 by IPv6 (50.0 %), 0 by IPv4 (0.0 %), 0 exhausted (0.0 %), \
 1 at the limit (50.0 %)
 time to connect: median 55 ms, 90 of 100 within 55 ms, 99 of 100 within 55 ms, greatest 55 ms
 no time was lost to addresses that failed
@@ -69,23 +72,47 @@ const SUMMARY_JSON: &[u8] =
 \"resolution_delay\":0,\"failing\":[]}
 ";
 
+const METRICS: &[u8] = b"# TYPE he_races counter
+he_races_total{result=\"won\",family=\"ipv6\"} 1
+he_races_total{result=\"won\",family=\"ipv4\"} 0
+he_races_total{result=\"exhausted\"} 0
+he_races_total{result=\"limit\"} 0
+# TYPE he_connect_milliseconds summary
+he_connect_milliseconds{quantile=\"0.5\"} 55
+he_connect_milliseconds{quantile=\"0.9\"} 55
+he_connect_milliseconds{quantile=\"0.99\"} 55
+he_connect_milliseconds{quantile=\"1\"} 55
+he_connect_milliseconds_sum 55
+he_connect_milliseconds_count 1
+# TYPE he_lost_milliseconds counter
+he_lost_milliseconds_total{to=\"failed\"} 0
+he_lost_milliseconds_total{to=\"silent\"} 0
+# TYPE he_attempts counter
+he_attempts_total 1
+# TYPE he_resolution_delays counter
+he_resolution_delays_total 0
+# EOF
+";
+
 const TRANSCRIPT_JSON: &[u8] =
-    b"{\"attempts\":[{\"attempt\":0,\"start\":20,\"address\":\"2001:db8:1::1\",\
+    b"{\"file\":null,\"race\":1,\"line\":1,\"attempts\":[{\"attempt\":0,\"start\":20,\"address\":\"2001:db8:1::1\",\
 \"end\":\"won\",\"tick\":55}],\"result\":{\"end\":\"won\",\"attempt\":0,\"tick\":55}}
 ";
 
 const ORDER_JSON: &[u8] =
-    b"{\"order\":[{\"place\":0,\"address\":\"2001:db8:1::1\",\"source\":\"2001:db8::2\"},\
+    b"{\"file\":null,\"race\":1,\"line\":1,\"order\":[\
+{\"place\":0,\"address\":\"2001:db8:1::1\",\"source\":\"2001:db8::2\"},\
 {\"place\":1,\"address\":\"198.51.100.1\",\"source\":\"192.0.2.2\"}]}
 ";
 
 const EXPLANATION_JSON: &[u8] =
-    b"{\"order\":[{\"place\":0,\"address\":\"2001:db8:1::1\",\"source\":\"2001:db8::2\"},\
+    b"{\"file\":null,\"race\":1,\"line\":1,\"order\":[\
+{\"place\":0,\"address\":\"2001:db8:1::1\",\"source\":\"2001:db8::2\"},\
 {\"place\":1,\"address\":\"198.51.100.1\",\"source\":\"192.0.2.2\",\"rule\":\"6\",\"why\":\"prefer higher precedence\",\
 \"own\":35,\"before\":40}],\"events\":[{\"tick\":20,\"event\":\"answer\"";
 
 /// Those that draw it, sum it up, or write JSON.
-pub static GLANCE_ROWS: [Row; 25] = [
+pub static GLANCE_ROWS: [Row; 26] = [
     (
         &["he", "draw", "--ascii", "--width", "60"],
         TEXT,
@@ -141,6 +168,14 @@ pub static GLANCE_ROWS: [Row; 25] = [
         Streams::Whole,
         0,
         SLOWEST,
+        b"",
+    ),
+    (
+        &["he", "summary", "--openmetrics"],
+        TEXT,
+        Streams::Whole,
+        0,
+        METRICS,
         b"",
     ),
     (

@@ -11,7 +11,7 @@ use Rattle.he_compare.specs.declared.row.Said.{Said}
 
 abbrev pub told_facts : Form → Row → List (Fact Said)
 told_facts forms.Text row = row_facts row
-told_facts forms.Json row = object_facts row
+told_facts _ row = object_facts row
 
 -- from this row on so many rows, each between words
 abbrev pub IsTable : Form → List Kept → ℕ → ℕ → List ℕ → List ℕ → Type 0

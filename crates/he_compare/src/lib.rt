@@ -1,9 +1,9 @@
 //! What races would have been with other settings.
 //!
 //! The races are those that he_summary keeps ([`Races`](he_summary::Races)), each as it stands, in the first row, and
-//! with the settings of further rows. [`write_table`] writes a row for each: the times to connect, the attempts a race,
-//! which share IPv6 won, and on how many races which verdict is ([`Verdict`]). [`write_lines`] writes a line for each
-//! race and row.
+//! with the settings of further rows. [`write_table`] writes a row for each: the times to connect, the attempts a
+//! race, which share IPv6 won, and on how many races which verdict is ([`Verdict`]). [`write_lines`] writes a line for
+//! each race and row.
 //!
 //! ```text
 //!     p50    p90    p99  attempts    IPv6  sooner   later    same  only with  only without  settings

@@ -55,7 +55,7 @@ fn append_name<A: Allocator>(form: Form, name: &str, text: &mut Vec<u8, A>) -> R
 {
     match form {
         Form::Text => text.extend_from_slice(name.as_bytes())?,
-        Form::Json => {
+        Form::Json | Form::Metrics => {
             text.extend_from_slice(b"{\"file\":")?;
             write_string(name.as_bytes(), text)?;
         }
@@ -76,7 +76,7 @@ fn append_settings<A: Allocator>(
             text.extend_from_slice(name.as_bytes())?;
             text.extend_from_slice(b")\n")?;
         }
-        Form::Json => {
+        Form::Json | Form::Metrics => {
             text.extend_from_slice(b",\"settings\":")?;
             write_string(name.as_bytes(), text)?;
             text.extend_from_slice(b"}\n")?;
@@ -97,7 +97,11 @@ fn append_line<A: Allocator + Copy>(
     let mut parts = Vec::new(alloc);
     push_place(form, race.place, &mut parts)?;
     push_ending(form, race.ending, &mut parts)?;
-    push_verdict(form, Verdict::of(stands, value_of(Value::Time, race)), &mut parts)?;
+    push_verdict(
+        form,
+        Verdict::of(stands, value_of(Value::Time, race)),
+        &mut parts,
+    )?;
     write_parts(parts.as_slice(), text)
 }
 
@@ -127,7 +131,7 @@ fn push_won<A: Allocator>(
 {
     let words: [&'static [u8]; 3] = match form {
         Form::Text => [b": connected to ", b" after ", b" ms"],
-        Form::Json => [b",\"ended\":\"won\",\"address\":\"", b"\",\"ms\":", b""],
+        Form::Json | Form::Metrics => [b",\"ended\":\"won\",\"address\":\"", b"\",\"ms\":", b""],
     };
     push_parts(
         &[
@@ -152,11 +156,14 @@ fn push_end<A: Allocator>(
 {
     let (before, after): (&'static [u8], &'static [u8]) = match (form, said) {
         (Form::Text, Told::Won) => (b": connected after ", b" ms"),
-        (Form::Text, Told::Exhausted) => (b": not connected: nothing is left to try after ", b" ms"),
+        (Form::Text, Told::Exhausted) => (
+            b": not connected: nothing is left to try after ",
+            b" ms",
+        ),
         (Form::Text, _) => (b": not connected by the limit of ", b" ms"),
-        (Form::Json, Told::Won) => (b",\"ended\":\"won\",\"ms\":", b""),
-        (Form::Json, Told::Exhausted) => (b",\"ended\":\"exhausted\",\"ms\":", b""),
-        (Form::Json, _) => (b",\"ended\":\"limit\",\"ms\":", b""),
+        (_, Told::Won) => (b",\"ended\":\"won\",\"ms\":", b""),
+        (_, Told::Exhausted) => (b",\"ended\":\"exhausted\",\"ms\":", b""),
+        (_, _) => (b",\"ended\":\"limit\",\"ms\":", b""),
     };
     push_parts(
         &[
@@ -173,9 +180,13 @@ fn push_verdict<A: Allocator>(
     verdict: Verdict,
     text: &mut Vec<Part<Told>, A>,
 ) -> Result<(), Memory>
-    ensures { OnOk result (flat_map fact_of text.new.items ≡ flat_map fact_of text.old.items ++ verdict_facts verdict) }
+    ensures { OnOk result (flat_map fact_of text.new.items ≡ flat_map fact_of text.old.items
+        ++ verdict_facts verdict) }
 {
-    push_parts(&[Part::Says(Told::Is(verdict), verdict_words(form, verdict))], text)
+    push_parts(
+        &[Part::Says(Told::Is(verdict), verdict_words(form, verdict))],
+        text,
+    )
 }
 
 fn verdict_words(form: Form, verdict: Verdict) -> &'static [u8] {
@@ -186,11 +197,11 @@ fn verdict_words(form: Form, verdict: Verdict) -> &'static [u8] {
         (Form::Text, Verdict::OnlyWith) => b", won only with",
         (Form::Text, Verdict::OnlyWithout) => b", won only without",
         (Form::Text, Verdict::Neither) => b", not won either way",
-        (Form::Json, Verdict::Sooner) => b",\"verdict\":\"sooner\"",
-        (Form::Json, Verdict::Later) => b",\"verdict\":\"later\"",
-        (Form::Json, Verdict::Same) => b",\"verdict\":\"same\"",
-        (Form::Json, Verdict::OnlyWith) => b",\"verdict\":\"only with\"",
-        (Form::Json, Verdict::OnlyWithout) => b",\"verdict\":\"only without\"",
-        (Form::Json, Verdict::Neither) => b",\"verdict\":\"neither\"",
+        (_, Verdict::Sooner) => b",\"verdict\":\"sooner\"",
+        (_, Verdict::Later) => b",\"verdict\":\"later\"",
+        (_, Verdict::Same) => b",\"verdict\":\"same\"",
+        (_, Verdict::OnlyWith) => b",\"verdict\":\"only with\"",
+        (_, Verdict::OnlyWithout) => b",\"verdict\":\"only without\"",
+        (_, Verdict::Neither) => b",\"verdict\":\"neither\"",
     }
 }

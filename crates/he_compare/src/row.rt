@@ -57,10 +57,7 @@ fn own_of<A: Allocator>(alloc: A, row: usize, kept: &[Kept]) -> Result<Vec<Kept,
 
 // The cells of a row: the times to connect, the attempts a race, which share of the races that were won was won by
 // IPv6, and the verdicts.
-pub(crate) fn push_row<A: Allocator>(
-    row: Row,
-    text: &mut Vec<Part<Said>, A>,
-) -> Result<(), Memory>
+pub(crate) fn push_row<A: Allocator>(row: Row, text: &mut Vec<Part<Said>, A>) -> Result<(), Memory>
     ensures { OnOk result (flat_map fact_of text.new.items ≡ flat_map fact_of text.old.items ++ row_facts row) }
 {
     let counts = row.totals.counts;
@@ -146,7 +143,8 @@ fn push_verdicts<A: Allocator>(
     verdicts: Verdicts,
     text: &mut Vec<Part<Said>, A>,
 ) -> Result<(), Memory>
-    ensures { OnOk result (flat_map fact_of text.new.items ≡ flat_map fact_of text.old.items ++ verdict_facts verdicts) }
+    ensures { OnOk result (flat_map fact_of text.new.items ≡ flat_map fact_of text.old.items
+        ++ verdict_facts verdicts) }
 {
     push_parts(
         &[

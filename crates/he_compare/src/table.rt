@@ -52,7 +52,7 @@ fn append<A: Allocator>(
 {
     match form {
         Form::Text => text.extend_from_slice(words)?,
-        Form::Json => text.extend_from_slice(json)?,
+        Form::Json | Form::Metrics => text.extend_from_slice(json)?,
     }
     Ok(())
 }
@@ -68,7 +68,7 @@ fn append_cells<A: Allocator + Copy>(
     let mut parts = Vec::new(alloc);
     match form {
         Form::Text => push_row(row, &mut parts)?,
-        Form::Json => push_object(row, &mut parts)?,
+        Form::Json | Form::Metrics => push_object(row, &mut parts)?,
     }
     write_parts(parts.as_slice(), text)
 }
@@ -86,7 +86,7 @@ fn append_settings<A: Allocator>(
             text.extend_from_slice(settings.as_bytes())?;
             text.push(b'\n')?;
         }
-        Form::Json => {
+        Form::Json | Form::Metrics => {
             text.extend_from_slice(b",\"settings\":")?;
             write_string(settings.as_bytes(), text)?;
             text.push(b'}')?;

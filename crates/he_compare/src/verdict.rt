@@ -93,7 +93,10 @@ pub(crate) fn counts_of(verdicts: &[Verdict]) -> Verdicts
 fn count(verdicts: &[Verdict], verdict: Verdict) -> u64
     ensures { result ≡ count_by (is_like verdict) verdicts.now }
 {
-    verdicts.iter().filter(|other| is_like(verdict, **other)).count() as u64
+    verdicts
+        .iter()
+        .filter(|other| is_like(verdict, **other))
+        .count() as u64
 }
 
 fn is_like(verdict: Verdict, other: Verdict) -> bool

@@ -81,8 +81,9 @@ AsksExplain found task =
 
 abbrev pub AsksSummary : {E : Type 0} → (List ℕ → Result ℕ E → Type 0) → Found → Task → Type 0
 AsksSummary gives found task =
-    (json : Bool) × (slowest : Option ℕ) × HasFlag found (codes "json") json
-    × HasNumber gives found (codes "slowest") slowest × (task ≡ Summarize json (unwrap_or slowest 0))
+    (json metrics : Bool) × (slowest : Option ℕ) × HasFlag found (codes "json") json
+    × HasFlag found (codes "openmetrics") metrics × HasNumber gives found (codes "slowest") slowest
+    × (task ≡ Summarize json metrics (unwrap_or slowest 0))
 
 -- a comparison, as JSON or not, with the races or without, of the files and with the settings of the line
 pub record AsksComparison (found : Found) (texts : Texts) : Type 0 where

@@ -13,6 +13,8 @@ const ABOUT: &str = "Sum up how races went";
 
 const JSON_HELP: &str = "Write the sums as one JSON object, on one line";
 
+const METRICS_HELP: &str = "Write the counts and times as OpenMetrics text";
+
 const SLOWEST_HELP: &str = "Add the N slowest races that were won, each with its\nfile and line";
 
 const KEEP_GOING_HELP: &str = "Go on to the next file after a faulty one";
@@ -43,9 +45,13 @@ For the example of `he draw --help` it writes (lines are broken here):
     1 failed, 0 silent of 1 attempt to 2001:db8:1::1";
 
 pub(crate) fn command<'a>(alloc: Global) -> Result<Command<'a>, AllocError> {
+    let metrics = flag(alloc, "openmetrics", METRICS_HELP)
+        .conflicts_with("json")?
+        .conflicts_with("slowest")?;
     let args = vec![in alloc;
         files(alloc, FILES_HELP),
         flag(alloc, "json", JSON_HELP),
+        metrics,
         value(alloc, "slowest", "N", SLOWEST_HELP).value_parser(value_parser!(u16).range(
             1..=65_535
         )),
@@ -62,6 +68,7 @@ pub(crate) fn task_of(matches: &ArgMatches<'_>) -> Task
 {
     Task::Summarize {
         is_json: flag_of(matches, "json"),
+        is_metrics: flag_of(matches, "openmetrics"),
         slowest: number_of(matches, "slowest").unwrap_or(0),
     }
 }

@@ -17,14 +17,27 @@ use std::str::FromStr;
 #[derive(Clone, Copy)]
 pub enum Task {
     /// To write this of each race, by at most so many workers, 1 to 64.
-    Write { content: Content, workers: u16 },
+    Write {
+        content: Content,
+        workers: u16,
+    },
     /// To compare the races of all texts with what they would be with other settings, as JSON or in a table, and in
     /// lines for each race too, or in the table alone.
-    Compare { is_json: bool, tells_races: bool },
+    Compare {
+        is_json: bool,
+        tells_races: bool,
+    },
     /// To check it, and to explain its first fault, or each after which it goes on, or to warn of its slips.
-    Check { is_all: bool },
-    /// To sum its races up with those of the other texts, as JSON or in lines, with so many of the slowest ones.
-    Summarize { is_json: bool, slowest: u16 },
+    Check {
+        is_all: bool,
+    },
+    /// To sum its races up with those of the other texts, as JSON, as metrics or in lines, with so many of the slowest
+    /// ones.
+    Summarize {
+        is_json: bool,
+        is_metrics: bool,
+        slowest: u16,
+    },
 }
 
 /// What is written of a race.

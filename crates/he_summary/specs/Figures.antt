@@ -33,7 +33,7 @@ share_facts number of = facts.Number (share number of / 10) ∷ facts.Number (sh
 abbrev pub shown_share : Form → ℕ → ℕ → List (Fact Said)
 shown_share forms.Text number zero = []
 shown_share forms.Text number (suc of) = share_facts number (suc of)
-shown_share forms.Json number of = []
+shown_share _ number of = []
 
 abbrev pub figure_facts : Form → Figure → List (Fact Said)
 figure_facts form figure =
@@ -81,6 +81,25 @@ totals_facts form totals =
     ++ (lost_facts form losses.Failed totals.lost_to_failed totals.counts.won
     ++ (lost_facts form losses.Silent totals.lost_to_silent totals.counts.won ++ end_facts form totals)))
 
+abbrev pub total_of : Option Spread → ℕ
+total_of spread = option_map_or (λ s. s.total) spread 0
+
+-- as metrics: the races by how they ended, and the times to connect, to which the sum and the number of them belong;
+-- then the time that was lost to addresses that failed and to silent ones, the attempts, and the races that waited
+abbrev pub metrics_facts : Totals → List (Fact Said)
+metrics_facts totals =
+    flat_map (figure_facts forms.Metrics)
+    (told (Are (kinds.WonBy families.V6)) totals.counts.by_v6 0
+    ∷ told (Are (kinds.WonBy families.V4)) totals.counts.by_v4 0
+    ∷ told (Are kinds.Exhausted) totals.counts.exhausted 0 ∷ told (Are kinds.Limit) totals.counts.limit 0 ∷ [])
+    ++ (time_facts forms.Metrics totals.times
+    ++ flat_map (figure_facts forms.Metrics)
+    (told (Total values.Time) (total_of totals.times) 0 ∷ told (Count values.Time) totals.counts.won 0
+    ∷ told (Total (values.LostTo losses.Failed)) (total_of totals.lost_to_failed) 0
+    ∷ told (Total (values.LostTo losses.Silent)) (total_of totals.lost_to_silent) 0
+    ∷ told (Total values.Attempts) (total_of totals.attempts) 0
+    ∷ told (Are kinds.Waited) totals.counts.waited 0 ∷ []))
+
 -- of an address: how many attempts failed, how many were silent, and how many there were
 abbrev pub tally_facts : Form → Ip × Tally → List (Fact Said)
 tally_facts form tallied =
@@ -90,4 +109,5 @@ tally_facts form tallied =
 
 -- what a summary says
 abbrev pub summary_facts : Form → Totals → List (Ip × Tally) → List (Fact Said)
+summary_facts forms.Metrics totals failing = metrics_facts totals
 summary_facts form totals failing = totals_facts form totals ++ flat_map (tally_facts form) failing

@@ -46,7 +46,7 @@ AreRows race place row (changes ∷ settings) [] = ⊥
 AreRows race place row (changes ∷ settings) (run ∷ runs) =
     IsRow race place row changes run × AreRows race place (row + 1) settings runs
 
--- the text is, behind so many races and lines of a file, one after the other, a text of each race, whose rows these are
+-- after so many races and lines of a file the text is, one after the other, a text of each race, whose rows these are
 abbrev pub AreRuns : List ChangeValues → ℕ → ℕ → ℕ → List Race → List ℕ → List Run → Type 0
 AreRuns settings file before lines [] text runs = (text ≡ []) × (runs ≡ [])
 AreRuns settings file before lines (race ∷ races) text runs =

@@ -45,7 +45,7 @@ AreSlowest most kept slow =
 -- where a race stands: at which line it begins, and its number
 abbrev pub place_facts : {S : Type 0} → Form → Place → List (Fact S)
 place_facts forms.Text place = facts.Number place.line ∷ facts.Number place.number ∷ []
-place_facts forms.Json place = facts.Number place.number ∷ facts.Number place.line ∷ []
+place_facts _ place = facts.Number place.number ∷ facts.Number place.line ∷ []
 
 -- the time to connect, to which address, and what the race lost
 abbrev pub won_facts : Option ℕ → Ending → List (Fact Said)

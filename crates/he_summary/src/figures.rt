@@ -4,7 +4,7 @@ ghost use Rattle.std.specs.List.{flat_map};
 ghost use Rattle.he_print.specs.Parts.{fact_of};
 ghost use Rattle.he_print.specs.declared.part.Fact.TheVariants as facts;
 ghost use Rattle.he_summary.specs.declared.figures.Said.TheVariants.{NoOne};
-ghost use Rattle.he_summary.specs.Figures.{count_facts, end_facts, figure_facts, lost_facts, share, share_facts, tally_facts, time_facts, told, totals_facts};
+ghost use Rattle.he_summary.specs.Figures.{count_facts, end_facts, figure_facts, lost_facts, metrics_facts, share, share_facts, tally_facts, time_facts, told, total_of, totals_facts};
 
 use crate::kept::Loss;
 use crate::tallies::Tally;
@@ -22,6 +22,8 @@ pub enum Form {
     Text,
     /// One JSON object on one line.
     Json,
+    /// The counts and the times to connect as OpenMetrics text.
+    Metrics,
 }
 
 /// What is said of races.
@@ -57,7 +59,8 @@ pub(crate) fn push_totals<A: Allocator>(
     totals: Totals,
     text: &mut Vec<Part<Said>, A>,
 ) -> Result<(), Memory>
-    ensures { OnOk result (flat_map fact_of text.new.items ≡ flat_map fact_of text.old.items ++ totals_facts form totals) }
+    ensures { OnOk result (flat_map fact_of text.new.items ≡ flat_map fact_of text.old.items
+        ++ totals_facts form totals) }
 {
     push_counts(form, totals.counts, text)?;
     push_times(form, totals.times, text)?;
@@ -83,7 +86,8 @@ fn push_counts<A: Allocator>(
     counts: Counts,
     text: &mut Vec<Part<Said>, A>,
 ) -> Result<(), Memory>
-    ensures { OnOk result (flat_map fact_of text.new.items ≡ flat_map fact_of text.old.items ++ count_facts form counts) }
+    ensures { OnOk result (flat_map fact_of text.new.items ≡ flat_map fact_of text.old.items
+        ++ count_facts form counts) }
 {
     let races = counts.races;
     push_figures(
@@ -105,7 +109,8 @@ fn push_times<A: Allocator>(
     times: Option<Spread>,
     text: &mut Vec<Part<Said>, A>,
 ) -> Result<(), Memory>
-    ensures { OnOk result (flat_map fact_of text.new.items ≡ flat_map fact_of text.old.items ++ time_facts form times) }
+    ensures { OnOk result (flat_map fact_of text.new.items ≡ flat_map fact_of text.old.items
+        ++ time_facts form times) }
 {
     let value = Value::Time;
     match times {
@@ -130,7 +135,8 @@ fn push_lost<A: Allocator>(
     won: u64,
     text: &mut Vec<Part<Said>, A>,
 ) -> Result<(), Memory>
-    ensures { OnOk result (flat_map fact_of text.new.items ≡ flat_map fact_of text.old.items ++ lost_facts form loss lost won) }
+    ensures { OnOk result (flat_map fact_of text.new.items ≡ flat_map fact_of text.old.items
+        ++ lost_facts form loss lost won) }
 {
     let value = Value::LostTo(loss);
     match lost {
@@ -153,7 +159,8 @@ fn push_none<A: Allocator>(
     value: Value,
     text: &mut Vec<Part<Said>, A>,
 ) -> Result<(), Memory>
-    ensures { OnOk result (flat_map fact_of text.new.items ≡ flat_map fact_of text.old.items ++ facts.Said (NoOne value) ∷ []) }
+    ensures { OnOk result (flat_map fact_of text.new.items ≡ flat_map fact_of text.old.items
+        ++ facts.Said (NoOne value) ∷ []) }
 {
     let said = Said::NoOne(value);
     push_parts(&[Part::Says(said, before(form, said))], text)
@@ -165,7 +172,8 @@ fn push_end<A: Allocator>(
     totals: Totals,
     text: &mut Vec<Part<Said>, A>,
 ) -> Result<(), Memory>
-    ensures { OnOk result (flat_map fact_of text.new.items ≡ flat_map fact_of text.old.items ++ end_facts form totals) }
+    ensures { OnOk result (flat_map fact_of text.new.items ≡ flat_map fact_of text.old.items
+        ++ end_facts form totals) }
 {
     let value = Value::Attempts;
     let (total, greatest) = match totals.attempts {
@@ -190,7 +198,8 @@ pub(crate) fn push_tally<A: Allocator>(
     tallied: (Ip, Tally),
     text: &mut Vec<Part<Said>, A>,
 ) -> Result<(), Memory>
-    ensures { OnOk result (flat_map fact_of text.new.items ≡ flat_map fact_of text.old.items ++ tally_facts form tallied) }
+    ensures { OnOk result (flat_map fact_of text.new.items ≡ flat_map fact_of text.old.items
+        ++ tally_facts form tallied) }
 {
     let (ip, tally) = tallied;
     push_figures(
@@ -207,7 +216,7 @@ pub(crate) fn push_tally<A: Allocator>(
             &[Part::Words(b" to "), Part::Ip(ip), Part::Words(b"\n")],
             text,
         ),
-        Form::Json => {
+        Form::Json | Form::Metrics => {
             push_parts(
                 &[
                     Part::Words(b",\"address\":\""),
@@ -217,6 +226,56 @@ pub(crate) fn push_tally<A: Allocator>(
                 text,
             )
         }
+    }
+}
+
+// Tells the counts and the times to connect as metrics.
+pub(crate) fn push_metrics<A: Allocator>(
+    totals: Totals,
+    text: &mut Vec<Part<Said>, A>,
+) -> Result<(), Memory>
+    ensures { OnOk result (flat_map fact_of text.new.items ≡ flat_map fact_of text.old.items ++ metrics_facts totals) }
+{
+    let counts = totals.counts;
+    push_figures(
+        Form::Metrics,
+        &[
+            told(Said::Are(Kind::WonBy(Family::V6)), counts.by_v6, 0),
+            told(Said::Are(Kind::WonBy(Family::V4)), counts.by_v4, 0),
+            told(Said::Are(Kind::Exhausted), counts.exhausted, 0),
+            told(Said::Are(Kind::Limit), counts.limit, 0),
+        ],
+        text,
+    )?;
+    push_times(Form::Metrics, totals.times, text)?;
+    push_figures(
+        Form::Metrics,
+        &[
+            told(Said::Total(Value::Time), total_of(totals.times), 0),
+            told(Said::Count(Value::Time), counts.won, 0),
+            told(
+                Said::Total(Value::LostTo(Loss::Failed)),
+                total_of(totals.lost_to_failed),
+                0,
+            ),
+            told(
+                Said::Total(Value::LostTo(Loss::Silent)),
+                total_of(totals.lost_to_silent),
+                0,
+            ),
+            told(Said::Total(Value::Attempts), total_of(totals.attempts), 0),
+            told(Said::Are(Kind::Waited), counts.waited, 0),
+        ],
+        text,
+    )
+}
+
+fn total_of(spread: Option<Spread>) -> u64
+    ensures { result ≡ total_of spread }
+{
+    match spread {
+        Some(spread) => spread.total,
+        None => 0,
     }
 }
 
@@ -245,7 +304,8 @@ fn push_figure<A: Allocator>(
     figure: Figure,
     text: &mut Vec<Part<Said>, A>,
 ) -> Result<(), Memory>
-    ensures { OnOk result (flat_map fact_of text.new.items ≡ flat_map fact_of text.old.items ++ figure_facts form figure) }
+    ensures { OnOk result (flat_map fact_of text.new.items ≡ flat_map fact_of text.old.items
+        ++ figure_facts form figure) }
 {
     let said = figure.said;
     push_parts(
@@ -269,7 +329,8 @@ fn push_share<A: Allocator>(
     text: &mut Vec<Part<Said>, A>,
 ) -> Result<(), Memory>
     requires { 0 < of }
-    ensures { OnOk result (flat_map fact_of text.new.items ≡ flat_map fact_of text.old.items ++ share_facts number of) }
+    ensures { OnOk result (flat_map fact_of text.new.items ≡ flat_map fact_of text.old.items
+        ++ share_facts number of) }
 {
     let tenths = share(number, of);
     push_parts(

@@ -1,11 +1,11 @@
 //! Many races at a glance.
 //!
-//! [`Races`] reads inputs of timelines, one after the other, and keeps a small record of each race ([`Kept`]) for each
-//! row of settings ([`Changes`](he_timeline::Changes)): a summary has one row, a comparison (he_compare) several. What
-//! is told is counted over these records ([`Totals`]), in few lines or in one JSON object:
+//! [`Races`] reads inputs of timelines, one after the other, and keeps a small record of each race ([`Kept`]) for
+//! each row of settings ([`Changes`](he_timeline::Changes)): a summary has one row, a comparison (he_compare) several.
+//! What is told is counted over these records ([`Totals`]), in few lines, in one JSON object or as metrics:
 //!
 //! ```text
-//! 2000 races: 1890 won (94.5 %), 1500 by IPv6 (75.0 %), 390 by IPv4 (19.5 %), 90 exhausted (4.5 %), 20 at the limit ..
+//! 2000 races: 1890 won (94.5 %), 1500 by IPv6 (75.0 %), 390 by IPv4 (19.5 %), 90 exhausted (4.5 %), 20 at the ..
 //! time to connect: median 45 ms, 90 of 100 within 300 ms, 99 of 100 within 1250 ms, greatest 2950 ms
 //! lost to addresses that failed: in 20 races (1.1 %), 1200 ms in all, median 60 ms, greatest 250 ms
 //! lost to silent addresses: in 100 races (5.3 %), 24000 ms in all, median 247 ms, greatest 500 ms
@@ -17,11 +17,11 @@
 //!   office.timeline:12 race 2: 2950 ms to 198.51.100.5, 500 ms lost
 //! ```
 //!
-//! Proved, whatever the inputs: what is kept is that of the courses of all races of the inputs with the settings of each
-//! row, each input up to its first fault, which is the result (`specs/Kept`, `specs/Summed`). A percentile is the least
-//! number within which so many of 100 lie (`specs/Times`), each count one over what is kept (`specs/Totals`). The
-//! addresses are the ten to which most attempts failed or were silent (`specs/Tries`), the slowest races the first of
-//! the won ones by time (`specs/Written`). The text states these numbers, each with what it says, in this order
+//! Proved, whatever the inputs: what is kept is that of the courses of all races of the inputs with the settings of
+//! each row, each input up to its first fault, which is the result (`specs/Kept`, `specs/Summed`). A percentile is the
+//! least number within which so many of 100 lie (`specs/Times`), each count one over what is kept (`specs/Totals`).
+//! The addresses are the ten to which most attempts failed or were silent (`specs/Tries`), the slowest races the first
+//! of the won ones by time (`specs/Written`). The text states these numbers, each with what it says, in this order
 //! (`specs/Figures`). The words between are free.
 //!
 //! Not proved: that a call succeeds where memory is granted.

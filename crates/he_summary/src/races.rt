@@ -21,8 +21,8 @@ use he_timeline::{Changes, Timeline};
 use std::alloc::Allocator;
 use std::marker::Model;
 
-/// What is kept of the races of some inputs, each of which runs with the settings of each row: a [`Kept`] for each race
-/// and row, and a tally for each address to which an attempt was made.
+/// What is kept of the races of some inputs, each of which runs with the settings of each row: a [`Kept`] for each
+/// race and row, and a tally for each address to which an attempt was made.
 #[derive(Drop)]
 pub struct Races<A: Allocator> {
     alloc: A,

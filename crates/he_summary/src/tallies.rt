@@ -16,7 +16,8 @@ use std::marker::Model;
 // The most addresses that are told.
 const MOST_TOLD: usize = 10;
 
-/// How many attempts to an address there were, and how many of these failed and were silent. Each counts up to 2^64 - 1.
+/// How many attempts to an address there were, and how many of these failed and were silent. Each counts up to
+/// 2^64 - 1.
 #[derive(Clone, Copy, Debug, PartialEq, Eq)]
 pub struct Tally {
     pub failed: u64,

@@ -10,6 +10,7 @@ pub(crate) fn before(form: Form, said: Said) -> &'static [u8] {
     match form {
         Form::Text => before_in_text(said),
         Form::Json => before_in_json(said),
+        Form::Metrics => before_in_metrics(said),
     }
 }
 
@@ -18,6 +19,7 @@ pub(crate) fn after(form: Form, said: Said, number: u64) -> &'static [u8] {
     match form {
         Form::Text => after_in_text(said, number),
         Form::Json => after_in_json(said),
+        Form::Metrics => b"\n",
     }
 }
 
@@ -98,5 +100,32 @@ fn after_in_json(said: Said) -> &'static [u8] {
         Said::Greatest(Value::LostTo(Loss::Silent)) => b"}}",
         Said::Greatest(_) => b"}",
         _ => b"",
+    }
+}
+
+// The name of a metric, below its type where it is the first of it.
+fn before_in_metrics(said: Said) -> &'static [u8] {
+    match said {
+        Said::Are(Kind::WonBy(Family::V6)) => {
+            b"# TYPE he_races counter\nhe_races_total{result=\"won\",family=\"ipv6\"} "
+        }
+        Said::Are(Kind::WonBy(Family::V4)) => b"he_races_total{result=\"won\",family=\"ipv4\"} ",
+        Said::Are(Kind::Exhausted) => b"he_races_total{result=\"exhausted\"} ",
+        Said::Are(Kind::Limit) => { b"he_races_total{result=\"limit\"} " }
+        Said::NoOne(_) => b"# TYPE he_connect_milliseconds summary\n",
+        Said::Median(_) => {
+            b"# TYPE he_connect_milliseconds summary\nhe_connect_milliseconds{quantile=\"0.5\"} "
+        }
+        Said::P90(_) => b"he_connect_milliseconds{quantile=\"0.9\"} ",
+        Said::P99(_) => b"he_connect_milliseconds{quantile=\"0.99\"} ",
+        Said::Greatest(_) => b"he_connect_milliseconds{quantile=\"1\"} ",
+        Said::Total(Value::Time) => b"he_connect_milliseconds_sum ",
+        Said::Count(_) => b"he_connect_milliseconds_count ",
+        Said::Total(Value::LostTo(Loss::Failed)) => {
+            b"# TYPE he_lost_milliseconds counter\nhe_lost_milliseconds_total{to=\"failed\"} "
+        }
+        Said::Total(Value::LostTo(Loss::Silent)) => b"he_lost_milliseconds_total{to=\"silent\"} ",
+        Said::Total(_) => b"# TYPE he_attempts counter\nhe_attempts_total ",
+        _ => b"# TYPE he_resolution_delays counter\nhe_resolution_delays_total ",
     }
 }

@@ -10,7 +10,7 @@ ghost use Rattle.he_summary.specs.Totals.{is_kind};
 ghost use Rattle.he_summary.specs.Written.{AreSlowest, IsNamed, IsWritten, Tells, TellsSlow, place_facts, slow_facts, slow_key, slowest_first};
 ghost use Rattle.he_summary.specs.declared.totals.Kind.TheVariants.{Won};
 
-use crate::figures::{Form, Said, push_tally, push_totals};
+use crate::figures::{Form, Said, push_metrics, push_tally, push_totals};
 use crate::kept::{Ending, Kept, Place};
 use crate::races::Races;
 use crate::tallies::Tally;
@@ -36,8 +36,7 @@ pub(crate) fn write_summary<A: Allocator + Copy>(
     let totals = Totals::of(alloc, races.kept())?;
     let failing = races.failing()?;
     let mut parts = Vec::new(alloc);
-    push_totals(form, totals, &mut parts)?;
-    push_failing(form, failing.as_slice(), &mut parts)?;
+    push_summary(form, totals, failing.as_slice(), &mut parts)?;
     write_parts(parts.as_slice(), text)?;
     if slowest > 0 {
         let slow = slowest_of(alloc, races.kept(), slowest)?;
@@ -46,9 +45,26 @@ pub(crate) fn write_summary<A: Allocator + Copy>(
     let end: &[u8] = match form {
         Form::Text => b"",
         Form::Json => b"}\n",
+        Form::Metrics => b"# EOF\n",
     };
     text.extend_from_slice(end)?;
     Ok(())
+}
+
+fn push_summary<A: Allocator>(
+    form: Form,
+    totals: Totals,
+    failing: &[(Ip, Tally)],
+    text: &mut Vec<Part<Said>, A>,
+) -> Result<(), Memory>
+    ensures { OnOk result (flat_map fact_of text.new.items ≡ flat_map fact_of text.old.items
+        ++ summary_facts form totals failing.now) }
+{
+    if form == Form::Metrics {
+        return push_metrics(totals, text);
+    }
+    push_totals(form, totals, text)?;
+    push_failing(form, failing, text)
 }
 
 fn push_failing<A: Allocator>(
@@ -63,7 +79,7 @@ fn push_failing<A: Allocator>(
         Form::Text if failing.is_empty() => (b"", b"", b"\n"),
         Form::Text => (b"\nfailed or silent most often:\n", b"", b""),
         Form::Json if failing.is_empty() => (b"", b"", b",\"failing\":[]"),
-        Form::Json => (b",\"failing\":[", b",", b"]"),
+        Form::Json | Form::Metrics => (b",\"failing\":[", b",", b"]"),
     };
     let mut before = begin;
     for tallied in failing {
@@ -120,7 +136,7 @@ fn write_slowest<A: Allocator + Copy>(
     let (begin, between, end): (&[u8], &[u8], &[u8]) = match form {
         Form::Text => (b"slowest:\n  ", b"  ", b""),
         Form::Json if slow.is_empty() => (b"", b"", b",\"slowest\":[]"),
-        Form::Json => (b",\"slowest\":[", b",", b"]"),
+        Form::Json | Form::Metrics => (b",\"slowest\":[", b",", b"]"),
     };
     let mut before = begin;
     for race in slow {
@@ -155,7 +171,7 @@ fn write_name<A: Allocator>(
             text.extend_from_slice(name.as_bytes())?;
             Ok(())
         }
-        Form::Json => {
+        Form::Json | Form::Metrics => {
             text.extend_from_slice(b"{\"file\":")?;
             write_string(name.as_bytes(), text)
         }
@@ -207,7 +223,7 @@ fn push_slow<A: Allocator>(
 fn slow_words(form: Form) -> [&'static [u8]; 4] {
     match form {
         Form::Text => [b": ", b" ms to ", b", ", b" ms lost\n"],
-        Form::Json => [b",\"ms\":", b",\"address\":\"", b"\",\"lost_ms\":", b"}"],
+        Form::Json | Form::Metrics => [b",\"ms\":", b",\"address\":\"", b"\",\"lost_ms\":", b"}"],
     }
 }
 
@@ -222,8 +238,11 @@ pub fn push_place<S: Copy, A: Allocator>(
 {
     let (line, number) = (Part::Number(place.line), Part::Number(place.number as u64));
     match form {
-        Form::Text => push_parts(&[Part::Words(b":"), line, Part::Words(b" race "), number], text),
-        Form::Json => {
+        Form::Text => push_parts(
+            &[Part::Words(b":"), line, Part::Words(b" race "), number],
+            text,
+        ),
+        Form::Json | Form::Metrics => {
             push_parts(
                 &[
                     Part::Words(b",\"race\":"),

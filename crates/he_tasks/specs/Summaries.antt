@@ -23,7 +23,7 @@ use Rattle.he_tasks.specs.declared.reports.TheConstants.{DONE, FAULT}
 -- the settings of each race, row by row: those of a comparison, or those of a summary
 abbrev pub rows_by : Task → Texts → List ChangeValues
 rows_by (Compare json races) texts = texts.rows.items
-rows_by (Summarize json slowest) texts = texts.changes ∷ []
+rows_by (Summarize json metrics slowest) texts = texts.changes ∷ []
 rows_by (Write Section workers) texts = texts.changes ∷ []
 rows_by _ texts = []
 
@@ -39,8 +39,8 @@ AddsSums input first last (Some old) (Some new) result =
 AddsSums input first last None (Some new) result = ⊥
 AddsSums input first last old None result = result ≡ Err Memory
 
-abbrev pub form_of : Bool → Form
-form_of json = if json then forms.Json else forms.Text
+abbrev pub form_of : Bool → Bool → Form
+form_of json metrics = if metrics then forms.Metrics else if json then forms.Json else forms.Text
 
 -- the lines of races, where they are told
 abbrev pub AreLinesOf : Bool → Form → List Run → List ℕ → List ℕ → Type 0
@@ -49,9 +49,9 @@ AreLinesOf false form runs old new = new ≡ old
 
 -- a summary of these races, or a table of so many rows, below their lines
 abbrev pub IsTold : Task → List Run → ℕ → List ℕ → List ℕ → Type 0
-IsTold (Summarize json slowest) runs rows old new = IsWritten (form_of json) runs slowest old new
+IsTold (Summarize json metrics slowest) runs rows old new = IsWritten (form_of json metrics) runs slowest old new
 IsTold (Compare json races) runs rows old new =
-    (between : List ℕ) × AreLinesOf races (form_of json) runs old between × IsTable (form_of json) (map kept_of runs) 0 rows between new
+    (between : List ℕ) × AreLinesOf races (form_of json false) runs old between × IsTable (form_of json false) (map kept_of runs) 0 rows between new
 IsTold _ runs rows old new = Unit {0}
 
 -- that, or a first part of it, was put into the output; or there was no memory for it
@@ -65,14 +65,14 @@ PutsSums output texts sums before after status =
 -- what ends the output of a task: what is told of these sums, where it sums up; nothing, where there are none for want
 -- of memory
 abbrev pub EndsTask : {O : Type 0} → outputs.Ghosts O → Texts → Task → Option Sums → O → O → ℕ → Type 0
-EndsTask output texts (Summarize json slowest) (Some sums) before after status =
+EndsTask output texts (Summarize json metrics slowest) (Some sums) before after status =
     PutsSums output texts sums before after status
 EndsTask output texts (Compare json races) (Some sums) before after status =
     PutsSums output texts sums before after status
 EndsTask output texts (Write Section workers) (Some sums) before after status =
     PutsTail output sums before after status
 EndsTask output texts (Write Section workers) None before after status = (after ≡ before) × (status ≡ FAULT)
-EndsTask output texts (Summarize json slowest) None before after status = (after ≡ before) × (status ≡ FAULT)
+EndsTask output texts (Summarize json metrics slowest) None before after status = (after ≡ before) × (status ≡ FAULT)
 EndsTask output texts (Compare json races) None before after status = (after ≡ before) × (status ≡ FAULT)
 EndsTask output texts task sums before after status = (after ≡ before) × (status ≡ DONE)
 

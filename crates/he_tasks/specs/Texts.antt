@@ -67,7 +67,7 @@ RunsTask input output (Compare json races) changes file first last before after 
 RunsTask input output (Check is_all) changes file first last before after =
     Checks (Gave input first last) (GaveSoFar input first last) (TookAll output before.0 after.0)
     (TookPart output before.0 after.0) (after.0 ≡ before.0)
-RunsTask input output (Summarize json slowest) changes file first last before after =
+RunsTask input output (Summarize json metrics slowest) changes file first last before after =
     λ result. (after.0 ≡ before.0) × AddsSums input first last before.1 after.1 result
 
 -- a line as head(1) and tail(1) write it above each of several files

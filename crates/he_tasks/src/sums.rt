@@ -76,33 +76,39 @@ fn tell(
 {
     let names = shown_names(alloc, texts)?;
     match texts.task {
-        Task::Summarize { is_json, slowest } => {
-            races.write(form_of(is_json), slowest as usize, names.as_slice(), text)
+        Task::Summarize {
+            is_json,
+            is_metrics,
+            slowest,
+        } => {
+            let form = form_of(is_json, is_metrics);
+            races.write(form, slowest as usize, names.as_slice(), text)
         }
         Task::Compare {
             is_json,
             tells_races,
         } => {
+            let form = form_of(is_json, false);
             if tells_races {
                 let labels = (names.as_slice(), texts.labels.as_slice());
-                write_lines(alloc, form_of(is_json), races.kept(), labels, text)?;
+                write_lines(alloc, form, races.kept(), labels, text)?;
             }
-            write_table(
-                alloc,
-                form_of(is_json),
-                races.kept(),
-                texts.labels.as_slice(),
-                text,
-            )
+            write_table(alloc, form, races.kept(), texts.labels.as_slice(), text)
         }
         _ => Ok(()),
     }
 }
 
-fn form_of(is_json: bool) -> Form
-    ensures { result ≡ form_of is_json }
+fn form_of(is_json: bool, is_metrics: bool) -> Form
+    ensures { result ≡ form_of is_json is_metrics }
 {
-    if is_json { Form::Json } else { Form::Text }
+    if is_metrics {
+        Form::Metrics
+    } else if is_json {
+        Form::Json
+    } else {
+        Form::Text
+    }
 }
 
 fn shown_names(alloc: Global, texts: &Texts<'_>) -> Result<Vec<String>, AllocError> {
