@@ -37,7 +37,7 @@ _he() {
         host) options='--for --help -h' words= ;;
         live) options='--port --timeout --set --record --must-connect --verbose -v --help -h' words=FILE ;;
         replay) options='--workers --set --json --verbose -v --help -h' words=FILE ;;
-        explain) options='--lines --set --json --verbose -v --help -h' words=FILE ;;
+        explain) options='--set --json --verbose -v --help -h' words=FILE ;;
         draw) options='--ascii --width --svg --html --set --verbose -v --help -h' words=FILE ;;
         summary) options='--json --openmetrics --slowest --keep-going --set --verbose -v --help -h' words=FILE ;;
         compare) options='--json --races --keep-going --set --verbose -v --help -h' words=FILE ;;

@@ -50,7 +50,6 @@ complete -c he -n '__fish_seen_subcommand_from replay' -l json -d 'Write one JSO
 complete -c he -n '__fish_seen_subcommand_from replay' -s v -l verbose -d 'Explain the fault of a file as `he check` does, and say why a file can'\''t be read or written'
 complete -c he -n '__fish_seen_subcommand_from replay' -s h -l help -d 'Print help'
 complete -c he -n '__fish_seen_subcommand_from explain' -F
-complete -c he -n '__fish_seen_subcommand_from explain' -l lines -d 'Write lines for scripts, to be cut at their spaces'
 complete -c he -n '__fish_seen_subcommand_from explain' -l set -x -a 'attempt= resolution= count= limit= floor=' -d 'Override a setting in every race'
 complete -c he -n '__fish_seen_subcommand_from explain' -l json -d 'Write one JSON object for each race, each on a line'
 complete -c he -n '__fish_seen_subcommand_from explain' -s v -l verbose -d 'Explain the fault of a file as `he check` does, and say why a file can'\''t be read or written'

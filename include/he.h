@@ -89,8 +89,8 @@ struct he_told {
  * writes into `room` and tells of it.
  *
  * Proved: unless it answers HE_NO_MEMORY, the text that is wanted is the one that is defined, in full: of each race
- * up to the text's first fault its transcript, its order, or its explanation (the lines of `he explain --lines`), one
- * after the other; `line` and `kind` are that first fault's. It stands at the front of the room, and what is behind it there stays, just where it fits;
+ * up to the text's first fault its transcript, its order, or the object that explains it (as `he explain --json` writes
+ * it, in JSON, with `file` null), one after the other; `line` and `kind` are that first fault's. It stands at the front of the room, and what is behind it there stays, just where it fits;
  * else the answer is HE_NO_ROOM, and the room stays as it was. The answer is HE_FAULT just where there is a fault, and
  * the room is large enough. he_check wants `N races, M lines` where there is no fault.
  *

@@ -22,8 +22,9 @@ KINDS = {"64:ff9b::/96": " (NAT64)", "2002::/16": " (6to4)", "2001::/32": " (Ter
 # A pause of fewer milliseconds has no line. No more attempts are named that stood between.
 LEAST_PAUSE, MAX_NAMED = 5, 3
 
-# Why an attempt starts, in words, and the tick from which it was due.
-Cause = namedtuple("Cause", "words due")
+# Why an attempt starts, in words, the tick from which it was due, and its name in JSON with a delay and the place of the
+# attempt that this is after.
+Cause = namedtuple("Cause", "words due name delay after", defaults=(None, None))
 
 
 # How a race ended
@@ -119,10 +120,11 @@ def tick_of(race, name):
 
 def first_cause(race, tick):
     if not race.is_seen("aaaa", tick):
-        return Cause("the wait for the AAAA answer is over", tick_of(race, "a") + race.setting("resolution"))
+        over = tick_of(race, "a") + race.setting("resolution")
+        return Cause("the wait for the AAAA answer is over", over, "resolution delay")
     if race.usable("aaaa"):
-        return Cause("the AAAA answer is there", tick_of(race, "aaaa"))
-    return Cause("both answers are there", max(tick_of(race, "aaaa"), tick_of(race, "a")))
+        return Cause("the AAAA answer is there", tick_of(race, "aaaa"), "aaaa answer")
+    return Cause("both answers are there", max(tick_of(race, "aaaa"), tick_of(race, "a")), "both answers")
 
 
 def failure(race, line):
@@ -142,28 +144,35 @@ def later_cause(race, before, line):
         waited.append(max(last.start + floor, *failures))
     if any(race.seen(tick) < line.start for tick in waited):
         name = "aaaa" if line.address.family == 6 else "a"
-        return Cause(f"it came with the {NAMES[name]} answer", tick_of(race, name))
+        return Cause(f"it came with the {NAMES[name]} answer", tick_of(race, name), f"later {name} answer")
     if line.start >= last.start + delay:
-        return Cause(f"{delay} ms after the start of attempt {last.place + 1}", last.start + delay)
+        words = f"{delay} ms after the start of attempt {last.place + 1}"
+        return Cause(words, last.start + delay, "attempt delay", delay, last.place)
     if max(failures) > last.start + floor:
-        return Cause("all before have failed", max(failures))
-    return Cause(f"all before have failed, and the floor of {floor} ms after attempt {last.place + 1} is over",
-                 last.start + floor)
+        return Cause("all before have failed", max(failures), "last failure")
+    words = f"all before have failed, and the floor of {floor} ms after attempt {last.place + 1} is over"
+    return Cause(words, last.start + floor, "floor", floor, last.place)
+
+
+def place_in_list(race, line):
+    """The place of its address in the list of those that are known at its start, their number, and whose turn it is."""
+    addresses = race.listed(line.start)
+    place, family = addresses.index(line.address), line.address.family
+    if place < race.setting("count") and family == addresses[0].family:
+        return place, len(addresses), "leads"
+    is_other = family != addresses[place - 1].family
+    return place, len(addresses), "in turn" if is_other else "other run out"
 
 
 def listed(race, line):
-    """Which address it is in the list of those that are known at its start, and whose turn it is there."""
-    addresses = race.listed(line.start)
-    if len(addresses) == 1:
+    """The same in words."""
+    place, count, turn = place_in_list(race, line)
+    if count == 1:
         return "; the only address known"
-    place, family = addresses.index(line.address), line.address.family
-    if place < race.setting("count") and family == addresses[0].family:
-        turn = f"IPv{family} first"
-    elif family != addresses[place - 1].family:
-        turn = "IPv6 and IPv4 in turn"
-    else:
-        turn = f"IPv{family} alone is left"
-    return f"; number {place + 1} of {len(addresses)} known, {turn}"
+    family = line.address.family
+    words = {"leads": f"IPv{family} first", "in turn": "IPv6 and IPv4 in turn",
+             "other run out": f"IPv{family} alone is left"}
+    return f"; number {place + 1} of {count} known, {words[turn]}"
 
 
 def late(race, tick):

@@ -95,17 +95,17 @@ he_resolution_delays_total 0
 ";
 
 const TRANSCRIPT_JSON: &[u8] =
-    b"{\"attempts\":[{\"attempt\":0,\"start\":20,\"address\":\"2001:db8:1::1\",\
+    b"{\"file\":null,\"race\":1,\"line\":1,\"attempts\":[{\"attempt\":0,\"start\":20,\"address\":\"2001:db8:1::1\",\
 \"end\":\"won\",\"tick\":55}],\"result\":{\"end\":\"won\",\"attempt\":0,\"tick\":55}}
 ";
 
-const ORDER_JSON: &[u8] =
-    b"{\"order\":[{\"place\":0,\"address\":\"2001:db8:1::1\",\"source\":\"2001:db8::2\"},\
+const ORDER_JSON: &[u8] = b"{\"file\":null,\"race\":1,\"line\":1,\"order\":[\
+{\"place\":0,\"address\":\"2001:db8:1::1\",\"source\":\"2001:db8::2\"},\
 {\"place\":1,\"address\":\"198.51.100.1\",\"source\":\"192.0.2.2\"}]}
 ";
 
-const EXPLANATION_JSON: &[u8] =
-    b"{\"order\":[{\"place\":0,\"address\":\"2001:db8:1::1\",\"source\":\"2001:db8::2\"},\
+const EXPLANATION_JSON: &[u8] = b"{\"file\":null,\"race\":1,\"line\":1,\"order\":[\
+{\"place\":0,\"address\":\"2001:db8:1::1\",\"source\":\"2001:db8::2\"},\
 {\"place\":1,\"address\":\"198.51.100.1\",\"source\":\"192.0.2.2\",\"rule\":\"6\",\"why\":\"prefer higher precedence\",\
 \"own\":35,\"before\":40}],\"events\":[{\"tick\":20,\"event\":\"answer\"";
 

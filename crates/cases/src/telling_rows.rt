@@ -2,15 +2,6 @@
 
 use crate::command_rows::{READ_LINE, Row, Streams, TEXT, WRITE_LINE};
 
-const EXPLANATION: &[u8] = b"order 0 2001:db8:1::1 source 2001:db8::2
-order 1 198.51.100.1 source 192.0.2.2, behind 0 by rule 6, prefer higher precedence: 35 after 40
-20 answer aaaa usable 1
-20 attempt 0 2001:db8:1::1, on the AAAA answer, listed at 0 of 1, its family leads
-25 answer a usable 1
-55 won attempt 0
-end
-";
-
 const STORY: &[u8] = b"race 1, line 1: connected to 2001:db8:1::1 after 55 ms; nothing lost
 preferred, once every answer is known:
   1. 2001:db8:1::1 from 2001:db8::2
@@ -80,7 +71,7 @@ no A answer came
 ";
 
 /// Those that explain or compare it.
-pub static TELLING_ROWS: [Row; 20] = [
+pub static TELLING_ROWS: [Row; 18] = [
     (&["he", "explain"], TEXT, Streams::Whole, 0, STORY, b""),
     (
         &["he", "explain"],
@@ -99,27 +90,11 @@ pub static TELLING_ROWS: [Row; 20] = [
         b"",
     ),
     (
-        &["he", "explain", "--lines"],
-        TEXT,
-        Streams::Whole,
-        0,
-        EXPLANATION,
-        b"",
-    ),
-    (
-        &["he", "explain", "--lines"],
-        TEXT,
-        Streams::BreaksOff,
-        1,
-        EXPLANATION,
-        READ_LINE,
-    ),
-    (
-        &["he", "explain", "--lines"],
+        &["he", "explain", "--json"],
         TEXT,
         Streams::Room(7),
         1,
-        b"order 0",
+        b"{\"file\"",
         WRITE_LINE,
     ),
     (
@@ -186,11 +161,17 @@ pub static TELLING_ROWS: [Row; 20] = [
         WRITE_LINE,
     ),
     (
-        &["he", "explain", "--lines", "-", "-"],
+        &[
+            "he",
+            "explain",
+            "--json",
+            "-",
+            "explained-no-answer.timeline",
+        ],
         TEXT,
         Streams::Whole,
         0,
-        EXPLANATION,
+        b"{\"file\":\"-\",\"race\":1,\"line\":1,\"order\":[{\"place\":0,\"address\":\"2001:db8:1::1\"",
         b"",
     ),
     (

@@ -1,10 +1,10 @@
 //! Pictures of a race: what `he draw` writes.
 //!
-//! [`write_picture`] draws a race for a terminal: a line on how it ended; a row for the AAAA answer, the A answer, each
-//! pause and each attempt, with a bar from its start to its end on one scale of time, and these ticks; and the scale.
-//! The right edge is the end of the race, what comes after it is not drawn. The A answer's bar is the wait for the AAAA
-//! answer (RFC 8305 section 3). [`write_svg`] draws the same rows as an SVG image, and [`collect_rows`] answers them by
-//! themselves. Ticks are milliseconds.
+//! [`write_picture`] draws a race for a terminal: a line on how it ended; a row for the AAAA answer, the A answer,
+//! each pause and each attempt, with a bar from its start to its end on one scale of time, and these ticks; and the
+//! scale. The right edge is the end of the race, and what comes after it is not drawn. The A answer's bar is the wait
+//! for the AAAA answer (RFC 8305 section 3). [`write_svg`] draws the same rows as an SVG image, and [`collect_rows`]
+//! answers them by themselves. Ticks are milliseconds.
 //!
 //! ```text
 //! race 1, line 1: connected to 198.51.100.1 after 340 ms
@@ -20,10 +20,10 @@
 //! are written as they come. A page needs nothing from elsewhere and runs no script.
 //!
 //! Proved, for every race: the rows are those of `specs/Rows`, both answers, the pauses that begin before the end, and
-//! each attempt once, by place. What is appended says the facts of `specs/Picture` or `specs/Svg` in this order: how the
-//! race ended, and of each row whose it is, the columns before, in and after its bar, its ticks, and what became of it.
-//! Where memory is refused, the vector is as it was. A section has the same rows with their ticks, and totals their
-//! numbers (`specs/Page`); no byte of a name or a story is read as a tag.
+//! each attempt once, by place. What is appended says the facts of `specs/Picture` or `specs/Svg`, in this order: how
+//! the race ended, and of each row whose it is, the columns before, in and after its bar, its ticks, and what became
+//! of it. Where memory is refused, the vector is as it was. A section has the same rows with their ticks, and totals
+//! their numbers (`specs/Page`); no byte of a name or a story is read as a tag.
 //!
 //! Not proved: the words, signs and colours, that lines are as wide as the terminal, and how a viewer shows an image.
 #![tactic(auto)]

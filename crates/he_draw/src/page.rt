@@ -30,7 +30,8 @@ article>a{display:none;order:-9999998;color:inherit}body:has(#index:checked) art
 section{flex:0 0 100%;min-width:0;order:calc(0 - var(--t));--e:max(1,var(--end,1));padding:.6rem 0;\
 border-top:1px solid var(--line)}\n\
 body:has(#turn:checked) section{order:0}body:has(#own:checked) section{--e:max(1,var(--t))}\n\
-body:has(#own:checked) .scale{visibility:hidden}section:target{background:color-mix(in srgb,var(--dot) 12%,transparent)}\n\
+body:has(#own:checked) .scale{visibility:hidden}\n\
+section:target{background:color-mix(in srgb,var(--dot) 12%,transparent)}\n\
 h3{margin:.1rem 0 .4rem;font-size:1.05rem}h3 a{color:inherit;text-decoration:none}\n\
 small{color:var(--dim);font-weight:400}\n\
 section div{display:grid;grid-template-columns:16rem 1fr 15rem;gap:.8rem;align-items:center;\

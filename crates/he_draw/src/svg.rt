@@ -73,7 +73,8 @@ const STYLE: &[u8] =
 .wait{fill:url(#dots)}\n.pause{fill:url(#hatch)}\n.won{fill:#171}\n.failed{fill:#b22}\n.cancelled{fill:#999}\n\
 @media(prefers-color-scheme:dark){svg{background:#222}text{fill:#ddd}circle{fill:#8af}.won{fill:#4c4}\
 .failed{fill:#f66}}\n</style>\n\
-<defs>\n<pattern id='dots' width='5' height='5' patternUnits='userSpaceOnUse'><circle cx='2' cy='2' r='1'/></pattern>\n\
+<defs>\n\
+<pattern id='dots' width='5' height='5' patternUnits='userSpaceOnUse'><circle cx='2' cy='2' r='1'/></pattern>\n\
 <pattern id='hatch' width='5' height='5' patternUnits='userSpaceOnUse'><path d='M0 5L5 0'/></pattern>\n</defs>\n\
 <text y='18'>";
 

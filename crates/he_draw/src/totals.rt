@@ -1,8 +1,7 @@
 // What stands above all races of a page.
 
 ghost use Rattle.std.specs.Prelude.{◌≡◌, ◌++◌, OnOk};
-ghost use Rattle.std.specs.List.{flat_map};
-ghost use Rattle.he_print.specs.Parts.{fact_of};
+ghost use Rattle.he_draw.specs.Picture.{told};
 ghost use Rattle.he_draw.specs.Page.{count_facts, times_facts, totals_facts};
 
 use he_addr::Memory;
@@ -53,7 +52,7 @@ pub(crate) fn push_totals<A: Allocator>(
     totals: Totals,
     parts: &mut Vec<Part<Counted>, A>,
 ) -> Result<(), Memory>
-    ensures { OnOk result (flat_map fact_of parts.new.items ≡ flat_map fact_of parts.old.items ++ totals_facts totals) }
+    ensures { OnOk result (told parts.new.items ≡ told parts.old.items ++ totals_facts totals) }
 {
     push_parts(
         &number(
@@ -99,7 +98,7 @@ fn push_times<A: Allocator>(
     times: Option<Times>,
     parts: &mut Vec<Part<Counted>, A>,
 ) -> Result<(), Memory>
-    ensures { OnOk result (flat_map fact_of parts.new.items ≡ flat_map fact_of parts.old.items ++ times_facts times) }
+    ensures { OnOk result (told parts.new.items ≡ told parts.old.items ++ times_facts times) }
 {
     let Some(times) = times else {
         return Ok(());
@@ -119,7 +118,7 @@ fn push_times<A: Allocator>(
 }
 
 fn count(counted: Counted, number: u64, what: &'static [u8]) -> [Part<Counted>; 3]
-    ensures { flat_map fact_of result ≡ count_facts counted number }
+    ensures { told result ≡ count_facts counted number }
 {
     [
         Part::Says(counted, b"<span><b>"),
@@ -129,7 +128,7 @@ fn count(counted: Counted, number: u64, what: &'static [u8]) -> [Part<Counted>; 
 }
 
 fn number(counted: Counted, what: &'static [u8], number: u64) -> [Part<Counted>; 2]
-    ensures { flat_map fact_of result ≡ count_facts counted number }
+    ensures { told result ≡ count_facts counted number }
 {
     [Part::Says(counted, what), Part::Number(number)]
 }

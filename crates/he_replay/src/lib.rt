@@ -40,4 +40,4 @@ mod streaming;
 
 pub use he_pool::{Gate, NoGate, batch_jobs, replay_batch};
 pub use race_texts::{Content, Printer, TextRequest};
-pub use replaying::replay;
+pub use replaying::{replay, write_races};

@@ -12,7 +12,7 @@ use crate::tallies::{Tallies, Tally};
 use he_addr::{Ip, Memory};
 use he_course::Course;
 use he_inputs::StreamFault;
-use he_stream::{InputStream, take_input};
+use he_stream::{InputStream, WholeInput, take_input};
 use he_timeline::{Changes, Timeline};
 use std::alloc::Allocator;
 use std::marker::Model;
@@ -66,6 +66,25 @@ impl<A: Allocator + Copy> Races<A> {
         ensures { Adds file (Gives I.remaining I.takes input.old input.new) self.old self.new result }
     {
         let given = take_input(self.alloc, input)?;
+        add_races(
+            self.alloc,
+            file,
+            given.bytes.as_slice(),
+            given.is_broken,
+            self,
+        )?;
+        Ok(())
+    }
+
+    /// The same with an input that was read whole.
+    pub fn add_given<B: Allocator>(
+        &mut self,
+        file: usize,
+        given: &WholeInput<B>,
+    ) -> Result<(), StreamFault>
+        ensures { Adds file (λ input is_broken. (input ≡ given.now.bytes.items)
+            × (is_broken ≡ given.now.is_broken)) self.old self.new result }
+    {
         add_races(
             self.alloc,
             file,

@@ -13,8 +13,10 @@ use Rattle.he_summary.specs.declared.figures.Form.TheVariants as forms
 use Rattle.he_inputs.specs.declared.stream_fault.StreamFault.{StreamFault}
 use Rattle.he_inputs.specs.declared.stream_fault.StreamFault.TheVariants.{Memory}
 use Rattle.he_request.specs.declared.texts.Task.{Task}
-use Rattle.he_request.specs.declared.texts.Task.TheVariants.{Compare, Summarize}
+use Rattle.he_request.specs.declared.texts.Task.TheVariants.{Compare, Summarize, Write}
+use Rattle.he_request.specs.declared.texts.Content.TheVariants.{Section}
 use Rattle.he_request.specs.declared.texts.Texts.{Texts}
+use Rattle.he_tasks.specs.Pages.{PutsTail}
 use Rattle.he_tasks.specs.Streams.{Gave, PutsText}
 use Rattle.he_tasks.specs.declared.reports.TheConstants.{DONE, FAULT}
 
@@ -22,6 +24,7 @@ use Rattle.he_tasks.specs.declared.reports.TheConstants.{DONE, FAULT}
 abbrev pub rows_by : Task → Texts → List ChangeValues
 rows_by (Compare json races) texts = texts.rows.items
 rows_by (Summarize json metrics slowest) texts = texts.changes ∷ []
+rows_by (Write Section workers) texts = texts.changes ∷ []
 rows_by _ texts = []
 
 abbrev pub rows_of : Texts → List ChangeValues
@@ -66,6 +69,9 @@ EndsTask output texts (Summarize json metrics slowest) (Some sums) before after 
     PutsSums output texts sums before after status
 EndsTask output texts (Compare json races) (Some sums) before after status =
     PutsSums output texts sums before after status
+EndsTask output texts (Write Section workers) (Some sums) before after status =
+    PutsTail output sums before after status
+EndsTask output texts (Write Section workers) None before after status = (after ≡ before) × (status ≡ FAULT)
 EndsTask output texts (Summarize json metrics slowest) None before after status = (after ≡ before) × (status ≡ FAULT)
 EndsTask output texts (Compare json races) None before after status = (after ≡ before) × (status ≡ FAULT)
 EndsTask output texts task sums before after status = (after ≡ before) × (status ≡ DONE)

@@ -19,6 +19,7 @@ use Rattle.he_request.specs.declared.texts.Content.{Content as Asked}
 use Rattle.he_request.specs.declared.texts.Task.{Task}
 use Rattle.he_request.specs.declared.texts.Task.TheVariants.{Write, Compare, Check, Summarize}
 use Rattle.he_request.specs.declared.texts.Texts.{Texts}
+use Rattle.he_tasks.specs.Pages.{PutsSections}
 use Rattle.he_tasks.specs.Status.{first_fault, status_of}
 use Rattle.he_tasks.specs.Streams.{Gave, GaveSoFar, TookAll, TookPart, TookRounds, TookRoundsPart, TookToTheEnd}
 use Rattle.he_tasks.specs.Summaries.{AddsSums}
@@ -35,6 +36,10 @@ content_of place (asked.Picture ascii width) =
     contents.Course (printers.Picture (if ascii then looks.Ascii else looks.Unicode) width)
 content_of place asked.Image = contents.Course printers.Image
 content_of place asked.Section = contents.Course (printers.Section place)
+
+abbrev pub is_section : Asked → Bool
+is_section asked.Section = true
+is_section _ = false
 
 -- the name of a text, as the system takes it and as it is shown
 pub record Naming : Type 0 where
@@ -53,10 +58,10 @@ file_of name = option_map (λ n. n.path) name
 abbrev pub RunsTask : {I O : Type 0} → inputs.Ghosts I → outputs.Ghosts O → Task → ChangeValues → Option (List ℕ) → I
     → I → O × Option Sums → O × Option Sums → Result (Unit {0}) StreamFault → Type 0
 RunsTask input output (Write content workers) changes file first last before after =
-    λ result. (place : ℕ)
-    × Replays (content_of place content) changes file (Gave input first last) (GaveSoFar input first last)
-    (TookToTheEnd output before.0 after.0) (TookRoundsPart output before.0 after.0)
-    (TookRounds output before.0 after.0) result
+    λ result. ((is_section content ≡ true) × PutsSections input output changes first last before after result)
+    ⊎ ((place : ℕ) × Replays (content_of place content) changes file (Gave input first last)
+    (GaveSoFar input first last) (TookToTheEnd output before.0 after.0) (TookRoundsPart output before.0 after.0)
+    (TookRounds output before.0 after.0) result)
 RunsTask input output (Compare json races) changes file first last before after =
     λ result. (after.0 ≡ before.0) × AddsSums input first last before.1 after.1 result
 RunsTask input output (Check is_all) changes file first last before after =

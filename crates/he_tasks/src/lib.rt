@@ -22,6 +22,7 @@
 mod content;
 mod files;
 pub mod name;
+mod page;
 pub mod reports;
 pub mod session;
 mod sums;

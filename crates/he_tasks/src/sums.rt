@@ -4,13 +4,14 @@ ghost use Rattle.he_summary.specs.Kept.{Run};
 ghost use Rattle.he_summary.specs.Summed.{HasSummed};
 ghost use Rattle.he_tasks.specs.Summaries.{EndsTexts, IsTold, PutsSums, form_of};
 
+use crate::page::put_tail;
 use crate::reports::{DONE, FAULT, report};
 use crate::session::{Session, put_all};
 use he_addr::Memory;
 use he_compare::{write_lines, write_table};
 use he_inputs::StreamFault;
 use he_request::shown::shown;
-use he_request::{Task, Texts};
+use he_request::{Content, Task, Texts};
 use he_stream::OutputStream;
 use he_summary::{Form, Races};
 use std::alloc::{AllocError, Global};
@@ -28,7 +29,22 @@ pub(crate) fn end_texts<R, O: OutputStream, F: Write>(
         (Task::Compare { .. } | Task::Summarize { .. }, Some(races)) => put_sums(
             session, texts, &races,
         ),
-        (Task::Compare { .. } | Task::Summarize { .. }, None) => FAULT,
+        (
+            Task::Write {
+                content: Content::Section,
+                ..
+            },
+            Some(races),
+        ) => put_tail(session, texts.explains, &races),
+        (
+            Task::Compare { .. }
+            | Task::Summarize { .. }
+            | Task::Write {
+                content: Content::Section,
+                ..
+            },
+            None,
+        ) => FAULT,
         _ => DONE,
     }
 }

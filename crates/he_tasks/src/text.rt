@@ -5,11 +5,12 @@ ghost use Rattle.he_json.specs.Documents.{name_of};
 ghost use Rattle.he_tasks.specs.Status.{status_of};
 ghost use Rattle.he_tasks.specs.Summaries.{AddsSums};
 ghost use Rattle.he_request.specs.Requests.{HasTaskWorkers};
-ghost use Rattle.he_tasks.specs.Texts.{HasHeading, LacksHeading, RunsHeaded, RunsOne, RunsTask};
+ghost use Rattle.he_tasks.specs.Texts.{HasHeading, LacksHeading, RunsHeaded, RunsOne, RunsTask, is_section};
 ghost use Rattle.he_tasks.specs.Texts.{file_of, has_headings, heading, name_line, naming};
 
 use crate::content::content_of;
 use crate::name::Name;
+use crate::page::put_sections;
 use crate::reports::{DONE, FAULT, explain_in, report_in, tell_lines, tell_reason};
 use crate::session::{Session, put_text, report_unwritten};
 use crate::system::TaskSystem;
@@ -137,6 +138,9 @@ fn run_task<R: TaskSystem, I: InputStream, O: OutputStream, F>(
 {
     let alloc = session.alloc;
     match text.texts.task {
+        Task::Write { content, .. } if is_section(content) => {
+            put_sections(session, text.texts.changes, input, sums)
+        }
         Task::Write { content, workers } => {
             let asked = TextRequest {
                 content: content_of(session.place, content),
@@ -149,6 +153,12 @@ fn run_task<R: TaskSystem, I: InputStream, O: OutputStream, F>(
         Task::Check { is_all } => check(alloc, is_all, input, &mut session.output, told),
         Task::Compare { .. } | Task::Summarize { .. } => add_text(session.place, input, sums),
     }
+}
+
+fn is_section(content: Content) -> bool
+    ensures { result ≡ is_section content }
+{
+    matches!(content, Content::Section)
 }
 
 // The name of the file, as JSON has it.

@@ -6,11 +6,11 @@ ghost use Rattle.he_tasks.specs.Whole.{DoesTexts, FillsFile, HasHead, LacksHead,
 
 use crate::files::run_all;
 use crate::name::Name;
+use crate::page::put_head;
 use crate::reports::{DONE, first_fault, report, report_path};
-use crate::session::{Session, put_text, report_unwritten};
+use crate::session::{Session, report_unwritten};
 use crate::sums::end_texts;
 use crate::system::TaskSystem;
-use he_draw::write_head;
 use he_files::create_beside;
 use he_inputs::StreamFault;
 use he_request::shown::shown;
@@ -112,7 +112,7 @@ fn write_texts<R: TaskSystem, I: InputStream, O: OutputStream, F: Write>(
         return report(StreamFault::Memory, &mut session.faults);
     };
     let mut sums = Some(Races::new(session.alloc, rows));
-    match put_head(session.alloc, texts.task, &mut session.output) {
+    match begin(session.alloc, texts.task, &mut session.output) {
         Ok(()) => {
             let own = run_all(session, texts, input, &mut sums);
             let end = end_texts(session, texts, sums);
@@ -130,14 +130,18 @@ fn rows_of(alloc: Global, texts: &Texts<'_>) -> Result<Vec<Changes>, AllocError>
     let mut rows = Vec::new(alloc);
     match texts.task {
         Task::Compare { .. } => rows.extend_from_slice(texts.rows.as_slice())?,
-        Task::Summarize { .. } => rows.push(texts.changes)?,
+        Task::Summarize { .. }
+        | Task::Write {
+            content: Content::Section,
+            ..
+        } => rows.push(texts.changes)?,
         _ => {}
     }
     Ok(rows)
 }
 
 // Puts what begins a page, where it is one.
-fn put_head<O: OutputStream>(alloc: Global, task: Task, output: &mut O) -> Result<(), StreamFault>
+fn begin<O: OutputStream>(alloc: Global, task: Task, output: &mut O) -> Result<(), StreamFault>
     ensures ok { OnOk result (HasHead O.OutputStream (is_page task) output.old output.new) }
     ensures err { OnErr result (LacksHead O.OutputStream (is_page task) output.old output.new) }
 {
@@ -145,11 +149,7 @@ fn put_head<O: OutputStream>(alloc: Global, task: Task, output: &mut O) -> Resul
         Task::Write {
             content: Content::Section,
             ..
-        } => {
-            let mut head = Vec::new(alloc);
-            write_head(&mut head)?;
-            put_text(&head, output)
-        }
+        } => put_head(alloc, output),
         _ => Ok(()),
     }
 }

@@ -5,7 +5,7 @@ pub returns-in-Ok : goal.returns-in-Ok
 returns-in-Ok g c =
     inl (
       c.new.result,
-      c.put_head.new.output,
+      c.begin.new.output,
       c.run_all-own.new.session.output,
       c.run_all-own.new.sums,
       c.run_all-own.result,
