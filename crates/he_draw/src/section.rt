@@ -46,7 +46,6 @@ fn story<A: Allocator + Copy, B: Allocator>(
 }
 
 // All but the story.
-#[tactic(auto, unfolding(crate::specs::Page::section_facts))]
 fn write_rows<A: Allocator + Copy, B: Allocator>(
     alloc: A,
     course: &Course<B>,
@@ -54,6 +53,18 @@ fn write_rows<A: Allocator + Copy, B: Allocator>(
     text: &mut Vec<u8, A>,
 ) -> Result<(), Memory>
     ensures { OnOk result (Prints (section_facts course.now file) text.old.items text.new.items) }
+{
+    let parts = section_parts(alloc, course, file)?;
+    write_parts(&parts, text)
+}
+
+#[tactic(auto, unfolding(crate::specs::Page::section_facts))]
+fn section_parts<A: Allocator + Copy, B: Allocator>(
+    alloc: A,
+    course: &Course<B>,
+    file: usize,
+) -> Result<Vec<Part<Said>, A>, Memory>
+    ensures { IfOk result (λ parts. told parts.items ≡ section_facts course.now file) }
 {
     let rows = collect_rows(alloc, course)?;
     let mut parts = Vec::new(alloc);
@@ -65,7 +76,7 @@ fn write_rows<A: Allocator + Copy, B: Allocator>(
         &[Part::Words(b"<details><summary>why</summary><pre>")],
         &mut parts,
     )?;
-    write_parts(&parts, text)
+    Ok(parts)
 }
 
 // The link to the section in the index, and the section's heading, with a link to itself.

@@ -25,8 +25,8 @@ passed_on {X} {Y} f xs i d old new whole lt e same so_far =
     ∙ ap (λ (l : List Y). old ++ l) (sym (ap (filter_map f) (from xs i d lt) ∙ missed f (get_or xs i d) (drop (i + 1) xs) e)) ∙ so_far
 
 pub none_of : {X : Type 0} (o : Option X) → ((x : X) → o ≡ Some x → ⊥) → o ≡ None
-none_of None no = refl
-none_of (Some x) no = absurd (no x refl)
+none_of None never = refl
+none_of (Some x) never = absurd (never x refl)
 
 -- the items up to one, and that one
 pub taken_on : {X : Type 0} (xs : List X) (i : ℕ) (x : X) → slice_get xs i ≡ Some x → take (suc i) xs ≡ take i xs ++ x ∷ []

@@ -84,21 +84,25 @@ totals_facts form totals =
 abbrev pub total_of : Option Spread → ℕ
 total_of spread = option_map_or (λ s. s.total) spread 0
 
--- as metrics: the races by how they ended, and the times to connect, to which the sum and the number of them belong;
--- then the time that was lost to addresses that failed and to silent ones, the attempts, and the races that waited
-abbrev pub metrics_facts : Totals → List (Fact Said)
-metrics_facts totals =
+-- as metrics: the races by how they ended; the times to connect, with their sum and number; then the time that was
+-- lost to addresses that failed and to silent ones, the attempts, and the races that waited
+abbrev pub ended_facts : Counts → List (Fact Said)
+ended_facts counts =
     flat_map (figure_facts forms.Metrics)
-    (told (Are (kinds.WonBy families.V6)) totals.counts.by_v6 0
-    ∷ told (Are (kinds.WonBy families.V4)) totals.counts.by_v4 0
-    ∷ told (Are kinds.Exhausted) totals.counts.exhausted 0 ∷ told (Are kinds.Limit) totals.counts.limit 0 ∷ [])
-    ++ (time_facts forms.Metrics totals.times
-    ++ flat_map (figure_facts forms.Metrics)
+    (told (Are (kinds.WonBy families.V6)) counts.by_v6 0 ∷ told (Are (kinds.WonBy families.V4)) counts.by_v4 0
+    ∷ told (Are kinds.Exhausted) counts.exhausted 0 ∷ told (Are kinds.Limit) counts.limit 0 ∷ [])
+
+abbrev pub sum_facts : Totals → List (Fact Said)
+sum_facts totals =
+    flat_map (figure_facts forms.Metrics)
     (told (Total values.Time) (total_of totals.times) 0 ∷ told (Count values.Time) totals.counts.won 0
     ∷ told (Total (values.LostTo losses.Failed)) (total_of totals.lost_to_failed) 0
     ∷ told (Total (values.LostTo losses.Silent)) (total_of totals.lost_to_silent) 0
     ∷ told (Total values.Attempts) (total_of totals.attempts) 0
-    ∷ told (Are kinds.Waited) totals.counts.waited 0 ∷ []))
+    ∷ told (Are kinds.Waited) totals.counts.waited 0 ∷ [])
+
+abbrev pub metrics_facts : Totals → List (Fact Said)
+metrics_facts totals = ended_facts totals.counts ++ (time_facts forms.Metrics totals.times ++ sum_facts totals)
 
 -- of an address: how many attempts failed, how many were silent, and how many there were
 abbrev pub tally_facts : Form → Ip × Tally → List (Fact Said)

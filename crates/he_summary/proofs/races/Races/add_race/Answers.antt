@@ -16,9 +16,11 @@ pub loop-row-preserved : goal.loop-row-preserved
 loop-row-preserved g c =
     let (runs, rows, adds) = c.loop-row.invariant in
     let settings = c.args.self.now.settings in
+    let same : length c.self.inside.settings.items ≡ length settings = ap (λ (s : Sums). length s.settings) c.self.view_is in
+    let long : length (take c.loop-row.row settings) ≡ c.loop-row.row = length-take-le c.loop-row.row settings (omega arith) in
     let run : Run = record { row = c.loop-row.row; place = c.args.place; race = c.with_changes-changed.result; report = c.in_ok-course.course.transcript } in
     let is : IsRow c.args.race.now c.args.place (0 + length (take c.loop-row.row settings)) c.settings_of.result run = record {
-      row_is = simp length-take-le (omega arith);
+      row_is = omega arith;
       place_is = refl;
       race_is = c.with_changes-changed.ensures ∙ ap (changed c.settings_of.result) c.in_ok-copy.ensures;
       transcript = c.in_ok-course.ensures.transcript;
@@ -33,4 +35,5 @@ loop-row-preserved g c =
 pub returns : goal.returns
 returns g c =
     let (runs, rows, adds) = c.loop-row.invariant in
+    let same : length c.self.inside.settings.items ≡ length c.args.self.now.settings = ap (λ (s : Sums). length s.settings) c.self.view_is in
     (runs, subst (λ (s : List ChangeValues). AreRows c.args.race.now c.args.place 0 s runs) (take_all c.loop-row.row c.args.self.now.settings (omega arith)) rows, adds)

@@ -7,7 +7,7 @@ use Rattle.he_summary.specs.Written.{TellsSlowest}
 use Rattle.he_summary.specs.declared.kept.Kept.{Kept}
 use Rattle.he_summary.specs.declared.tallies.Tally.{Tally}
 use Rattle.he_summary.proofs.Told.{told_parts}
-use Rattle.he_summary.proofs.writing.Races.write.Goals as goal
+use Rattle.he_summary.proofs.races.Races.write.Goals as goal
 
 pub returns : goal.returns
 returns g c = λ runs has.
