@@ -3,6 +3,7 @@ use Rattle.std.proofs.Common.{ℕ, ◌≡◌, ◌++◌, List, Result, Ok, Err, O
 use Rattle.std.specs.Prelude.{Option}
 use Rattle.std.specs.declared.vec.Vec.{Vec}
 use Rattle.he_timeline.specs.Race.{Race}
+use Rattle.he_plan.specs.Transcript.{IsTranscript, Report}
 use Rattle.he_course.specs.Course.{IsCourse}
 use Rattle.he_course.specs.declared.course.Course.{Course}
 use Rattle.he_draw.specs.Page.{section_facts}
@@ -19,6 +20,22 @@ use Rattle.he_replay.specs.declared.race_texts.Printer.TheVariants as printers
 pub written : {A E : Type 0} (result : Result A E) (IsSuch : List ℕ → Type 0) (old new : List ℕ) → OnOk result ((text : List ℕ) × IsSuch text × (new ≡ old ++ text)) → OnOk result (WritesText IsSuch old new)
 written (Ok done) IsSuch old new (text, such, appended) = record { told = text; is_told = such; appended = appended }
 written (Err fault) IsSuch old new none = none
+
+-- of a writer whose text is one by some number
+pub written_by : {A E : Type 0} (result : Result A E) (IsNumber : ℕ → Type 0) (IsSuch : ℕ → List ℕ → Type 0) (old new : List ℕ)
+    → OnOk result ((n : ℕ) × IsNumber n × ((text : List ℕ) × IsSuch n text × (new ≡ old ++ text)))
+    → OnOk result (WritesText (λ text. (n : ℕ) × IsNumber n × IsSuch n text) old new)
+written_by (Ok done) IsNumber IsSuch old new (n, is, (text, such, appended)) =
+    record { told = text; is_told = (n, is, such); appended = appended }
+written_by (Err fault) IsNumber IsSuch old new none = none
+
+-- or by the race's transcript
+pub transcript_written : {A E : Type 0} (result : Result A E) (race : Race) (report : Report) (IsSuch : Report → List ℕ → Type 0) (old new : List ℕ) → IsTranscript race report
+    → OnOk result ((text : List ℕ) × IsSuch report text × (new ≡ old ++ text))
+    → OnOk result (WritesText (λ text. (report : Report) × IsTranscript race report × IsSuch report text) old new)
+transcript_written (Ok done) race report IsSuch old new is (text, such, appended) =
+    record { told = text; is_told = (report, is, such); appended = appended }
+transcript_written (Err fault) race report IsSuch old new is none = none
 
 bare_items : {X A : Type 0} → Vec X A → Vec X (Unit {0})
 bare_items v = record { ptr = v.ptr; len = v.len; cap = v.cap; alloc = tt; items = v.items; ok = v.ok; small = v.small }

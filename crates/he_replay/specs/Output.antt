@@ -12,7 +12,7 @@ use Rattle.he_course.specs.Addresses.{all_attributes_of}
 use Rattle.he_course.specs.Course.{IsCourse}
 use Rattle.he_course.specs.declared.course.Course.{Course}
 use Rattle.he_print.specs.Parts.{States}
-use Rattle.he_story.specs.Story.{Tells}
+use Rattle.he_story.specs.Story.{story_facts}
 use Rattle.he_draw.specs.Page.{IsSection}
 use Rattle.he_draw.specs.Picture.{picture_facts}
 use Rattle.he_draw.specs.Svg.{svg_facts}
@@ -31,9 +31,16 @@ IsTranscriptText text race = (report : Report) × IsTranscript race report × (t
 abbrev pub IsOrderText : List ℕ → Race → Type 0
 IsOrderText text race = text ≡ order_text race
 
+-- the object of the race's transcript, and that of its order
+abbrev pub IsTranscriptObject : Spot → List ℕ → Race → Type 0
+IsTranscriptObject spot text race = (report : Report) × IsTranscript race report × IsTranscriptJson spot report text
+
+abbrev pub IsOrderObject : Spot → List ℕ → Race → Type 0
+IsOrderObject spot text race = IsOrderJson spot (all_attributes_of race) text
+
 -- what a printer says of a course, whose text comes from a file of this name, if it has one
 abbrev pub IsPrinted : {A : Type 0} → Printer → Option (List ℕ) → Course A → List ℕ → Type 0
-IsPrinted printers.Story file course text = Tells course [] text
+IsPrinted printers.Story file course text = States (story_facts course) text
 IsPrinted printers.Json file course text =
     IsExplanationJson (record { file = file; number = course.number; line = course.line }) course.addresses.items
     course.events.items text
@@ -50,10 +57,9 @@ IsOfCourse printer spot text race =
 -- the text of what is asked for of the race that stands here
 abbrev pub IsTextOf : Content → Spot → List ℕ → Race → Type 0
 IsTextOf contents.Transcript spot text race = IsTranscriptText text race
-IsTextOf contents.TranscriptJson spot text race =
-    (report : Report) × IsTranscript race report × IsTranscriptJson spot report text
+IsTextOf contents.TranscriptJson spot text race = IsTranscriptObject spot text race
 IsTextOf contents.Order spot text race = IsOrderText text race
-IsTextOf contents.OrderJson spot text race = IsOrderJson spot (all_attributes_of race) text
+IsTextOf contents.OrderJson spot text race = IsOrderObject spot text race
 IsTextOf (contents.Course printer) spot text race = IsOfCourse printer spot text race
 
 -- whether that has the race's place in the input

@@ -2,7 +2,7 @@
 ghost use Rattle.std.specs.Prelude.{◌≡◌, ◌++◌, None, OnOk};
 ghost use Rattle.he_write.specs.Written.{transcript_text};
 ghost use Rattle.he_json.specs.Documents.{name_of, spot_of};
-ghost use Rattle.he_replay.specs.Output.{IsPrinted, IsTextOf, IsTranscriptText, has_place};
+ghost use Rattle.he_replay.specs.Output.{IsOfCourse, IsOrderObject, IsPrinted, IsTextOf, IsTranscriptObject, IsTranscriptText, has_place};
 ghost use Rattle.he_replay.specs.Rounds.{IsAsked, WritesText};
 
 use crate::limits::TEXT_ROOM;
@@ -159,7 +159,6 @@ fn append_own<A: Allocator + Copy, T: Allocator + Copy>(
     text.extend_from_slice(&own)
 }
 
-#[tactic(auto, unfolding(he_course::specs::Addresses::all_attributes_of))]
 fn write<A: Allocator + Copy>(
     content: Content,
     alloc: A,
@@ -172,18 +171,52 @@ fn write<A: Allocator + Copy>(
 {
     match content {
         Content::Transcript => write_transcript(&transcript_of(alloc, timeline)?, text),
-        Content::TranscriptJson => {
-            write_transcript_json(alloc, place, &transcript_of(alloc, timeline)?, text)
-        }
+        Content::TranscriptJson => write_transcript_object(alloc, timeline, place, text),
         Content::Order => write_order(alloc, timeline, text),
-        Content::OrderJson => {
-            write_order_json(alloc, place, &sorted_attributes(alloc, timeline)?, text)
-        }
-        Content::Course(printer) => {
-            let course = Course::of(alloc, timeline, place.number, place.line)?;
-            printer.write(alloc, &course, place.file, text)
-        }
+        Content::OrderJson => write_order_object(alloc, timeline, place, text),
+        Content::Course(printer) => write_course(printer, alloc, timeline, place, text),
     }
+}
+
+fn write_transcript_object<A: Allocator + Copy>(
+    alloc: A,
+    timeline: &Timeline<A>,
+    place: Place<'_>,
+    text: &mut Vec<u8, A>,
+) -> Result<(), Memory>
+    ensures { OnOk result (WritesText (λ told. IsTranscriptObject (spot_of place.entry) told timeline.now)
+        text.old.items text.new.items) }
+{
+    let transcript = transcript_of(alloc, timeline)?;
+    write_transcript_json(alloc, place, &transcript, text)
+}
+
+#[tactic(auto, unfolding(he_course::specs::Addresses::all_attributes_of))]
+fn write_order_object<A: Allocator + Copy>(
+    alloc: A,
+    timeline: &Timeline<A>,
+    place: Place<'_>,
+    text: &mut Vec<u8, A>,
+) -> Result<(), Memory>
+    ensures { OnOk result (WritesText (λ told. IsOrderObject (spot_of place.entry) told timeline.now) text.old.items
+        text.new.items) }
+{
+    let sorted = sorted_attributes(alloc, timeline)?;
+    write_order_json(alloc, place, &sorted, text)
+}
+
+fn write_course<A: Allocator + Copy>(
+    printer: Printer,
+    alloc: A,
+    timeline: &Timeline<A>,
+    place: Place<'_>,
+    text: &mut Vec<u8, A>,
+) -> Result<(), Memory>
+    ensures { OnOk result (WritesText (λ told. IsOfCourse printer (spot_of place.entry) told timeline.now)
+        text.old.items text.new.items) }
+{
+    let course = Course::of(alloc, timeline, place.number, place.line)?;
+    printer.write(alloc, &course, place.file, text)
 }
 
 impl Printer {
