@@ -17,7 +17,7 @@ use Rattle.he_connect.specs.declared.setup.Setup.{Setup}
 use Rattle.he_connect.proofs.Heard.{IsOfHost}
 use Rattle.he_connect.specs.Races.{IsExplained, IsRun, IsSetUp, RunsFrom}
 
-pub ran_so : (request : ConnectRequest) (start : Race) (to : Endpoint) (raced : Raced Dialed) (result : Result FinishedRace ConnectFault)
+pub ran_so : {E : Type 0} (request : ConnectRequest) (start : Race) (to : Endpoint) (raced : Raced Dialed) (result : Result FinishedRace E)
     → ReplaysGiven start raced → WinnerGoes (goes_to to) raced → IsOfHost request start raced.recorded
     → IfOk result (λ run. run.text.items ≡ timeline_text raced.recorded)
     → IfOk result (λ run. IsExplained request.explains raced.recorded run.story.items)
