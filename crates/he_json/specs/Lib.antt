@@ -2,3 +2,5 @@ pub mod Documents
 pub mod Facts
 pub mod Json
 pub mod Laws
+pub mod Machine
+pub mod Names

@@ -1,9 +1,10 @@
 //! What `he` writes of a race, as one JSON object on one line.
 //!
 //! [`write_transcript_json`] writes the race's attempts and how it ended, [`write_order_json`] its addresses in order
-//! of preference, and [`write_explanation_json`] that order with its reasons and the events of the race. Each object
+//! of preference, and [`write_explanation_json`] that order with its reasons and the events of the race. Each of these
 //! begins with the name of the race's file, its number and its line ([`Place`]). Attempts and places are counted from
-//! 0, ticks are milliseconds.
+//! 0, ticks are milliseconds. [`write_machine_json`] writes the addresses and routes of a machine, and
+//! [`write_names_json`] the addresses of a host.
 //!
 //! The texts are JSON (RFC 8259) without spaces between their parts.
 //!
@@ -19,10 +20,14 @@ mod attempts;
 pub mod documents;
 mod events;
 pub mod laws;
+pub mod machine;
 mod members;
+pub mod names;
 mod order;
 pub mod place;
 mod reasons;
 
 pub use documents::{write_explanation_json, write_order_json, write_transcript_json};
+pub use machine::write_machine_json;
+pub use names::write_names_json;
 pub use place::Place;

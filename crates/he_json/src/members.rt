@@ -73,7 +73,10 @@ pub(crate) fn write_words<A: Allocator + Copy>(
     Ok(())
 }
 
-fn write_address<A: Allocator + Copy>(ip: Ip, text: &mut Vec<u8, A>) -> Result<(), Memory>
+pub(crate) fn write_address<A: Allocator + Copy>(
+    ip: Ip,
+    text: &mut Vec<u8, A>,
+) -> Result<(), Memory>
     ensures { OnOk result (text.new.items ≡ text.old.items ++ address_text ip) }
 {
     write_words(b"\"", text)?;
