@@ -35,15 +35,15 @@ make hostile HE=FILE       runs a built program over streams that fail, open pip
 make cost HE=FILE          bounds what a built program takes for a text of some megabytes: time and memory
 make refused HE=FILE       refuses each allocation of a built program in turn, also of a live race, and those of
                            the races that the crate cases runs
-make hosts HE=FILE         tries tools/host-lines on recorded hosts, has a built program read its lines,
-                           and tries the command line of tools/race-text
+make hosts HE=FILE         compares `he host` of a built program with scripts/host-lines, a second reading, and with
+                           the kernel, in network namespaces; tries that reading on recorded hosts
 make captures HE=FILE      tries tools/from-capture and tools/compare-done on packet captures; needs tshark
 make live HE=FILE          runs live races of a built program, and looks from the other side at what it did
 make names HE=FILE         looks names up by a built program, from name servers of its own, right ones and wrong ones
 make connect HE=FILE       connects by a built program in full: transfers of 100 MB, 1,000 connections under faults
 make fuzz SECONDS=60 SEED=1 HE=FILE
                            compares a built program with a plain reading of the rules, on texts that are drawn
-make explained HE=FILE     compares what a built program explains with its transcripts and orders
+make explained HE=FILE     compares what a built program writes of the examples with a plain reading of the rules
 make page HE=FILE          reads pages that a built program draws as a browser would
 make manual HE=FILE        compares the help of a built program with its manual page and its completions
 endef

@@ -28,19 +28,19 @@ _he() {
             return ;;
         "live --port")
             mapfile -t COMPREPLY < <(compgen -A service -- "$word"); return ;;
-        "replay --workers" | "draw --width")
+        "replay --workers" | "draw --width" | "summary --slowest")
             return ;;
     esac
     case $command in
-        connect) options='-4 -6 -z --timeout --set --wait --host --resolver --record --explain --verbose -v --help -h' words=HOST ;;
-        names) options='--resolver --verbose -v --help -h' words=HOST ;;
-        host) options='--for --help -h' words= ;;
+        connect) options='-4 -6 -z --timeout --set --wait --host --resolver --record --json --explain --verbose -v --help -h' words=HOST ;;
+        names) options='--resolver --json --verbose -v --help -h' words=HOST ;;
+        host) options='--for --json --help -h' words= ;;
         live) options='--port --timeout --set --record --must-connect --verbose -v --help -h' words=FILE ;;
         replay) options='--workers --set --json --verbose -v --help -h' words=FILE ;;
-        explain) options='--lines --set --json --verbose -v --help -h' words=FILE ;;
+        explain) options='--set --json --verbose -v --help -h' words=FILE ;;
         draw) options='--ascii --width --svg --html --set --verbose -v --help -h' words=FILE ;;
-        summary) options='--json --keep-going --set --verbose -v --help -h' words=FILE ;;
-        compare) options='--set --verbose -v --help -h' words=FILE ;;
+        summary) options='--json --openmetrics --slowest --keep-going --set --verbose -v --help -h' words=FILE ;;
+        compare) options='--json --races --keep-going --set --verbose -v --help -h' words=FILE ;;
         order) options='--json --verbose -v --help -h' words=FILE ;;
         check) options='--all --help -h' words=FILE ;;
         help) options='' words=COMMAND ;;

@@ -74,7 +74,7 @@ enum he_kind {
     HE_NO_DEFAULT_ROW = 10,   /* the policy table has no ::/0 */
     HE_NO_MAPPED_ROW = 11,    /* the policy table has no ::ffff:0:0/96 */
     HE_SHARED_PRECEDENCE = 12, /* a row inside ::ffff:0:0/96 has the precedence of one outside */
-    HE_OTHER_POLICY = 13,     /* told by no call today: a policy row too many is HE_TOO_MANY, a prefix twice HE_REPEATED */
+    HE_OTHER_POLICY = 13,     /* told by no call: a policy row too many is HE_TOO_MANY, a prefix twice HE_REPEATED */
     HE_MEMORY = 14            /* told by no call: where malloc refuses, the answer is HE_NO_MEMORY, and the kind 0 */
 };
 
@@ -88,11 +88,12 @@ struct he_told {
 /* What a text comes to: its transcripts, its orders, its explanations; or how many races and lines it has. Each call
  * writes into `room` and tells of it.
  *
- * Proved: unless it answers HE_NO_MEMORY, the text that is wanted is the one that is defined, in full: of each race
- * up to the text's first fault its transcript, its order, or its explanation (the lines of `he explain --lines`), one
- * after the other; `line` and `kind` are that first fault's. It stands at the front of the room, and what is behind it there stays, just where it fits;
- * else the answer is HE_NO_ROOM, and the room stays as it was. The answer is HE_FAULT just where there is a fault, and
- * the room is large enough. he_check wants `N races, M lines` where there is no fault.
+ * Proved: unless it answers HE_NO_MEMORY, the text that is wanted is one that is defined, in full: of each race up to
+ * the text's first fault its transcript, its order, or an object that explains it (as `he explain --json` writes it,
+ * in JSON, with `file` null), one after the other; `line` and `kind` are that first fault's. It stands at the front of
+ * the room, and what is behind it there stays, just where it fits; else the answer is HE_NO_ROOM, and the room stays
+ * as it was. The answer is HE_FAULT just where there is a fault, and the room is large enough. he_check wants
+ * `N races, M lines` where there is no fault.
  *
  * Tested only: what he_check says where there is one: its line and kind, the line itself with a mark below the part
  * that is wrong, and what was expected there. The slips of which `he check` warns are not told.

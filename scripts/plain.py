@@ -11,6 +11,7 @@ usage: scripts/plain.py order < TEXT
            with these settings in place of each race's own, as with --set
 """
 import copy
+import ipaddress
 import pathlib
 import re
 import sys
@@ -68,80 +69,21 @@ class Fault(Exception):
     """What is wrong with a line."""
 
 
-# Addresses and their texts: RFC 4291 section 2.2, RFC 5952 section 4
-
-
-def read_v4(text):
-    parts = text.split(".")
-    if len(parts) != 4:
-        return None
-    number = 0
-    for part in parts:
-        if not re.fullmatch("0|[1-9][0-9]{0,2}", part) or int(part) > 255:
-            return None
-        number = number * 256 + int(part)
-    return number
-
-
-def read_groups(text, dotted_end):
-    """The groups between single colons, as a list of numbers; the last two may be an IPv4 text."""
-    groups = []
-    if text == "":
-        return groups
-    parts = text.split(":")
-    for place, part in enumerate(parts):
-        if re.fullmatch("[0-9a-fA-F]{1,4}", part):
-            groups.append(int(part, 16))
-        elif dotted_end and place == len(parts) - 1 and read_v4(part) is not None:
-            groups += [read_v4(part) >> 16, read_v4(part) & 0xFFFF]
-        else:
-            return None
-    return groups
-
-
-def read_v6(text):
-    halves = text.split("::")
-    if len(halves) == 1:
-        groups = read_groups(text, True)
-        if groups is None or len(groups) != 8:
-            return None
-    elif len(halves) == 2:
-        left, right = read_groups(halves[0], False), read_groups(halves[1], True)
-        if left is None or right is None or len(left) + len(right) > 7:
-            return None
-        groups = left + [0] * (8 - len(left) - len(right)) + right
-    else:
-        return None
-    number = 0
-    for group in groups:
-        number = number * 65536 + group
-    return number
+# Addresses and their texts: RFC 4291 section 2.2, RFC 5952 section 4, as Python's library has them
 
 
 @kept
 def read_address(text):
-    number = read_v4(text)
-    if number is not None:
-        return Address(4, number)
-    number = read_v6(text)
-    return None if number is None else Address(6, number)
+    """An address without a zone."""
+    try:
+        address = ipaddress.ip_address(text)
+    except ValueError:
+        return None
+    return None if "%" in text else Address(address.version, int(address))
 
 
 def print_address(address):
-    if address.family == 4:
-        return ".".join(str(address.number >> shift & 255) for shift in (24, 16, 8, 0))
-    groups = [address.number >> shift & 0xFFFF for shift in range(112, -1, -16)]
-    best, best_start = 1, None
-    for start in range(8):
-        length = 0
-        while start + length < 8 and groups[start + length] == 0:
-            length += 1
-        if length > best:
-            best, best_start = length, start
-    words = [format(group, "x") for group in groups]
-    if best_start is None:
-        return ":".join(words)
-    return ":".join(words[:best_start]) + "::" + ":".join(words[best_start + best:])
+    return str((ipaddress.IPv4Address if address.family == 4 else ipaddress.IPv6Address)(address.number))
 
 
 def mapped(address):

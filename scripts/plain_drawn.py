@@ -1,6 +1,6 @@
 #!/usr/bin/env python3
 """A plain reading of what `he draw` draws, apart from the program, as plain.py is of the rules: the picture of each race,
-by docs/DEFINITIONS.md and crates/he_draw/specs.
+by docs/DEFINITIONS.md and crates/he_draw/specs, under the words of a story for how it ended.
 
 needs: python3, its standard library alone
 usage: scripts/plain_drawn.py [NAME=N ..] < TEXT
@@ -11,6 +11,7 @@ from collections import namedtuple
 
 import plain
 from plain import print_address
+from plain_story import ending
 
 LEAST_COLUMNS = 10
 # What a line has beside its label, its columns and its words: an edge at both sides, and a space outside each.
@@ -62,9 +63,7 @@ def bar(row, column, signs):
 
 
 def picture(number, race, width, signs):
-    kind, place, end = race.report.result
-    told = {"won": f"won after {end} ms by attempt {(place or 0) + 1}", "limit": f"given up at the limit of {end} ms",
-            "exhausted": f"nothing left to try after {end} ms"}
+    end = race.report.result.tick
     drawn = rows(race)
     label = max(len(row.label) for row in drawn)
     columns = max(width - label - max(len(row.words) for row in drawn) - EDGES, LEAST_COLUMNS)
@@ -72,7 +71,7 @@ def picture(number, race, width, signs):
     def column(tick):
         return min(tick, end) * (columns - 1) // end if end else 0
 
-    lines = [f"race {number}, line {race.line}: {told[kind]}"]
+    lines = [f"race {number}, line {race.line}: {ending(race.report)}"]
     lines += [f"{row.label:{label}} {signs['edge']}{bar(row, column, signs):{columns}}{signs['edge']} {row.words}"
               for row in drawn]
     lines.append(" " * (label + 2) + "0" + " " * max(columns - len(str(end)) - 4, 1) + f"{end} ms")

@@ -19,8 +19,12 @@ LEAST_FLOOR = plain.SETTINGS["floor"][0]
 # Blocks whose addresses stand for something else: RFC 6052, RFC 3056, RFC 4380.
 KINDS = {"64:ff9b::/96": " (NAT64)", "2002::/16": " (6to4)", "2001::/32": " (Teredo)"}
 
-# Why an attempt starts, in words, and the tick from which it was due.
-Cause = namedtuple("Cause", "words due")
+# A pause of fewer milliseconds has no line. No more attempts are named that stood between.
+LEAST_PAUSE, MAX_NAMED = 5, 3
+
+# Why an attempt starts, in words, the tick from which it was due, and its name in JSON with a delay and the place of the
+# attempt that this is after.
+Cause = namedtuple("Cause", "words due name delay after", defaults=(None, None))
 
 
 # How a race ended
@@ -30,11 +34,32 @@ def ending(report):
     kind, place, tick = report.result
     attempts = counted(len(report.lines), "attempt")
     if kind == "won":
-        address = print_address(report.lines[place].address)
-        return f"connected to {address} after {tick} ms, by attempt {place + 1} of {len(report.lines)}"
+        return f"connected to {print_address(report.lines[place].address)} after {tick} ms"
     if kind == "exhausted":
         return f"not connected: nothing is left to try after {tick} ms and {attempts}"
     return f"not connected by the limit of {tick} ms, after {attempts}"
+
+
+def between(race, report, winner):
+    """What stood between the winner's answer and its attempt."""
+    waited = ["the wait for the AAAA answer"] if winner.address.family == 4 and waits(race) else []
+    stood = []
+    for line in report.lines[:winner.place]:
+        had_failed = line.fate == "failed" and line.tick <= winner.start
+        stood.append(f"{print_address(line.address)} {'failed' if had_failed else 'gave no answer'}")
+    more = f" and {len(stood) - MAX_NAMED} more" if len(stood) > MAX_NAMED else ""
+    return ", ".join(waited + stood[:MAX_NAMED]) + more
+
+
+def verdict(race, report):
+    """How the race ended, and what it lost, if it was won: from its winner's answer to its winner's attempt."""
+    kind, place, _ = report.result
+    if kind != "won":
+        return ending(report)
+    winner = report.lines[place]
+    lost = winner.start - race.seen(tick_of(race, "aaaa" if winner.address.family == 6 else "a"))
+    told = f"{lost} ms lost: {between(race, report, winner)}" if lost > 0 else "nothing lost"
+    return f"{ending(report)}; {told}"
 
 
 # The addresses in order of preference: RFC 6724 section 6, RFC 8305 section 4
@@ -53,7 +78,7 @@ def reached(race, fact):
 
 
 def reason(earlier, later):
-    """What puts the later address behind the earlier one, and by which rule."""
+    """What puts the later address after the earlier one, and by which rule."""
     rule, is_first = plain.deciding_rule(earlier, later)
     assert is_first is not False
     rtt = "unknown" if later["rtt"] is None else f"{later['rtt']} ms"
@@ -80,8 +105,8 @@ def preferred(race):
         return ["no address to try"]
     width = len(str(len(facts))) + 2
     for number, fact in enumerate(facts, 1):
-        behind = reason(facts[number - 2], fact) if number > 1 else ""
-        told = f"{print_address(fact['address'])}{kind(fact['address'])}{reached(race, fact)}{behind}"
+        why = reason(facts[number - 2], fact) if number > 1 else ""
+        told = f"{print_address(fact['address'])}{kind(fact['address'])}{reached(race, fact)}{why}"
         lines.append(f"{number:>{width}}. {told}")
     return ["preferred, once every answer is known:", *lines]
 
@@ -95,10 +120,11 @@ def tick_of(race, name):
 
 def first_cause(race, tick):
     if not race.is_seen("aaaa", tick):
-        return Cause("the wait for the AAAA answer is over", tick_of(race, "a") + race.setting("resolution"))
+        over = tick_of(race, "a") + race.setting("resolution")
+        return Cause("the wait for the AAAA answer is over", over, "resolution delay")
     if race.usable("aaaa"):
-        return Cause("the AAAA answer is there", tick_of(race, "aaaa"))
-    return Cause("both answers are there", max(tick_of(race, "aaaa"), tick_of(race, "a")))
+        return Cause("the AAAA answer is there", tick_of(race, "aaaa"), "aaaa answer")
+    return Cause("both answers are there", max(tick_of(race, "aaaa"), tick_of(race, "a")), "both answers")
 
 
 def failure(race, line):
@@ -118,33 +144,46 @@ def later_cause(race, before, line):
         waited.append(max(last.start + floor, *failures))
     if any(race.seen(tick) < line.start for tick in waited):
         name = "aaaa" if line.address.family == 6 else "a"
-        return Cause(f"it came with the {NAMES[name]} answer", tick_of(race, name))
+        return Cause(f"it came with the {NAMES[name]} answer", tick_of(race, name), f"later {name} answer")
     if line.start >= last.start + delay:
-        return Cause(f"{delay} ms after the start of attempt {last.place + 1}", last.start + delay)
+        words = f"{delay} ms after the start of attempt {last.place + 1}"
+        return Cause(words, last.start + delay, "attempt delay", delay, last.place)
     if max(failures) > last.start + floor:
-        return Cause("all before have failed", max(failures))
-    return Cause(f"all before have failed, and the floor of {floor} ms after attempt {last.place + 1} is over",
-                 last.start + floor)
+        return Cause("all before have failed", max(failures), "last failure")
+    words = f"all before have failed, and the floor of {floor} ms after attempt {last.place + 1} is over"
+    return Cause(words, last.start + floor, "floor", floor, last.place)
+
+
+def place_in_list(race, line):
+    """The place of its address in the list of those that are known at its start, their number, and whose turn it is."""
+    addresses = race.listed(line.start)
+    place, family = addresses.index(line.address), line.address.family
+    if place < race.setting("count") and family == addresses[0].family:
+        return place, len(addresses), "leads"
+    is_other = family != addresses[place - 1].family
+    return place, len(addresses), "in turn" if is_other else "other run out"
 
 
 def listed(race, line):
-    """Which address it is in the list of those that are known at its start, and whose turn it is there."""
-    addresses = race.listed(line.start)
-    if len(addresses) == 1:
+    """The same in words."""
+    place, count, turn = place_in_list(race, line)
+    if count == 1:
         return "; the only address known"
-    place, family = addresses.index(line.address), line.address.family
-    if place < race.setting("count") and family == addresses[0].family:
-        turn = f"IPv{family} first"
-    elif family != addresses[place - 1].family:
-        turn = "IPv6 and IPv4 in turn"
-    else:
-        turn = f"IPv{family} alone is left"
-    return f"; number {place + 1} of {len(addresses)} known, {turn}"
+    family = line.address.family
+    words = {"leads": f"IPv{family} first", "in turn": "IPv6 and IPv4 in turn",
+             "other run out": f"IPv{family} alone is left"}
+    return f"; number {place + 1} of {count} known, {words[turn]}"
+
+
+def late(race, tick):
+    """How long the client slept up to the tick, where that is too short for a line."""
+    return next((f" ({end - start} ms late)" for start, end in race.pauses
+                 if end == tick and end - start < LEAST_PAUSE), "")
 
 
 def started(race, before, line):
     cause = later_cause(race, before, line) if before else first_cause(race, line.start)
-    held = ", late because of a pause" if cause.due < line.start else ""
+    held = (late(race, line.start) or ", late because of a pause") if cause.due < line.start else ""
     return f"attempt {line.place + 1} to {print_address(line.address)}: {cause.words}{held}{listed(race, line)}"
 
 
@@ -158,7 +197,7 @@ def answers(race):
             tick, other = race.seen(tick_of(race, name)), OTHER[name]
             missing = "" if race.is_seen(other, tick) else f"; the {NAMES[other]} answer is not there yet"
             usable = counted(len(race.usable(name)), "address", "addresses")
-            events.append((tick, f"{NAMES[name]} answer: {usable} to try{missing}"))
+            events.append((tick, f"{NAMES[name]} answer{late(race, tick)}: {usable} to try{missing}"))
     return events
 
 
@@ -170,15 +209,17 @@ def waits(race):
     if begin >= end or race.is_seen("aaaa", begin):
         return []
     events = [(begin, f"wait for the AAAA answer until {end} ms (Resolution Delay)")]
-    if not race.is_seen("aaaa", race.seen(end)):
-        events.append((race.seen(end), "the wait is over, without the AAAA answer"))
+    over = race.seen(end)
+    if not race.is_seen("aaaa", over):
+        events.append((over, f"the wait is over, without the AAAA answer{late(race, over)}"))
     return events
 
 
-def ends(report, fate):
+def ends(race, report, fate):
     """The ends of the attempts of this fate."""
     words = {"failed": "failed", "won": "connected", "cancelled": "cancelled"}[fate]
-    return [(line.tick, f"attempt {line.place + 1} {words} after {line.tick - line.start} ms")
+    return [(line.tick, f"attempt {line.place + 1} {words} after {line.tick - line.start} ms"
+             + (late(race, line.tick) if fate != "cancelled" else ""))
             for line in report.lines if line.fate == fate]
 
 
@@ -187,17 +228,17 @@ def events(race, report):
     over = {"exhausted": "nothing is left to try", "limit": "the limit: the race is given up"}
     kind, _, tick = report.result
     told = [(start, f"pause: the client sees and starts nothing until {end} ms") for start, end in race.pauses
-            if start < tick]
-    told += answers(race) + waits(race) + ends(report, "failed")
+            if start < tick and end - start >= LEAST_PAUSE]
+    told += answers(race) + waits(race) + ends(race, report, "failed")
     told += [(line.start, started(race, report.lines[:line.place], line)) for line in report.lines]
-    told += ends(report, "won") if kind == "won" else [(tick, over[kind])]
-    told += ends(report, "cancelled")
+    told += ends(race, report, "won") if kind == "won" else [(tick, over[kind])]
+    told += ends(race, report, "cancelled")
     return sorted((event for event in told if event[0] <= tick), key=lambda event: event[0])
 
 
 def happened(race, report):
     width = len(str(report.result.tick)) + 2
-    return ["what happened:", *(f"{tick:>{width}} ms  {told}" for tick, told in events(race, report))]
+    return ["course:", *(f"{tick:>{width}} ms  {told}" for tick, told in events(race, report))]
 
 
 # What had to wait, and what a floor would have changed
@@ -232,7 +273,7 @@ def floored(race, report):
 def story(number, race):
     """The story of the race of this number in its text, counted from 1."""
     report = race.report
-    lines = [f"race {number}, line {race.line}: {ending(report)}", *preferred(race), *happened(race, report)]
+    lines = [f"race {number}, line {race.line}: {verdict(race, report)}", *preferred(race), *happened(race, report)]
     lines += [*waited(race, report, "aaaa"), *waited(race, report, "a"), *floored(race, report)]
     return ("\n" if number > 1 else "") + "".join(line + "\n" for line in lines)
 

@@ -3,7 +3,7 @@
 docs/DEFINITIONS.md and crates/he_summary/specs.
 
 needs: python3, its standard library alone
-usage: scripts/plain_summary.py [--json] [NAME=N ..] < TEXT
+usage: scripts/plain_summary.py [--json] [--slowest N] [NAME=N ..] < TEXT
            with these settings in place of each race's own, as with --set
 """
 import json
@@ -17,7 +17,7 @@ from plain import counted, print_address
 MOST_TOLD = 10
 PERCENTS = {"median": 50, "p90": 90, "p99": 99, "greatest": 100}
 
-Summary = namedtuple("Summary", "races won kinds times attempts most waited failed silent tried")
+Summary = namedtuple("Summary", "races won kinds times lost attempts most waited failed silent tried slowest")
 
 
 def percentile(times, percent):
@@ -45,16 +45,52 @@ def has_waited(race, report):
     return not race.is_seen("aaaa", start) and race.is_seen("a", start - 1)
 
 
+def lost_time(race, report):
+    """How long after the winner's answer was seen its attempt started."""
+    winner = report.lines[report.result.place]
+    answer = race.answers["aaaa" if winner.address.family == 6 else "a"]
+    return max(0, winner.start - race.seen(answer.tick))
+
+
+def dead_before(race, report):
+    """What an address was that was tried before the winner's: silent, or else one that failed."""
+    before = report.lines[:report.result.place]
+    if any(is_silent(race, line) for line in before):
+        return "silent"
+    return "failed" if any(is_failed(race, line) for line in before) else None
+
+
+def losses(won):
+    """What the won races lost to dead addresses, by what these were."""
+    lost = {"failed": [], "silent": []}
+    for race, report in won:
+        dead, time = dead_before(race, report), lost_time(race, report)
+        if dead and time:
+            lost[dead].append(time)
+    return lost
+
+
+def share(number, of):
+    """A share in percent, to a tenth, rounded to the nearest; of none there is none."""
+    if not of:
+        return ""
+    tenths = (2000 * number + of) // (2 * of)
+    return f" ({tenths // 10}.{tenths % 10} %)"
+
+
 def summed(races, changes):
     made = [(race, race.report) for race in (race.changed(changes) for race in races)]
     won = [report for _, report in made if report.result.kind == "won"]
+    numbered = [(number, race, report) for number, (race, report) in enumerate(made, 1) if report.result.kind == "won"]
     lines = [(race, line) for race, report in made for line in report.lines]
     return Summary(
         len(made), Counter(report.lines[report.result.place].address.family for report in won),
-        Counter(report.result.kind for _, report in made), [report.result.tick for report in won], len(lines),
+        Counter(report.result.kind for _, report in made), [report.result.tick for report in won],
+        losses([(race, report) for _, race, report in numbered]), len(lines),
         max((len(report.lines) for _, report in made), default=0), sum(has_waited(*one) for one in made),
         *(Counter(line.address for race, line in lines if test(race, line)) for test in (is_failed, is_silent)),
-        Counter(line.address for _, line in lines))
+        Counter(line.address for _, line in lines),
+        sorted(numbered, key=lambda one: (-one[2].result.tick, one[0])))
 
 
 def worst(summary):
@@ -63,46 +99,88 @@ def worst(summary):
     return sorted(lost, key=lambda address: (-lost[address], plain.mapped(address)))[:MOST_TOLD]
 
 
-def percentiles(summary):
-    return {name: percentile(summary.times, percent) for name, percent in PERCENTS.items()} if summary.times else None
+def percentiles(times, names=tuple(PERCENTS)):
+    return {name: percentile(times, PERCENTS[name]) for name in names}
 
 
-def as_text(summary):
-    times = percentiles(summary)
+def lost_text(summary, dead, what):
+    times = summary.lost[dead]
+    if not times:
+        return f"no time was lost to {what}"
+    at = percentiles(times, ("median", "greatest"))
+    return (f"lost to {what}: in {counted(len(times), 'race')}{share(len(times), len(summary.times))},"
+            f" {sum(times)} ms in all, median {at['median']} ms, greatest {at['greatest']} ms")
+
+
+def as_text(summary, slowest):
+    times = percentiles(summary.times) if summary.times else None
+    kinds = [("won", summary.kinds["won"]), ("by IPv6", summary.won[6]), ("by IPv4", summary.won[4]),
+             ("exhausted", summary.kinds["exhausted"]), ("at the limit", summary.kinds["limit"])]
     lines = [
-        f"{counted(summary.races, 'race')}: {summary.kinds['won']} won ({summary.won[6]} by IPv6, {summary.won[4]} by"
-        f" IPv4), {summary.kinds['exhausted']} exhausted, {summary.kinds['limit']} at the limit",
+        f"{counted(summary.races, 'race')}: "
+        + ", ".join(f"{number} {kind}{share(number, summary.races)}" for kind, number in kinds),
         "no race was won" if times is None else
         f"time to connect: median {times['median']} ms, 90 of 100 within {times['p90']} ms, 99 of 100 within"
         f" {times['p99']} ms, greatest {times['greatest']} ms",
+        lost_text(summary, "failed", "addresses that failed"),
+        lost_text(summary, "silent", "silent addresses"),
         f"attempts: {summary.attempts}, at most {summary.most} in a race",
-        f"the Resolution Delay was waited out in {counted(summary.waited, 'race')}",
+        f"the Resolution Delay was waited out in {counted(summary.waited, 'race')}"
+        + share(summary.waited, summary.races),
     ]
     addresses = worst(summary)
     lines += ["failed or silent most often:"] if addresses else []
     lines += [f"  {summary.failed[address]} failed, {summary.silent[address]} silent of"
               f" {counted(summary.tried[address], 'attempt')} to {print_address(address)}" for address in addresses]
+    slow = summary.slowest[:slowest]
+    lines += ["slowest:"] if slow else []
+    lines += [f"  -:{race.line} race {number}: {report.result.tick} ms to"
+              f" {print_address(report.lines[report.result.place].address)}, {lost_time(race, report)} ms lost"
+              for number, race, report in slow]
     return "".join(f"{line}\n" for line in lines)
 
 
-def as_json(summary):
-    failing = [{"address": print_address(address), "failed": summary.failed[address],
-                "silent": summary.silent[address], "attempts": summary.tried[address]} for address in worst(summary)]
-    return json.dumps({
-        "races": summary.races, "won": {"ipv6": summary.won[6], "ipv4": summary.won[4]},
-        "exhausted": summary.kinds["exhausted"], "limit": summary.kinds["limit"], "connect_ms": percentiles(summary),
+def lost_json(times):
+    return {"races": len(times), "total": sum(times), **percentiles(times, ("median", "greatest"))} if times else None
+
+
+def as_json(summary, slowest):
+    failing = [{"failed": summary.failed[address], "silent": summary.silent[address],
+                "attempts": summary.tried[address], "address": print_address(address)} for address in worst(summary)]
+    told = {
+        "races": summary.races,
+        "won": {"all": summary.kinds["won"], "ipv6": summary.won[6], "ipv4": summary.won[4]},
+        "exhausted": summary.kinds["exhausted"], "limit": summary.kinds["limit"],
+        "connect_ms": percentiles(summary.times) if summary.times else None,
+        "lost_ms": {dead: lost_json(summary.lost[dead]) for dead in ("failed", "silent")},
         "attempts": {"total": summary.attempts, "most": summary.most}, "resolution_delay": summary.waited,
-        "failing": failing}, separators=(",", ":")) + "\n"
+        "failing": failing}
+    if slowest:
+        told["slowest"] = [
+            {"file": "-", "race": number, "line": race.line, "ms": report.result.tick,
+             "address": print_address(report.lines[report.result.place].address), "lost_ms": lost_time(race, report)}
+            for number, race, report in summary.slowest[:slowest]]
+    return json.dumps(told, separators=(",", ":")) + "\n"
 
 
-def written(races, changes):
-    return as_text(summed(races, changes)).encode()
+def written(races, changes, slowest=0):
+    return as_text(summed(races, changes), slowest).encode()
 
 
-def written_json(races, changes):
-    return as_json(summed(races, changes)).encode()
+def written_json(races, changes, slowest=0):
+    return as_json(summed(races, changes), slowest).encode()
+
+
+def main(words):
+    make = written_json if "--json" in words else written
+    words = [word for word in words if word != "--json"]
+    slowest = 0
+    if "--slowest" in words:
+        place = words.index("--slowest")
+        slowest = int(words[place + 1])
+        del words[place:place + 2]
+    plain.answer(lambda races, changes: make(races, changes, slowest), words)
 
 
 if __name__ == "__main__":
-    words = sys.argv[1:]
-    plain.answer(written_json if "--json" in words else written, [word for word in words if word != "--json"])
+    main(sys.argv[1:])

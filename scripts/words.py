@@ -17,6 +17,10 @@ class Option:
     is_repeated: bool
     is_many: bool  # whether it takes several values
 
+    def kind(self):
+        """What its value is: a list of numbers is completed as one."""
+        return "NAME=N" if self.value.startswith("NAME=N") else self.value
+
     def names(self):
         return [name for name in (self.long, self.short) if name]
 
@@ -123,7 +127,7 @@ def bash_values(commands):
     for command in commands:
         for option in command.options:
             if option.value:
-                by_value.setdefault(option.value, []).extend(f'"{command.name} {name}"' for name in option.names())
+                by_value.setdefault(option.kind(), []).extend(f'"{command.name} {name}"' for name in option.names())
     answers = {
         "FILE": 'compopt -o filenames; mapfile -t COMPREPLY < <(compgen -f -- "$word"); return',
         "PORT": 'mapfile -t COMPREPLY < <(compgen -A service -- "$word"); return',
@@ -182,7 +186,7 @@ def fish_option(option):
     }
     short = f" -s {option.short[1:]}" if option.short else ""
     long = f" -l {option.long[2:]}" if option.long else ""
-    return f"{short}{long}{values.get(option.value, ' -x')} -d {quoted(first_sentence(option.help))}"
+    return f"{short}{long}{values.get(option.kind(), ' -x')} -d {quoted(first_sentence(option.help))}"
 
 
 def zsh(commands):
@@ -228,7 +232,7 @@ def zsh_options(command):
             "RESOLVER": ":resolver:(system)",
             "NAME=N": ":setting:_he_settings",
         }
-        action = values.get(option.value, f":{option.value}:")
+        action = values.get(option.kind(), f":{option.value}:")
         text = first_sentence(option.help).replace("[", "\\[").replace("]", "\\]").replace(":", "\\:")
         names = option.names()
         rest = f"[{text}]{action}"

@@ -9,6 +9,8 @@ race when it comes. Once it is over, the function's `Race` has the race's record
 
 The library is libhe.so.1, or the file that the variable HE_LIBRARY names.
 """
+from __future__ import annotations
+
 import asyncio
 import ctypes
 import ipaddress
@@ -34,7 +36,7 @@ class Step(ctypes.Structure):
         ("address", ctypes.c_uint8 * 16),
     ]
 
-    def ip(self):
+    def ip(self) -> str:
         size = 16 if self.family == 6 else 4
         return str(ipaddress.ip_address(bytes(self.address[:size])))
 
@@ -48,41 +50,42 @@ he.he_replay.argtypes = [ctypes.c_char_p, SIZE, ctypes.c_char_p, SIZE, STRUCT]
 class Race:
     """A race that is being run: its record, and the ticks of its turns."""
 
-    def __init__(self, limit=30000):
+    def __init__(self, limit: int = 30000) -> None:
         self.head = f"race 2\nset limit {limit}\nset floor 10\n"
-        self.answers = {}  # by word: the line of the family's answer
-        self.connects, self.pauses = [], []
+        self.answers: dict[str, str] = {}  # by word: the line of the family's answer
+        self.connects: list[str] = []
+        self.pauses: list[str] = []
         self.started = 0
         self.last = 0
         self.begun = time.monotonic()
 
-    def ticks(self):
+    def ticks(self) -> int:
         return int((time.monotonic() - self.begun) * 1000)
 
-    async def next_turn(self):
+    async def next_turn(self) -> None:
         """Waits for a tick behind that of the last turn, and begins a turn there."""
         while self.ticks() <= self.last:
             await asyncio.sleep(0.001)
         self.last = self.ticks()
 
-    def record(self, end="end\n"):
+    def record(self, end: str = "end\n") -> bytes:
         answers = "".join(self.answers.get(word, "") for word in FAMILIES)
         return (self.head + answers + "".join(self.connects) + "".join(self.pauses) + end).encode()
 
-    def transcript(self):
+    def transcript(self) -> str:
         record, room, told = self.record(), ctypes.create_string_buffer(ROOM), Told()
         answer = he.he_replay(record, len(record), room, ROOM, ctypes.byref(told))
         if answer != HE_DONE:
             raise ValueError(f"the record does not replay: line {told.line}, kind {told.kind}")
         return room.raw[:told.length].decode()
 
-    def answered(self, word, addresses):
+    def answered(self, word: str, addresses: list[str]) -> None:
         self.answers[word] = f"{word} {self.last} {' '.join(dict.fromkeys(addresses)) or 'none'}\n"
 
-    def ended(self, ip, start, word):
+    def ended(self, ip: str, start: int, word: str) -> None:
         self.connects.append(f"connect {ip} {word} {self.last - start}\n")
 
-    def next_step(self):
+    def next_step(self) -> Step:
         record, step, told = self.record(end=""), Step(), Told()
         answer = he.he_next(record, len(record), self.started, self.last, ctypes.byref(step), ctypes.byref(told))
         if answer != HE_DONE:
@@ -93,7 +96,7 @@ class Race:
         return step
 
 
-async def look_up(host, family):
+async def look_up(host: str, family: int) -> list[str]:
     try:
         found = await asyncio.get_running_loop().getaddrinfo(host, None, family=family, type=socket.SOCK_STREAM)
     except socket.gaierror:
@@ -101,7 +104,7 @@ async def look_up(host, family):
     return [address[0] for *_, address in found if "%" not in address[0]]
 
 
-async def dial(ip, port):
+async def dial(ip: str, port: int) -> socket.socket | None:
     """A connection to the address, or None."""
     sock = socket.socket(socket.AF_INET6 if ":" in ip else socket.AF_INET, socket.SOCK_STREAM)
     sock.setblocking(False)
@@ -115,13 +118,13 @@ async def dial(ip, port):
     return sock
 
 
-def drop(task):
+def drop(task: asyncio.Task) -> None:
     """Closes what a task connected that is of no more use."""
     if not task.cancelled() and isinstance(task.result(), socket.socket):
         task.result().close()
 
 
-async def run(race, host, port):
+async def run(race: Race, host: str, port: int) -> socket.socket | None:
     """Runs the race, and answers the socket that won, or None."""
     lookups = {asyncio.create_task(look_up(host, family)): word for word, family in FAMILIES.items()}
     attempts = {}  # by task: the attempt's place, address and start
@@ -155,7 +158,9 @@ async def run(race, host, port):
             sock.close()
 
 
-async def open_connection(host, port, *, race=None, **streams):
+async def open_connection(
+    host: str, port: int, *, race: Race | None = None, **streams
+) -> tuple[asyncio.StreamReader, asyncio.StreamWriter]:
     """A (reader, writer) pair, as asyncio.open_connection has it. OSError where no address could be connected to."""
     sock = await run(race or Race(), host, port)
     if sock is None:

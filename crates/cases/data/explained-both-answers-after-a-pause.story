@@ -1,7 +1,7 @@
-race 1, line 1: connected to 198.51.100.1 after 65 ms, by attempt 1 of 1
+race 1, line 1: connected to 198.51.100.1 after 65 ms; 35 ms lost: the wait for the AAAA answer
 preferred, once every answer is known:
   1. 198.51.100.1 from 192.0.2.2
-what happened:
+course:
   10 ms  A answer: 1 address to try; the AAAA answer is not there yet
   10 ms  wait for the AAAA answer until 60 ms (Resolution Delay)
   30 ms  pause: the client sees and starts nothing until 45 ms

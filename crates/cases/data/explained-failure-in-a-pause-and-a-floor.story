@@ -2,7 +2,7 @@ race 1, line 1: not connected: nothing is left to try after 105 ms and 2 attempt
 preferred, once every answer is known:
   1. 2001:db8:1::1 from 2001:db8::2
   2. 198.51.100.1 from 192.0.2.2; precedence 35, the one before 40 (RFC 6724 rule 6)
-what happened:
+course:
    20 ms  AAAA answer: 1 address to try
    20 ms  A answer: 1 address to try
    20 ms  attempt 1 to 2001:db8:1::1: the AAAA answer is there; number 1 of 2 known, IPv6 first

@@ -1,8 +1,8 @@
-race 1, line 1: connected to 2001:db8:1::1 after 450 ms, by attempt 2 of 2
+race 1, line 1: connected to 2001:db8:1::1 after 450 ms; nothing lost
 preferred, once every answer is known:
   1. 2001:db8:1::1 from 2001:db8::2
   2. 198.51.100.1 from 192.0.2.2; precedence 35, the one before 40 (RFC 6724 rule 6)
-what happened:
+course:
    10 ms  A answer: 1 address to try; the AAAA answer is not there yet
    10 ms  wait for the AAAA answer until 60 ms (Resolution Delay)
    60 ms  the wait is over, without the AAAA answer

@@ -12,7 +12,7 @@ preferred, once every answer is known:
   10. 2001:db8:1::a from 2001:db8::2; listed later in its answer (RFC 6724 rule 10)
   11. 2001:db8:1::b from 2001:db8::2; listed later in its answer (RFC 6724 rule 10)
   12. 2001:db8:1::c from 2001:db8::2; listed later in its answer (RFC 6724 rule 10)
-what happened:
+course:
      0 ms  AAAA answer: 12 addresses to try
      0 ms  A answer: 0 addresses to try
      0 ms  attempt 1 to 2001:db8:1::1: the AAAA answer is there; number 1 of 12 known, IPv6 first

@@ -2,7 +2,7 @@ race 1, line 1: not connected by the limit of 30000 ms, after 2 attempts
 preferred, once every answer is known:
   1. fe80::5 from fe80::1
   2. 2001:db8:1::1 from 2001:db8::2; scope 14, the one before 2 (RFC 6724 rule 8)
-what happened:
+course:
       0 ms  AAAA answer: 2 addresses to try; the A answer is not there yet
       0 ms  attempt 1 to fe80::5: the AAAA answer is there; number 1 of 2 known, IPv6 first
     250 ms  attempt 2 to 2001:db8:1::1: 250 ms after the start of attempt 1; number 2 of 2 known, IPv6 alone is left

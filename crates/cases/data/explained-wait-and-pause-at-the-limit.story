@@ -1,7 +1,7 @@
 race 1, line 1: not connected by the limit of 40 ms, after 0 attempts
 preferred, once every answer is known:
   1. 198.51.100.1 from 192.0.2.2
-what happened:
+course:
   10 ms  A answer: 1 address to try; the AAAA answer is not there yet
   10 ms  wait for the AAAA answer until 60 ms (Resolution Delay)
   40 ms  the limit: the race is given up

@@ -1,19 +1,19 @@
-race 1, line 1: connected to 2001:db8:1::1 after 55 ms, by attempt 1 of 1
+race 1, line 1: connected to 2001:db8:1::1 after 55 ms; nothing lost
 preferred, once every answer is known:
   1. 2001:db8:1::1 from 2001:db8::2
   2. 198.51.100.1 from 192.0.2.2; precedence 35, the one before 40 (RFC 6724 rule 6)
-what happened:
+course:
   20 ms  AAAA answer: 1 address to try; the A answer is not there yet
   20 ms  attempt 1 to 2001:db8:1::1: the AAAA answer is there; the only address known
   25 ms  A answer: 1 address to try
   55 ms  attempt 1 connected after 35 ms
 no address of the A answer was tried
 
-race 2, line 10: connected to 2001:db8:1::1 after 320 ms, by attempt 1 of 2
+race 2, line 10: connected to 2001:db8:1::1 after 320 ms; nothing lost
 preferred, once every answer is known:
   1. 2001:db8:1::1 from 2001:db8::2
   2. 198.51.100.1 from 192.0.2.2; precedence 35, the one before 40 (RFC 6724 rule 6)
-what happened:
+course:
    20 ms  AAAA answer: 1 address to try
    20 ms  A answer: 1 address to try
    20 ms  attempt 1 to 2001:db8:1::1: the AAAA answer is there; number 1 of 2 known, IPv6 first
@@ -22,11 +22,11 @@ what happened:
   320 ms  attempt 2 cancelled after 50 ms
 250 ms passed between the A answer and the first attempt at one of its addresses
 
-race 3, line 20: connected to 2001:db8:1::1 after 270 ms, by attempt 1 of 1
+race 3, line 20: connected to 2001:db8:1::1 after 270 ms; nothing lost
 preferred, once every answer is known:
   1. 2001:db8:1::1 from 2001:db8::2
   2. 198.51.100.1 from 192.0.2.2; precedence 35, the one before 40 (RFC 6724 rule 6)
-what happened:
+course:
    20 ms  AAAA answer: 1 address to try
    20 ms  A answer: 1 address to try
    20 ms  attempt 1 to 2001:db8:1::1: the AAAA answer is there; number 1 of 2 known, IPv6 first
@@ -40,7 +40,7 @@ preferred, once every answer is known:
   3. 2001:db8:1::3 from 2001:db8::2; listed later in its answer (RFC 6724 rule 10)
   4. 198.51.100.1 from 192.0.2.2; precedence 35, the one before 40 (RFC 6724 rule 6)
   5. 198.51.100.2 from 192.0.2.2; listed later in its answer (RFC 6724 rule 10)
-what happened:
+course:
     20 ms  AAAA answer: 3 addresses to try
     20 ms  A answer: 2 addresses to try
     20 ms  attempt 1 to 2001:db8:1::1: the AAAA answer is there; number 1 of 5 known, IPv6 first

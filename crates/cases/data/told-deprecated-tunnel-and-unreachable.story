@@ -1,22 +1,22 @@
-race 1, line 1: connected to 2001:db8:1::1 after 60 ms, by attempt 1 of 1
+race 1, line 1: connected to 2001:db8:1::1 after 60 ms; nothing lost
 preferred, once every answer is known:
   1. 2001:db8:1::1 from 2001:db8:5::2
   2. 2001:db8:7::80 from 2001:db8:7::2; its route is a tunnel (RFC 6724 rule 7)
   3. 198.51.100.1 from 192.168.1.23; its source is deprecated (RFC 6724 rule 3)
   4. fe80::9 from 2001:db8:5::2; scope 2, its source 14 (RFC 6724 rule 2)
-what happened:
+course:
   20 ms  AAAA answer: 3 addresses to try; the A answer is not there yet
   20 ms  attempt 1 to 2001:db8:1::1: the AAAA answer is there; number 1 of 3 known, IPv6 first
   25 ms  A answer: 1 address to try
   60 ms  attempt 1 connected after 40 ms
 no address of the A answer was tried
 
-race 2, line 12: connected to 198.51.100.1 after 50 ms, by attempt 1 of 1
+race 2, line 12: connected to 198.51.100.1 after 50 ms; nothing lost
 preferred, once every answer is known:
   1. 198.51.100.1 from 192.168.1.23
   2. 2001:db8:1::1, not reachable: no source address; the one before is reachable (RFC 6724 rule 1)
   3. 2001:db9::1, not reachable: no route; listed later in its answer (RFC 6724 rule 10)
-what happened:
+course:
   20 ms  AAAA answer: 2 addresses to try
   20 ms  A answer: 1 address to try
   20 ms  attempt 1 to 198.51.100.1: the AAAA answer is there; number 1 of 3 known, IPv4 first

@@ -1,9 +1,9 @@
-race 1, line 1: connected to 198.51.100.2 after 280 ms, by attempt 3 of 3
+race 1, line 1: connected to 198.51.100.2 after 280 ms; 230 ms lost: 2001:db8:1::1 failed, 198.51.100.1 failed
 preferred, once every answer is known:
   1. 2001:db8:1::1 from 2001:db8::2
   2. 198.51.100.1 from 192.0.2.2; precedence 35, the one before 40 (RFC 6724 rule 6)
   3. 198.51.100.2 from 192.0.2.2; listed later in its answer (RFC 6724 rule 10)
-what happened:
+course:
    20 ms  AAAA answer: 1 address to try
    20 ms  A answer: 2 addresses to try
    20 ms  attempt 1 to 2001:db8:1::1: the AAAA answer is there; number 1 of 3 known, IPv6 first
@@ -14,11 +14,11 @@ what happened:
   280 ms  attempt 3 connected after 30 ms
 100 ms passed between the A answer and the first attempt at one of its addresses
 
-race 2, line 13: connected to 198.51.100.1 after 300 ms, by attempt 2 of 2
+race 2, line 13: connected to 198.51.100.1 after 300 ms; 250 ms lost: 2001:db8:1::1 failed
 preferred, once every answer is known:
   1. 2001:db8:1::1 from 2001:db8::2
   2. 198.51.100.1 from 192.0.2.2; precedence 35, the one before 40 (RFC 6724 rule 6)
-what happened:
+course:
    20 ms  AAAA answer: 1 address to try
    20 ms  A answer: 1 address to try
    20 ms  attempt 1 to 2001:db8:1::1: the AAAA answer is there; number 1 of 2 known, IPv6 first
@@ -26,4 +26,4 @@ what happened:
   270 ms  attempt 2 to 198.51.100.1: 250 ms after the start of attempt 1; number 2 of 2 known, IPv6 and IPv4 in turn
   300 ms  attempt 2 connected after 30 ms
 250 ms passed between the A answer and the first attempt at one of its addresses
-with `set floor 10`: connected to 198.51.100.1 after 60 ms, by attempt 2 of 2
+with `set floor 10`: connected to 198.51.100.1 after 60 ms

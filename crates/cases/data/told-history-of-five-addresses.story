@@ -1,15 +1,15 @@
-race 1, line 1: connected to 2001:db8:1::5 after 290 ms, by attempt 2 of 2
+race 1, line 1: connected to 2001:db8:1::5 after 290 ms; 250 ms lost: 2001:db8:1::4 failed
 preferred, once every answer is known:
   1. 2001:db8:1::4 from 2001:db8::2
   2. 2001:db8:1::5 from 2001:db8::2; round trip time 80 ms, the one before 30 ms (RFC 8305 section 4)
   3. 2001:db8:1::3 from 2001:db8::2; round trip time unknown, the one before 80 ms (RFC 8305 section 4)
   4. 2001:db8:1::1 from 2001:db8::2; the one before was used before (RFC 8305 section 4)
   5. 2001:db8:1::2 from 2001:db8::2; listed later in its answer (RFC 6724 rule 10)
-what happened:
+course:
    20 ms  AAAA answer: 5 addresses to try; the A answer is not there yet
    20 ms  attempt 1 to 2001:db8:1::4: the AAAA answer is there; number 1 of 5 known, IPv6 first
    25 ms  A answer: 0 addresses to try
    40 ms  attempt 1 failed after 20 ms
   270 ms  attempt 2 to 2001:db8:1::5: 250 ms after the start of attempt 1; number 2 of 5 known, IPv6 alone is left
   290 ms  attempt 2 connected after 20 ms
-with `set floor 10`: connected to 2001:db8:1::5 after 60 ms, by attempt 2 of 2
+with `set floor 10`: connected to 2001:db8:1::5 after 60 ms

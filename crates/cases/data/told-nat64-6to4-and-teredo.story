@@ -1,11 +1,11 @@
-race 1, line 1: connected to 64:ff9b::c633:6401 after 560 ms, by attempt 3 of 3
+race 1, line 1: connected to 64:ff9b::c633:6401 after 560 ms; 500 ms lost: 2001:db8:1::1 gave no answer, 198.51.100.1 gave no answer
 preferred, once every answer is known:
   1. 2001:db8:1::1 from 2001:db8:5::2
   2. 64:ff9b::c633:6401 (NAT64) from 2001:db8:5::2; bits in common with its source 2, the one before 45 (RFC 6724 rule 9)
   3. 2002:c633:6401::1 (6to4) from 2001:db8:5::2; label 2, its source 1 (RFC 6724 rule 5)
   4. 2001:0:c633:6401::1 (Teredo) from 2001:db8:5::2; precedence 5, the one before 30 (RFC 6724 rule 6)
   5. 198.51.100.1, not reachable: no route; the one before is reachable (RFC 6724 rule 1)
-what happened:
+course:
    20 ms  AAAA answer: 4 addresses to try; the A answer is not there yet
    20 ms  attempt 1 to 2001:db8:1::1: the AAAA answer is there; number 1 of 4 known, IPv6 first
    30 ms  A answer: 1 address to try

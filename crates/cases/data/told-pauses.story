@@ -1,9 +1,9 @@
-race 1, line 1: connected to 2001:db8:1::1 after 510 ms, by attempt 2 of 2
+race 1, line 1: connected to 2001:db8:1::1 after 510 ms; 250 ms lost: 198.51.100.1 gave no answer
 preferred, once every answer is known:
   1. 198.51.100.1 from 192.0.2.2
   2. 198.51.100.2 from 192.0.2.2; listed later in its answer (RFC 6724 rule 10)
   3. 2001:db8:1::1 from 2001:db8::2; precedence 30, the one before 35 (RFC 6724 rule 6)
-what happened:
+course:
    25 ms  A answer: 2 addresses to try; the AAAA answer is not there yet
    25 ms  wait for the AAAA answer until 75 ms (Resolution Delay)
    50 ms  pause: the client sees and starts nothing until 210 ms
@@ -17,13 +17,13 @@ what happened:
 250 ms passed between the AAAA answer and the first attempt at one of its addresses
 185 ms passed between the A answer and the first attempt at one of its addresses
 
-race 2, line 15: connected to 198.51.100.1 after 430 ms, by attempt 4 of 4
+race 2, line 15: connected to 198.51.100.1 after 430 ms; nothing lost
 preferred, once every answer is known:
   1. 2001:db8:1::1 from 2001:db8::2
   2. 2001:db8:1::2 from 2001:db8::2; listed later in its answer (RFC 6724 rule 10)
   3. 2001:db8:1::3 from 2001:db8::2; listed later in its answer (RFC 6724 rule 10)
   4. 198.51.100.1 from 192.0.2.2; precedence 35, the one before 40 (RFC 6724 rule 6)
-what happened:
+course:
    20 ms  AAAA answer: 3 addresses to try; the A answer is not there yet
    20 ms  attempt 1 to 2001:db8:1::1: the AAAA answer is there; number 1 of 3 known, IPv6 first
    22 ms  pause: the client sees and starts nothing until 40 ms

@@ -1,6 +1,6 @@
 race 1, line 1: not connected: nothing is left to try after 5 ms and 0 attempts
 no address to try
-what happened:
+course:
   0 ms  AAAA answer: 0 addresses to try; the A answer is not there yet
   5 ms  A answer: 0 addresses to try
   5 ms  nothing is left to try
@@ -9,7 +9,7 @@ race 2, line 5: not connected by the limit of 100 ms, after 1 attempt
 preferred, once every answer is known:
   1. 198.51.100.1 from 192.0.2.2
   2. 2001:db8::9, not reachable: no route; the one before is reachable (RFC 6724 rule 1)
-what happened:
+course:
     5 ms  A answer: 1 address to try; the AAAA answer is not there yet
     5 ms  wait for the AAAA answer until 55 ms (Resolution Delay)
    55 ms  the wait is over, without the AAAA answer
@@ -23,7 +23,7 @@ race 3, line 12: not connected by the limit of 100 ms, after 1 attempt
 preferred, once every answer is known:
   1. 2001:db8::9 from 2001:db8::2
   2. 2001:db8::a from 2001:db8::2; listed later in its answer (RFC 6724 rule 10)
-what happened:
+course:
     5 ms  AAAA answer: 2 addresses to try; the A answer is not there yet
     5 ms  attempt 1 to 2001:db8::9: the AAAA answer is there; number 1 of 2 known, IPv6 first
    25 ms  attempt 1 failed after 20 ms
@@ -33,7 +33,7 @@ the A answer came at 101 ms, after the end
 race 4, line 20: not connected: nothing is left to try after 20 ms and 1 attempt
 preferred, once every answer is known:
   1. 198.51.100.1 from 192.0.2.2
-what happened:
+course:
    0 ms  AAAA answer: 0 addresses to try
    0 ms  A answer: 1 address to try
    0 ms  attempt 1 to 198.51.100.1: both answers are there; the only address known
@@ -44,7 +44,7 @@ race 5, line 27: not connected: nothing is left to try after 280 ms and 2 attemp
 preferred, once every answer is known:
   1. 2001:db8:1::1 from 2001:db8::2
   2. 2001:db8:1::2 from 2001:db8::2; listed later in its answer (RFC 6724 rule 10)
-what happened:
+course:
     0 ms  AAAA answer: 2 addresses to try
     0 ms  A answer: 0 addresses to try
     0 ms  attempt 1 to 2001:db8:1::1: the AAAA answer is there; number 1 of 2 known, IPv6 first

@@ -46,6 +46,7 @@ where
         output: ToWriter::new(writer_of(rt.alloc(), *streams)),
         faults: FakeWriter::new(rt.alloc()).with_room(faults_room),
         file: None,
+        place: 0,
         unread: 0,
     };
     let got = run_words(&mut session, words, &mut input);

@@ -6,7 +6,7 @@ use he_check::check;
 use he_draw::Look;
 use he_inputs::StreamFault;
 use he_replay::limits::{LEAST_WORKERS, MOST_WORKERS};
-use he_replay::{Content, TextRequest, replay};
+use he_replay::{Content, Printer, TextRequest, replay};
 use he_stream::{FromReader, ToWriter};
 use std::alloc::AllocError;
 use std::fmt::Display;
@@ -103,20 +103,19 @@ fn way(text: &[u8], number: usize) -> Pieces {
 }
 
 // A picture in 80 columns.
-const PICTURE: Content = Content::Picture {
+const PICTURE: Content = Content::Course(Printer::Picture {
     look: Look::Unicode,
     width: 80,
-};
+});
 
 // What is asked for of a text, and the ending of the file that has what is written then.
-const CONTENTS: [(Content, &str); 8] = [
+const CONTENTS: [(Content, &str); 7] = [
     (Content::Transcript, "transcript"),
     (Content::Order, "order"),
-    (Content::Explanation, "explanation"),
-    (Content::Story, "story"),
+    (Content::Course(Printer::Story), "story"),
     (Content::TranscriptJson, "transcript-json"),
     (Content::OrderJson, "order-json"),
-    (Content::ExplanationJson, "explanation-json"),
+    (Content::Course(Printer::Json), "explanation-json"),
     (PICTURE, "picture"),
 ];
 
@@ -203,7 +202,14 @@ fn run_asked<R: Threads + Sync>(
         let mut output = ToWriter::new(FakeWriter::new(rt.alloc()));
         let asked = TextRequest::of(content);
         let workers = workers.max(LEAST_WORKERS).min(MOST_WORKERS);
-        let ended = replay(threads, rt.alloc(), asked, workers, &mut input, &mut output);
+        let ended = replay(
+            threads,
+            rt.alloc(),
+            &asked,
+            workers,
+            &mut input,
+            &mut output,
+        );
         let is_written = output.writer().held() == wanted;
         drop(input);
         drop(output);

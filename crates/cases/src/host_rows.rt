@@ -2,8 +2,12 @@
 
 use crate::command_rows::{Row, Streams, TEXT, WRITE_LINE};
 
+const NAMES_OBJECT: &[u8] = b"{\"host\":\"192.0.2.1\",\"aaaa\":{\"tick\":0,\"addresses\":[]},\
+\"a\":{\"tick\":0,\"addresses\":[\"192.0.2.1\"]}}
+";
+
 /// Commands that are about this host, or others.
-pub static HOST_ROWS: [Row; 16] = [
+pub static HOST_ROWS: [Row; 20] = [
     (
         &["he", "live", "--port", "8080", "--set", "attempt=5"],
         TEXT,
@@ -74,6 +78,38 @@ pub static HOST_ROWS: [Row; 16] = [
         Streams::FailsToFlush,
         1,
         b"aaaa 0 none\na 0 192.0.2.1\n",
+        WRITE_LINE,
+    ),
+    (
+        &["he", "names", "--json", "192.0.2.1"],
+        TEXT,
+        Streams::Whole,
+        0,
+        NAMES_OBJECT,
+        b"",
+    ),
+    (
+        &["he", "names", "--json", "192.0.2.1"],
+        TEXT,
+        Streams::Room(3),
+        1,
+        b"{\"h",
+        WRITE_LINE,
+    ),
+    (
+        &["he", "names", "--json", "two..dots"],
+        TEXT,
+        Streams::Whole,
+        1,
+        b"",
+        b"he: not a host name: ",
+    ),
+    (
+        &["he", "host", "--json", "--for", "::1"],
+        TEXT,
+        Streams::Room(3),
+        1,
+        b"{\"s",
         WRITE_LINE,
     ),
     (

@@ -1,7 +1,7 @@
 //! Runs the worked examples of the folder in which it is started, and tells which of them come out otherwise.
 //!
 //! An example is a text of timelines, `NAME.timeline`. Beside it stand what `replay` writes for it, `NAME.transcript`,
-//! `NAME.order`, `NAME.explanation`, `NAME.story`, `NAME.picture` (in 80 columns), and as JSON `NAME.transcript-json`,
+//! `NAME.order`, `NAME.story`, `NAME.picture` (in 80 columns), and as JSON `NAME.transcript-json`,
 //! `NAME.order-json`, `NAME.explanation-json`: one of these or more. `NAME.fault` is there where the text is faulty:
 //! the line that the program prints after each of them; `check` tells the same fault, and `NAME.check` is all that the
 //! program prints of it then, with the line, its mark and the sentence; beside a text without a fault it has what

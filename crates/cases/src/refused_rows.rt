@@ -3,22 +3,14 @@
 use crate::command_rows::{Row, Streams, TEXT};
 
 /// Lines that are refused.
-pub static REFUSED_ROWS: [Row; 22] = [
+pub static REFUSED_ROWS: [Row; 23] = [
     (
-        &["he", "explain", "--lines", "--json"],
+        &["he", "explain", "--lines"],
         TEXT,
         Streams::Whole,
         2,
         b"",
-        b"error: the argument '--lines' cannot be used with '--json'\n",
-    ),
-    (
-        &["he", "explain", "--json", "--lines"],
-        TEXT,
-        Streams::Whole,
-        2,
-        b"",
-        b"error: the argument '--json' cannot be used with '--lines'\n",
+        b"error: unexpected argument '--lines' found\n",
     ),
     (
         &["he", "draw", "--svg", "--ascii"],
@@ -147,6 +139,24 @@ pub static REFUSED_ROWS: [Row; 22] = [
         2,
         b"",
         b"error: invalid value for '--resolver <RESOLVER>': neither an address,",
+    ),
+    (
+        &["he", "connect", "--json", "192.0.2.1", "80"],
+        TEXT,
+        Streams::Whole,
+        2,
+        b"",
+        b"error: '--json' goes with `-z`",
+    ),
+    (
+        &[
+            "he", "connect", "-z", "--json", "--record", "-", "::1", "80",
+        ],
+        TEXT,
+        Streams::Whole,
+        2,
+        b"",
+        b"error: '--json' goes with `-z`",
     ),
     (
         &["he", "connect", "192.0.2.1", "0"],

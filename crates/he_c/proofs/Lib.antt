@@ -1,1 +1,2 @@
 mod CallDetails
+mod Explained

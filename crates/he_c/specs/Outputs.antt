@@ -1,16 +1,23 @@
 -- What is written of an input: a text of each of its races up to the first fault, and the fault.
-use Rattle.std.specs.Prelude.{ℕ, ◌≡◌, false, List, Option}
-use Rattle.he_explain.specs.Course.{IsExplanation}
+use Rattle.std.specs.Prelude.{ℕ, ◌≡◌, ◌+◌, ◌++◌, false, List, [], ◌∷◌, None, Option}
+use Rattle.he_course.specs.Addresses.{preferred}
+use Rattle.he_course.specs.Course.{events_in}
+use Rattle.he_json.specs.Documents.{IsExplanationJson}
 use Rattle.he_timeline.specs.Race.{Race}
 use Rattle.he_plan.specs.Transcript.{IsTranscript, Report}
 use Rattle.he_inputs.specs.declared.input_fault.InputFault.{InputFault}
-use Rattle.he_inputs.specs.Inputs.{AreTexts, HasRaces}
+use Rattle.he_inputs.specs.Inputs.{HasRaces, line_count}
+use Rattle.he_reading.specs.Text.{IsRaceText}
 use Rattle.he_write.specs.Orders.{order_text}
 use Rattle.he_write.specs.Written.{transcript_text}
 use Rattle.he_c.specs.Answers.{Leaves}
 use Rattle.he_c.specs.declared.answer.CallDetails.{CallDetails}
 use Rattle.he_c.specs.declared.telling.Content.{Content}
 use Rattle.he_c.specs.declared.telling.Content.TheVariants as contents
+
+-- whether a text is one of a race, by the race's number and its line, both counted from 1
+abbrev pub TextRelation : Type 1
+TextRelation = ℕ → ℕ → List ℕ → Race → Type 0
 
 -- the text of the race's transcript
 abbrev pub IsTranscriptText : List ℕ → Race → Type 0
@@ -20,20 +27,43 @@ IsTranscriptText text race = (report : Report) × IsTranscript race report × (t
 abbrev pub IsOrderText : List ℕ → Race → Type 0
 IsOrderText text race = text ≡ order_text race
 
+-- a text of a race that is the same wherever the race stands
+abbrev pub Anywhere : (List ℕ → Race → Type 0) → TextRelation
+Anywhere IsText number line = IsText
+
+-- the object that explains the race, of a text without a name
+abbrev pub IsExplanationText : TextRelation
+IsExplanationText number line text race =
+    (report : Report) × IsTranscript race report
+    × IsExplanationJson (record { file = None; number = number; line = line }) (preferred race) (events_in race report)
+    text
+
 -- the text of what is asked for of the race
-abbrev pub IsTextOf : Content → List ℕ → Race → Type 0
-IsTextOf contents.Transcript = IsTranscriptText
-IsTextOf contents.Order = IsOrderText
-IsTextOf contents.Explanation = IsExplanation
+abbrev pub IsTextOf : Content → TextRelation
+IsTextOf contents.Transcript = Anywhere IsTranscriptText
+IsTextOf contents.Order = Anywhere IsOrderText
+IsTextOf contents.Explanation = IsExplanationText
+
+-- the bytes are, one after the other, a timeline text of each of the races, of which the first has this number and
+-- begins at this line; and the text is, one after the other, a text of each, by its number and its line
+abbrev pub AreTold : TextRelation → ℕ → ℕ → List Race → List ℕ → List ℕ → Type 0
+AreTold IsText number line [] bytes text = (bytes ≡ []) × (text ≡ [])
+AreTold IsText number line (race ∷ races) bytes text =
+    (own : List ℕ) × (behind : List ℕ) × (bytes ≡ own ++ behind) × IsRaceText own race
+    × (told : List ℕ) × (more : List ℕ) × (text ≡ told ++ more) × IsText number line told race
+    × AreTold IsText (number + 1) (line + line_count own) races behind more
 
 -- the texts of the races of the input up to its first fault, one after the other, and that fault
-pub record IsOutput (IsText : List ℕ → Race → Type 0) (input text : List ℕ) (fault : Option InputFault) : Type 0 where
+pub record IsOutput (IsText : TextRelation) (input text : List ℕ) (fault : Option InputFault) : Type 0 where
   pub races : List Race
   pub has : HasRaces input false races fault
-  pub told : AreTexts IsText races text
+  pub before : List ℕ
+  pub rest : List ℕ
+  pub parts : input ≡ before ++ rest
+  pub told : AreTold IsText 1 1 races before text
 
 -- what is left of the input's output
-pub record LeavesOutput (IsText : List ℕ → Race → Type 0) (input old new : List ℕ) (told : CallDetails)
+pub record LeavesOutput (IsText : TextRelation) (input old new : List ℕ) (told : CallDetails)
     (answer : ℕ) : Type 0 where
   pub text : List ℕ
   pub fault : Option InputFault

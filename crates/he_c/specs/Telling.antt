@@ -1,20 +1,20 @@
 -- Mirrors the code: how far the reader of an input has come whose races are told. What is told of the whole input
 -- stands in `Outputs`.
-use Rattle.std.specs.Prelude.{ℕ, ◌≡◌, ◌++◌, List}
+use Rattle.std.specs.Prelude.{ℕ, ◌≡◌, ◌++◌, List, take}
 use Rattle.he_timeline.specs.Race.{Race}
 use Rattle.he_inputs.specs.declared.race_reader.RaceReader.{RaceReader}
-use Rattle.he_inputs.specs.Inputs.{AreTexts}
 use Rattle.he_inputs.specs.RaceReading.{HasPassed, IsWithin}
+use Rattle.he_c.specs.Outputs.{AreTold, TextRelation}
 
--- a text of the race was appended
-pub record WritesRace (IsText : List ℕ → Race → Type 0) (race : Race) (old new : List ℕ) : Type 0 where
+-- a text that is such was appended
+pub record WritesText (IsSuch : List ℕ → Type 0) (old new : List ℕ) : Type 0 where
   pub told : List ℕ
-  pub is_told : IsText told race
+  pub is_told : IsSuch told
   pub appended : new ≡ old ++ told
 
 -- the races that the reader passed were told
-pub record HasTold (IsText : List ℕ → Race → Type 0) (input text : List ℕ) (reader : RaceReader) : Type 0 where
+pub record HasTold (IsText : TextRelation) (input text : List ℕ) (reader : RaceReader) : Type 0 where
   pub races : List Race
   pub passed : HasPassed input 0 0 races reader
   pub within : IsWithin input reader
-  pub told : AreTexts IsText races text
+  pub told : AreTold IsText 1 1 races (take reader.end input) text

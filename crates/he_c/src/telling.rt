@@ -1,14 +1,14 @@
 // The races of an input, told one after the other.
 
 ghost use Rattle.std.specs.Prelude.{◌≡◌, ◌++◌, IfOk, OnOk};
-ghost use Rattle.he_explain.specs.Course.{IsExplanation};
 ghost use Rattle.he_write.specs.Written.{transcript_text};
-ghost use Rattle.he_c.specs.Outputs.{IsOrderText, IsOutput, IsTextOf, IsTranscriptText};
-ghost use Rattle.he_c.specs.Telling.{WritesRace};
+ghost use Rattle.he_c.specs.Outputs.{IsExplanationText, IsOrderText, IsOutput, IsTextOf, IsTranscriptText};
+ghost use Rattle.he_c.specs.Telling.{WritesText};
 
 use he_addr::Memory;
-use he_explain::write_explanation;
+use he_course::Course;
 use he_inputs::{Ending, InputFault, RaceReader, RaceReaderFault};
+use he_json::write_explanation_json;
 use he_plan::{Transcript, transcript_of};
 use he_timeline::Timeline;
 use he_write::{write_order, write_transcript};
@@ -36,8 +36,10 @@ pub(crate) fn output_of(alloc: Global, input: &[u8], content: Content) -> Result
     let mut text = Vec::new(alloc);
     let mut reader = RaceReader::START;
     loop {
+        let number = reader.races + 1;
+        let line = reader.lines + 1;
         match reader.next(alloc, input, Ending::Whole) {
-            Ok(Some(race)) => content.write(alloc, &race, &mut text)?,
+            Ok(Some(race)) => content.write(alloc, &race, number, line, &mut text)?,
             Ok(None) => return Ok(Output { text, fault: None }),
             Err(RaceReaderFault::Input(fault)) => {
                 return Ok(Output {
@@ -51,20 +53,28 @@ pub(crate) fn output_of(alloc: Global, input: &[u8], content: Content) -> Result
 }
 
 impl Content {
-    // Appends the text that the race has of it.
-    fn write(self, alloc: Global, race: &Timeline, text: &mut Vec<u8>) -> Result<(), Memory>
-        ensures { OnOk result (WritesRace (IsTextOf self) race.now text.old.items text.new.items) }
+    // Appends the text that the race has of it, which has this number in the input and begins at this line.
+    fn write(
+        self,
+        alloc: Global,
+        race: &Timeline,
+        number: usize,
+        line: u64,
+        text: &mut Vec<u8>,
+    ) -> Result<(), Memory>
+        ensures { OnOk result (WritesText (λ told. IsTextOf self number line told race.now) text.old.items
+            text.new.items) }
     {
         match self {
             Content::Transcript => append_transcript(alloc, race, text),
             Content::Order => append_order(alloc, race, text),
-            Content::Explanation => append_explanation(alloc, race, text),
+            Content::Explanation => append_explanation(alloc, race, number, line, text),
         }
     }
 }
 
 fn append_transcript(alloc: Global, race: &Timeline, text: &mut Vec<u8>) -> Result<(), Memory>
-    ensures { OnOk result (WritesRace IsTranscriptText race.now text.old.items text.new.items) }
+    ensures { OnOk result (WritesText (λ told. IsTranscriptText told race.now) text.old.items text.new.items) }
 {
     let transcript = transcript_of(alloc, race)?;
     append_text(&transcript, text)
@@ -77,13 +87,21 @@ fn append_text(transcript: &Transcript, text: &mut Vec<u8>) -> Result<(), Memory
 }
 
 fn append_order(alloc: Global, race: &Timeline, text: &mut Vec<u8>) -> Result<(), Memory>
-    ensures { OnOk result (WritesRace IsOrderText race.now text.old.items text.new.items) }
+    ensures { OnOk result (WritesText (λ told. IsOrderText told race.now) text.old.items text.new.items) }
 {
     write_order(alloc, race, text)
 }
 
-fn append_explanation(alloc: Global, race: &Timeline, text: &mut Vec<u8>) -> Result<(), Memory>
-    ensures { OnOk result (WritesRace IsExplanation race.now text.old.items text.new.items) }
+fn append_explanation(
+    alloc: Global,
+    race: &Timeline,
+    number: usize,
+    line: u64,
+    text: &mut Vec<u8>,
+) -> Result<(), Memory>
+    ensures { OnOk result (WritesText (λ told. IsExplanationText number line told race.now) text.old.items
+        text.new.items) }
 {
-    write_explanation(alloc, race, text)
+    let course = Course::of(alloc, race, number, line)?;
+    write_explanation_json(alloc, &course, None, text)
 }

@@ -1,10 +1,9 @@
 // The exported functions that write what an input comes to.
 
 ghost use Rattle.std.specs.Prelude.{◌≡◌, ◌≢◌};
-ghost use Rattle.he_explain.specs.Course.{IsExplanation};
 ghost use Rattle.he_c.specs.Answers.{LeavesNothing};
 ghost use Rattle.he_c.specs.Checks.{LeavesCheck};
-ghost use Rattle.he_c.specs.Outputs.{IsOrderText, IsTextOf, IsTranscriptText, LeavesOutput};
+ghost use Rattle.he_c.specs.Outputs.{Anywhere, IsExplanationText, IsOrderText, IsTextOf, IsTranscriptText, LeavesOutput};
 ghost use Rattle.he_c.specs.declared.codes.TheConstants.{NO_MEMORY};
 
 use crate::answer::{CallDetails, NOTHING, leave};
@@ -21,7 +20,8 @@ pub extern "C" fn he_replay(
     room: &mut [u8],
     told: &mut CallDetails,
 ) -> u32
-    ensures left { result ≢ NO_MEMORY → LeavesOutput IsTranscriptText text.now room.old room.new told.new result }
+    ensures left { result ≢ NO_MEMORY
+        → LeavesOutput (Anywhere IsTranscriptText) text.now room.old room.new told.new result }
     ensures memory { result ≡ NO_MEMORY → LeavesNothing room.old room.new told.new }
 {
     tell(alloc, text, Content::Transcript, room, told)
@@ -35,13 +35,14 @@ pub extern "C" fn he_order(
     room: &mut [u8],
     told: &mut CallDetails,
 ) -> u32
-    ensures left { result ≢ NO_MEMORY → LeavesOutput IsOrderText text.now room.old room.new told.new result }
+    ensures left { result ≢ NO_MEMORY
+        → LeavesOutput (Anywhere IsOrderText) text.now room.old room.new told.new result }
     ensures memory { result ≡ NO_MEMORY → LeavesNothing room.old room.new told.new }
 {
     tell(alloc, text, Content::Order, room, told)
 }
 
-/// Writes why the races of the text went as they did, up to its first fault.
+/// Writes why the races of the text went as they did, as a JSON object each, up to its first fault.
 #[unsafe(no_mangle)]
 pub extern "C" fn he_explain(
     alloc: Global,
@@ -49,7 +50,7 @@ pub extern "C" fn he_explain(
     room: &mut [u8],
     told: &mut CallDetails,
 ) -> u32
-    ensures left { result ≢ NO_MEMORY → LeavesOutput IsExplanation text.now room.old room.new told.new result }
+    ensures left { result ≢ NO_MEMORY → LeavesOutput IsExplanationText text.now room.old room.new told.new result }
     ensures memory { result ≡ NO_MEMORY → LeavesNothing room.old room.new told.new }
 {
     tell(alloc, text, Content::Explanation, room, told)

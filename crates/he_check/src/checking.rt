@@ -19,9 +19,9 @@ use std::alloc::Allocator;
 /// as `3 races, 27 lines`, and flushes the output. It reads the input to its end, or up to its first fault.
 ///
 /// With `is_all` it reads the input to its end, goes on after a faulty race, and reports the first fault of each part
-/// of the input. A part begins with the input, or with the next line `race 1` or `race 2` after the
-/// first line of a faulty race: where `end` was forgotten, that is the faulty line itself. Each part is checked as an
-/// input of its own, and so may have 4,096 races, but its lines are counted over the whole input. It explains the first
+/// of the input. A part begins with the input, or with the next line `race 1` or `race 2` after the first line of a
+/// faulty race: where `end` was forgotten, that is the faulty line itself. Each part is checked as an input of its
+/// own, and so may have 4,096 races, but its lines are counted over the whole input. It explains the first
 /// [`MOST_TOLD`](crate::limits::MOST_TOLD) faults, and says how many more there are.
 ///
 /// # Errors
@@ -39,9 +39,9 @@ use std::alloc::Allocator;
 /// - Where nothing is wrong, after `Write` too, a line for each [`Warning`](crate::Warning), as `he: line 1: warning:
 ///   ..`.
 /// - After `Text` what [`explain_fault`] says of the fault; with `is_all`, and then after `Read` too, the first
-///   faults, this one before the others: each a line as `he: line 3: word`, and what [`explain_fault`] says of it; then
-///   the line `he: 25 more faults` where there are more; last, where the input broke off, the line `he: cannot read the
-///   input`.
+///   faults, this one before the others: each a line as `he: line 3: word`, and what [`explain_fault`] says of it;
+///   then the line `he: 25 more faults` where there are more; last, where the input broke off, the line `he: cannot
+///   read the input`.
 /// - Else nothing.
 pub fn check<A: Allocator + Copy, I: InputStream, O: OutputStream>(
     alloc: A,

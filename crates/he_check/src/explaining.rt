@@ -40,8 +40,8 @@ pub fn explain_fault<A: Allocator + Copy>(
     explanation.extend_from_slice(said.as_slice())
 }
 
-// What is said of a fault. A race begins with the part, before the faulty line or on it, and the lines between them are
-// right.
+// What is said of a fault. A race begins with the part, before the faulty line or on it, and the lines between them
+// are right.
 pub(crate) fn explanation_of<A: Allocator + Copy>(
     alloc: A,
     part: RestOfInput<'_>,

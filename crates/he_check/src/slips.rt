@@ -31,8 +31,8 @@ pub enum Slip {
     /// The family's answer has an address that may be tried, and the host has sources, but none of the family, so that
     /// it doesn't reach the address.
     NoSourceOf(Family),
-    /// The family has an outcome that comes after the limit, even of an attempt that starts with the answer, so that it
-    /// is never seen.
+    /// The family has an outcome that comes after the limit, even of an attempt that starts with the answer, so that
+    /// it is never seen.
     LateOutcome(Family),
 }
 

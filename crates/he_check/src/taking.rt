@@ -7,12 +7,12 @@ ghost use Rattle.he_check.specs.Steps.{EndsWith, HasGone, HasStopped, HoldsOn, I
 use crate::counting::Counted;
 use crate::explaining::explanation_of;
 use crate::input::Checked;
-use crate::limits::{FIRST_BYTES, MOST_SHOWN};
+use crate::limits::{FIRST_BYTES, MOST_SHOWN, STEP_ROOM};
 use crate::parts::RestOfInput;
 use crate::slips::Warning;
 use he_addr::Memory;
 use he_inputs::{Ending, StreamFault};
-use he_stream::limits::{INPUT_ROOM, MOST_READS};
+use he_stream::limits::MOST_READS;
 use he_stream::{InputStream, Taken, take_piece};
 use he_words::LINE_END;
 use he_words::limits::MAX_LINE;
@@ -176,7 +176,7 @@ pub(crate) fn take_checked<A: Allocator + Copy, I: InputStream>(
 {
     let mut held = Held::new(alloc, is_all);
     for _steps in 0..MOST_READS {
-        match take_piece(input, &mut held.bytes, held.filled, INPUT_ROOM)? {
+        match take_piece(input, &mut held.bytes, held.filled, STEP_ROOM)? {
             Taken::Bytes(count) => {
                 held.gain(alloc, count)?;
                 if held.counted.is_done() {

@@ -1,1 +1,3 @@
 mod Files
+mod Shown
+mod Written

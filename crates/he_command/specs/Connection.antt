@@ -1,5 +1,5 @@
 -- What comes of a connection that a line asks for.
-use Rattle.std.specs.Prelude.{◌≡◌, ◌⊎◌, ℕ, List, Bool, true, false, Option, Some, None, is_some, Result}
+use Rattle.std.specs.Prelude.{◌≡◌, ◌≢◌, ◌⊎◌, ℕ, List, Bool, true, false, Option, Some, None, is_some, Result}
 use Rattle.std.specs.Borrow.{Bor}
 use Rattle.he_addr.specs.declared.ip.Family.{Family}
 use Rattle.he_connect.specs.Races.{IsRun}
@@ -24,6 +24,7 @@ use Rattle.he_stream.specs.declared.stream.OutputStream as outputs
 use Rattle.he_tasks.specs.Status.{status_of}
 use Rattle.he_tasks.specs.Streams.{TookAll, TookPart, TookRounds, TookRoundsPart}
 use Rattle.he_tasks.specs.declared.reports.TheConstants.{DONE, FAULT, NO_CONNECTION, USAGE}
+use Rattle.he_command.specs.Objects.{ShowsRace}
 
 -- the number of a port: that of a service is what a file of services gives it
 abbrev pub HasPort : Port → ℕ → Type 0
@@ -86,11 +87,24 @@ EndsWon output only_tries false before after status =
 EndsWon output true true before after status = (status ≡ DONE) × (after ≡ before)
 EndsWon output false true before after status = RelaysTo output before after status
 
+-- the same behind the object of the race with this text; where that cannot be shown nothing is relayed
+abbrev pub EndsShown : {O : Type 0} → outputs.Ghosts O → Bool → List ℕ → Bool → O → O → ℕ → Type 0
+EndsShown {O} output only_tries text won before after status =
+    (between : O) × (shown : ℕ) × ShowsRace output text before between shown
+    × (((shown ≡ DONE) × EndsWon output only_tries won between after status)
+    ⊎ ((shown ≢ DONE) × (status ≡ FAULT) × (after ≡ between)))
+
+-- the one with JSON, the other without
+abbrev pub EndsKept : {O : Type 0} → outputs.Ghosts O → Bool → Bool → List ℕ → Bool → O → O → ℕ → Type 0
+EndsKept output true only_tries text won before after status =
+    EndsShown output only_tries text won before after status
+EndsKept output false only_tries text won before after status = EndsWon output only_tries won before after status
+
 -- the same where its record was kept; else nothing is relayed
-abbrev pub EndsRace : {O : Type 0} → outputs.Ghosts O → Bool → ℕ → Bool → O → O → ℕ → Type 0
-EndsRace output only_tries kept won before after status =
-    ((kept ≡ DONE) × EndsWon output only_tries won before after status)
-    ⊎ ((status ≡ FAULT) × (after ≡ before))
+abbrev pub EndsRace : {O : Type 0} → outputs.Ghosts O → Connection → List ℕ → ℕ → Bool → O → O → ℕ → Type 0
+EndsRace output connection text kept won before after status =
+    ((kept ≡ DONE) × EndsKept output connection.is_json connection.only_tries text won before after status)
+    ⊎ ((kept ≢ DONE) × (status ≡ FAULT) × (after ≡ before))
 
 -- what comes of a connection: it has no port, its record has no place, or its race was not run, and the output is left
 -- alone; or a race was run for what is asked for, its record is kept, and then what it won is relayed
@@ -100,4 +114,4 @@ MakesConnection {O} output connection before after status =
     ⊎ ((port : ℕ) × (text story : List ℕ) × (won : Option Dialed) × (between : O) × (kept : ℕ)
     × HasPort connection.port port × IsRun (race_of connection port) text story won
     × KeepsRecord output text before between kept
-    × EndsRace output connection.only_tries kept (is_some won) between after status)
+    × EndsRace output connection text kept (is_some won) between after status)

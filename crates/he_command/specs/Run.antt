@@ -1,6 +1,6 @@
 -- What a run of the program has done: by what is known of its streams, by the first and the last state of the input,
 -- the states of the output before and after, and the exit status.
-use Rattle.std.specs.Prelude.{◌≡◌, ◌⊎◌, ℕ, Result, Ok, Err}
+use Rattle.std.specs.Prelude.{◌≡◌, ◌⊎◌, ℕ, Bool, true, false, Result, Ok, Err}
 use Rattle.he_request.specs.declared.refusal.Refusal.{Refusal}
 use Rattle.he_request.specs.declared.refusal.Refusal.TheVariants as refusals
 use Rattle.he_request.specs.declared.request.Request.{Request}
@@ -15,6 +15,7 @@ use Rattle.he_tasks.specs.Whole.{DoesTexts}
 use Rattle.he_tasks.specs.declared.reports.TheConstants.{FAULT, USAGE}
 use Rattle.he_command.specs.Connection.{MakesConnection}
 use Rattle.he_command.specs.Live.{RunsLive}
+use Rattle.he_command.specs.Objects.{ShowsNames}
 
 -- what comes of a line that asks for nothing that is done
 abbrev pub Refuses : {O : Type 0} → outputs.Ghosts O → Refusal → O → O → ℕ → Type 0
@@ -23,9 +24,10 @@ Refuses output (refusals.Help text) before after status = Shows output before af
 Refuses output refusal before after status = (status ≡ USAGE) × (after ≡ before)
 
 -- what comes of a search for names. The status is that of a fault also where one family's look-up failed and the
--- other's addresses were told
-abbrev pub RunsNames : {O : Type 0} → outputs.Ghosts O → O → O → ℕ → Type 0
-RunsNames output before after status =
+-- other's addresses were told. As JSON they are shown
+abbrev pub RunsNames : {O : Type 0} → outputs.Ghosts O → Bool → O → O → ℕ → Type 0
+RunsNames output true before after status = ShowsNames output before after status
+RunsNames output false before after status =
     (result : Result (Unit {0}) TellFault)
     × TellsNames (TookAll output before after) (TookPart output before after) (after ≡ before) result
     × ((status ≡ status_of result) ⊎ (status ≡ FAULT))
@@ -38,10 +40,10 @@ RunsLine input file page output (Ok (requests.Texts texts)) first last before af
     DoesTexts input file page output texts first last before after status
 RunsLine input file page output (Ok (requests.Live options)) first last before after status =
     RunsLive input file output options first last before after status
-RunsLine input file page output (Ok (requests.Host destinations)) first last before after status =
+RunsLine input file page output (Ok (requests.Host options)) first last before after status =
     (last ≡ first) × Shows output before after status
 RunsLine input file page output (Ok (requests.Names options)) first last before after status =
-    (last ≡ first) × RunsNames output before after status
+    (last ≡ first) × RunsNames output options.is_json before after status
 RunsLine input file page output (Ok (requests.Connect connection)) first last before after status =
     MakesConnection output connection before after status
 RunsLine input file page output (Err refusal) first last before after status =

@@ -1,9 +1,11 @@
 //! A connection that is made, recorded and relayed.
 ghost use Rattle.std.specs.Prelude.{◌≡◌, is_some};
-ghost use Rattle.he_command.specs.Connection.{EndsRace, KeepsRecord, MakesConnection, RelaysTo};
+ghost use Rattle.he_command.specs.Connection.{EndsRace, EndsShown, EndsWon, KeepsRecord, MakesConnection, RelaysTo};
+ghost use Rattle.he_command.specs.Objects.{ShowsRace};
 ghost use Rattle.he_tasks.specs.Status.{status_of};
 ghost use Rattle.he_tasks.specs.declared.reports.TheConstants.{FAULT};
 
+use crate::objects::{race_object, show_object};
 use crate::port::number_of;
 use crate::race_request::race_of;
 use crate::record::{discard_record, keep_record, open_record};
@@ -53,8 +55,7 @@ pub(crate) fn run_connect<R: System, I: InputStream, O: OutputStream + Send, F: 
     }
 }
 
-// What comes of a race that was run, whose record was kept or not: its connection is relayed where there is one, or
-// let go where it was only tried.
+// What comes of a race that was run, whose record was kept or not: its object is shown where that is asked for.
 fn end_race<R: System, I: InputStream, O: OutputStream + Send, F: Write>(
     session: &mut Session<'_, '_, R, O, F>,
     connection: &Connection<'_>,
@@ -62,12 +63,55 @@ fn end_race<R: System, I: InputStream, O: OutputStream + Send, F: Write>(
     run: FinishedRace,
     input: &mut I,
 ) -> u8
-    ensures { EndsRace O.OutputStream connection.now.only_tries kept (is_some run.connection)
+    ensures { EndsRace O.OutputStream connection.now run.text.items kept (is_some run.connection)
         session.old.output session.new.output result }
 {
     if kept != DONE {
         return FAULT;
     }
+    if connection.is_json {
+        end_shown(session, connection, run, input)
+    } else {
+        end_won(session, connection, run, input)
+    }
+}
+
+// The same behind the object of the race, with which it ends where that cannot be shown.
+fn end_shown<R: System, I: InputStream, O: OutputStream + Send, F: Write>(
+    session: &mut Session<'_, '_, R, O, F>,
+    connection: &Connection<'_>,
+    run: FinishedRace,
+    input: &mut I,
+) -> u8
+    ensures { EndsShown O.OutputStream connection.now.only_tries run.text.items (is_some run.connection)
+        session.old.output session.new.output result }
+{
+    if show_race(session, &run.text) != DONE {
+        return FAULT;
+    }
+    end_won(session, connection, run, input)
+}
+
+// Shows the object of a race, by the text of its record, and answers the exit status.
+fn show_race<R, O: OutputStream, F: Write>(
+    session: &mut Session<'_, '_, R, O, F>,
+    text: &[u8],
+) -> u8
+    ensures { ShowsRace O.OutputStream text.now session.old.output session.new.output result }
+{
+    show_object(session, race_object(session.alloc, text))
+}
+
+// The connection is relayed where there is one, or let go where it was only tried.
+fn end_won<R: System, I: InputStream, O: OutputStream + Send, F: Write>(
+    session: &mut Session<'_, '_, R, O, F>,
+    connection: &Connection<'_>,
+    run: FinishedRace,
+    input: &mut I,
+) -> u8
+    ensures { EndsWon O.OutputStream connection.now.only_tries (is_some run.connection) session.old.output
+        session.new.output result }
+{
     match run.connection {
         Some(_) if connection.only_tries => DONE,
         Some(dialed) => {

@@ -9,18 +9,20 @@
 //! `he_live` does, and the status tells how that ended (`specs/Run`, `specs/Live`).
 //!
 //! - A connection is raced for with what the line asks for, at the number of its port, which a file of services gives
-//!   the name of a service; its record is kept, and what it won is relayed (`specs/Connection`).
+//!   the name of a service; its record is kept, as JSON the object of that is written, and what it won is relayed
+//!   (`specs/Connection`, `specs/Objects`).
 //! - A line that asks for nothing that is done leaves the input alone: help and the version go to the output; a line
 //!   that is refused leaves the output alone too, with status 2, or with 1 where that was for want of memory.
 //!
 //! Only tested: which files are opened and when they take their names, what the file of services says, what `he host`
-//! writes, and what help and faults say.
+//! writes, which machine and which answers an object has, and what help and faults say.
 #![tactic(auto)]
 
 mod connection;
 mod host;
 mod live;
 mod names;
+mod objects;
 mod port;
 mod race_request;
 mod record;

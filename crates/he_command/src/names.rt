@@ -1,14 +1,16 @@
 //! `he names`.
 ghost use Rattle.std.specs.Prelude.{◌≡◌, ◌⊎◌};
+ghost use Rattle.he_command.specs.Objects.{ShowsNames};
 ghost use Rattle.he_command.specs.Run.{RunsNames};
 ghost use Rattle.he_tasks.specs.Status.{status_of};
 
+use crate::objects::{names_object, show_object};
 use crate::race_request::choice_of;
 use crate::system::System;
 use he_request::Names;
 use he_request::shown::shown;
 use he_resolver::{LookupReport, NamesFault, TellFault, Wanted, write_names};
-use he_stream::OutputStream;
+use he_stream::{OutputStream, ToWriter};
 use he_tasks::reports::{report, report_of};
 use he_tasks::{DONE, FAULT, Session};
 use std::alloc::Global;
@@ -20,22 +22,54 @@ pub(crate) fn run_names<R: System, O: OutputStream, F: Write>(
     session: &mut Session<'_, '_, R, O, F>,
     names: Names<'_>,
 ) -> u8
-    ensures { RunsNames O.OutputStream session.old.output session.new.output result }
+    ensures { RunsNames O.OutputStream names.entry.is_json session.old.output session.new.output result }
 {
+    let mut lookup = LookupReport::new(session.alloc);
+    let status = find_names(session, names, &mut lookup);
+    drop(lookup);
+    status
+}
+
+fn find_names<R: System, O: OutputStream, F: Write>(
+    session: &mut Session<'_, '_, R, O, F>,
+    names: Names<'_>,
+    lookup: &mut LookupReport,
+) -> u8
+    ensures { RunsNames O.OutputStream names.entry.is_json session.old.output session.new.output result }
+{
+    if names.is_json {
+        return run_object(session, names, lookup);
+    }
     let (rt, alloc) = (session.system, session.alloc);
-    let wanted = Wanted {
+    let end = write_names(rt, alloc, &mut session.output, wanted_of(names), lookup);
+    report_names(session, end, lookup, names)
+}
+
+fn wanted_of(names: Names<'_>) -> Wanted<'_> {
+    Wanted {
         host: names.host,
         only: None,
         choice: choice_of(names.resolver),
-    };
-    let mut lookup = LookupReport::new(alloc);
-    let end = write_names(rt, alloc, &mut session.output, wanted, &mut lookup);
-    if names.tells_steps {
-        tell_events(&lookup, &mut session.faults);
     }
-    let status = report_names(session, end, &lookup, names.host);
-    drop(lookup);
-    status
+}
+
+// Finds them, and writes them as an object.
+fn run_object<R: System, O: OutputStream, F: Write>(
+    session: &mut Session<'_, '_, R, O, F>,
+    names: Names<'_>,
+    lookup: &mut LookupReport,
+) -> u8
+    ensures { ShowsNames O.OutputStream session.old.output session.new.output result }
+{
+    let (rt, alloc) = (session.system, session.alloc);
+    let mut lines = ToWriter::new(Vec::new(alloc));
+    let end = write_names(rt, alloc, &mut lines, wanted_of(names), lookup);
+    let status = report_names(session, end, lookup, names);
+    if end.is_err() {
+        return FAULT;
+    }
+    let shown = show_object(session, names_object(alloc, names.host, lines.writer()));
+    if shown == DONE { status } else { shown }
 }
 
 // Says what happened, as `he: 12 ms: AAAA answer: 2 addresses from 192.0.2.1`. What cannot be written is passed over.
@@ -46,20 +80,23 @@ fn tell_events<F: Write>(lookup: &LookupReport, faults: &mut F) {
     }
 }
 
-// Says how a search for names ended, and answers the exit status.
+// Says what happened where that is asked for, and how a search for names ended, and answers the exit status.
 fn report_names<R, O, F: Write>(
     session: &mut Session<'_, '_, R, O, F>,
     end: Result<(), TellFault>,
     lookup: &LookupReport,
-    host: &str,
+    names: Names<'_>,
 ) -> u8
     ensures status { (result ≡ status_of end) ⊎ (result ≡ FAULT) }
     ensures output { session.new.output ≡ session.old.output }
 {
     let (alloc, faults) = (session.alloc, &mut session.faults);
+    if names.tells_steps {
+        tell_events(lookup, faults);
+    }
     match end {
-        Ok(()) => report_families(alloc, lookup, host, faults),
-        Err(fault) if fault.is_of_host() => report_of(alloc, fault, host, faults),
+        Ok(()) => report_families(alloc, lookup, names.host, faults),
+        Err(fault) if fault.is_of_host() => report_of(alloc, fault, names.host, faults),
         Err(fault) => report(fault, faults),
     }
 }

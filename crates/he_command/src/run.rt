@@ -46,7 +46,7 @@ pub fn run_line<R: System, I: InputStream, O: OutputStream + Send, F: Write>(
     match line {
         Ok(Request::Connect(connection)) => run_connect(session, &connection, input),
         Ok(Request::Names(options)) => run_names(session, options),
-        Ok(Request::Host(destinations)) => run_host(session, &destinations),
+        Ok(Request::Host(options)) => run_host(session, &options),
         Ok(Request::Live(options)) => run_live(session, &options, input),
         Ok(Request::Texts(texts)) => run_texts(session, &texts, input),
         Err(refusal) => refuse(session, &refusal),

@@ -1,5 +1,4 @@
-pub mod Compared
-pub mod Steps
-pub mod Stream
-pub mod Texts
+pub mod Lines
+pub mod Rows
+pub mod Table
 pub mod Verdicts

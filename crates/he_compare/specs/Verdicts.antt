@@ -1,73 +1,46 @@
--- What changes of its settings do to a race, by the results of its two transcripts, and what they do to many races.
-use Rattle.std.specs.Prelude.{ℕ, ◌-◌, ◌+◌, ◌/◌, Bool, true, false, if◌then◌else◌, List, length, count_by, nat_lt, slice_index, Option, Some, None}
-use Rattle.he_plan.specs.declared.transcript.Outcome3.{Outcome3}
-use Rattle.he_plan.specs.declared.transcript.Outcome3.TheVariants.{Won}
-use Rattle.he_compare.specs.declared.counts.Counts.{Counts}
+-- What other settings do to races.
+use Rattle.std.specs.Prelude.{ℕ, ◌==◌, ◌++◌, if◌then◌else◌, Bool, true, false, List, [], ◌∷◌, count_by, nat_lt, Option, Some, None}
+use Rattle.he_summary.specs.Totals.{value_of}
+use Rattle.he_summary.specs.declared.kept.Kept.{Kept}
+use Rattle.he_summary.specs.declared.totals.Value.TheVariants.{Time}
 use Rattle.he_compare.specs.declared.verdict.Verdict.{Verdict}
 use Rattle.he_compare.specs.declared.verdict.Verdict.TheVariants.{Sooner, Later, Same, OnlyWith, OnlyWithout, Neither}
+use Rattle.he_compare.specs.declared.verdict.Verdicts.{Verdicts}
 
--- of the ticks at which the race is won as it stands, and with the changes
-abbrev pub verdict_at : ℕ → ℕ → Verdict
-verdict_at own other =
-    if nat_lt other own then Sooner (own - other)
-    else if nat_lt own other then Later (other - own)
-    else Same
+-- of the times to connect of the race as it stands, and with the settings
+abbrev pub verdict_of : Option ℕ → Option ℕ → Verdict
+verdict_of (Some own) (Some other) = if nat_lt other own then Sooner else if nat_lt own other then Later else Same
+verdict_of (Some own) None = OnlyWithout
+verdict_of None (Some other) = OnlyWith
+verdict_of None None = Neither
 
--- of the results as it stands, and with the changes
-abbrev pub verdict_of : Outcome3 → Outcome3 → Verdict
-verdict_of (Won place own) (Won other_place other) = verdict_at own other
-verdict_of (Won place own) _ = OnlyWithout
-verdict_of _ (Won place other) = OnlyWith
-verdict_of _ _ = Neither
+-- the time to connect of the last race as it stands: in the first row
+abbrev pub stands_after : Option ℕ → Kept → Option ℕ
+stands_after stands race = if race.row == 0 then value_of Time race else stands
 
--- how far apart the two wins are, in milliseconds, whichever is the sooner
-abbrev pub difference_of : Verdict → Option ℕ
-difference_of (Sooner time) = Some time
-difference_of (Later time) = Some time
-difference_of Same = Some 0
-difference_of _ = None
+-- of races with the settings of a row, each beside the race as it stands, which is the last of the first row before it
+abbrev pub verdicts_on : ℕ → Option ℕ → List Kept → List Verdict
+verdicts_on row stands [] = []
+verdicts_on row stands (race ∷ kept) =
+    (if race.row == row then verdict_of (stands_after stands race) (value_of Time race) ∷ [] else [])
+    ++ verdicts_on row (stands_after stands race) kept
 
-abbrev pub is_sooner : Verdict → Bool
-is_sooner (Sooner time) = true
-is_sooner _ = false
+abbrev pub is_like : Verdict → Verdict → Bool
+is_like Sooner Sooner = true
+is_like Later Later = true
+is_like Same Same = true
+is_like OnlyWith OnlyWith = true
+is_like OnlyWithout OnlyWithout = true
+is_like Neither Neither = true
+is_like _ _ = false
 
-abbrev pub is_later : Verdict → Bool
-is_later (Later time) = true
-is_later _ = false
-
-abbrev pub is_same : Verdict → Bool
-is_same Same = true
-is_same _ = false
-
-abbrev pub is_only_with : Verdict → Bool
-is_only_with OnlyWith = true
-is_only_with _ = false
-
-abbrev pub is_only_without : Verdict → Bool
-is_only_without OnlyWithout = true
-is_only_without _ = false
-
-abbrev pub is_neither : Verdict → Bool
-is_neither Neither = true
-is_neither _ = false
-
--- how many races have each verdict
-abbrev pub counts_of : List Verdict → Counts
+abbrev pub counts_of : List Verdict → Verdicts
 counts_of verdicts =
     record {
-      races = length verdicts;
-      sooner = count_by is_sooner verdicts;
-      later = count_by is_later verdicts;
-      same = count_by is_same verdicts;
-      only_with = count_by is_only_with verdicts;
-      only_without =
-          count_by is_only_without verdicts;
-      neither = count_by is_neither verdicts;
+      sooner = count_by (is_like Sooner) verdicts;
+      later = count_by (is_like Later) verdicts;
+      same = count_by (is_like Same) verdicts;
+      only_with = count_by (is_like OnlyWith) verdicts;
+      only_without = count_by (is_like OnlyWithout) verdicts;
+      neither = count_by (is_like Neither) verdicts;
     }
-
--- of numbers in order, at least one: the first within which at least half of them lie, the nearest rank
-abbrev pub median : List ℕ → ℕ
-median sorted = slice_index sorted ((length sorted - 1) / 2)
-
-abbrev pub greatest : List ℕ → ℕ
-greatest sorted = slice_index sorted (length sorted - 1)

@@ -1,93 +1,174 @@
-// The line of a race.
-ghost use Rattle.std.specs.Prelude.{◌≡◌, ◌++◌, decimal, OnOk};
-ghost use Rattle.he_compare.specs.Texts.{address_at, ending_text, line_text, verdict_text};
+//! The races of a comparison, line by line.
+ghost use Rattle.std.specs.Prelude.{◌≡◌, ◌++◌, [], ◌∷◌, None, OnOk};
+ghost use Rattle.std.specs.List.{flat_map};
+ghost use Rattle.he_print.specs.Parts.{fact_of};
+ghost use Rattle.he_print.specs.declared.part.Fact.TheVariants as facts;
+ghost use Rattle.he_compare.specs.declared.lines.Told.TheVariants.{Won};
+ghost use Rattle.he_summary.specs.Written.{Tells};
+ghost use Rattle.he_compare.specs.Lines.{AreLines, ending_facts, line_facts};
 
-use crate::verdict::Verdict;
-use he_addr::{Ip, Memory, write_ip, write_number};
-use he_plan::{Line, Outcome3, Transcript};
+use crate::verdict::{Verdict, stands_after};
+use he_addr::{Ip, Memory};
+use he_print::{Part, push_parts, write_parts};
+use he_summary::totals::{Value, value_of};
+use he_summary::{Ending, Form, Kept, name_of, place_parts, write_name};
 use std::alloc::Allocator;
 
-// Appends the line of a race, which has this number and begins with this line: how it ends as it stands and with the
-// changes, and the verdict on that.
-pub(crate) fn append_line<A: Allocator + Copy, B: Allocator>(
-    number: u64,
-    line: u64,
-    stands: &Transcript<B>,
-    changed: &Transcript<B>,
+/// What words of a line say.
+#[derive(Clone, Copy, Debug, PartialEq, Eq)]
+pub enum Told {
+    Won,
+    Exhausted,
+    Limit,
+    Is(Verdict),
+}
+
+/// Appends a line for each race with the settings of each row: how it ends, and what the settings do to it. The names
+/// of the files stand by their places, those of the settings by the rows, all as they may be shown; one that is not
+/// there is `-`.
+///
+/// # Errors
+///
+/// `Memory` where an allocation was refused. A first part of the lines may then have been appended.
+pub fn write_lines<A: Allocator + Copy>(
+    alloc: A,
+    form: Form,
+    kept: &[Kept],
+    names: (&[String], &[String]),
     text: &mut Vec<u8, A>,
 ) -> Result<(), Memory>
-    ensures { OnOk result (text.new.items ≡ text.old.items ++ line_text
-        (record { number = number; line = line; stands = stands.now; changed = changed.now })) }
+    ensures { OnOk result (AreLines form None kept.now text.old.items text.new.items) }
 {
-    append_number(b"race ", number, b", line ", text)?;
-    append_number(b"", line, b": ", text)?;
-    append_ending(stands, text)?;
-    text.extend_from_slice(b"; with the changes ")?;
-    append_ending(changed, text)?;
-    text.extend_from_slice(b", ")?;
-    append_verdict(Verdict::of(stands.result(), changed.result()), text)?;
-    text.push(b'\n')?;
+    let (files, settings) = names;
+    let (begin, before, end): (&[u8], &[u8], &[u8]) = match form {
+        Form::Text => (b"", b" (", b")\n"),
+        Form::Json | Form::Metrics => (b"{\"file\":", b",\"settings\":", b"}\n"),
+    };
+    let mut stands = None;
+    for race in kept {
+        stands = stands_after(stands, race);
+        write_name(form, begin, name_of(race.place.file, files), b"", text)?;
+        write_line(alloc, form, race, stands, text)?;
+        write_name(form, before, name_of(race.row, settings), end, text)?;
+    }
     Ok(())
 }
 
-// Appends a number between these bytes.
-pub(crate) fn append_number<A: Allocator + Copy>(
-    before: &[u8],
-    number: u64,
-    after: &[u8],
+fn write_line<A: Allocator + Copy>(
+    alloc: A,
+    form: Form,
+    race: &Kept,
+    stands: Option<u64>,
     text: &mut Vec<u8, A>,
 ) -> Result<(), Memory>
-    ensures { OnOk result (text.new.items ≡ text.old.items ++ (before.now ++ (decimal number ++ after.now))) }
+    ensures { OnOk result (Tells (line_facts form stands race.now) text.old.items text.new.items) }
 {
-    text.extend_from_slice(before)?;
-    write_number(number, text)?;
-    text.extend_from_slice(after)?;
-    Ok(())
+    let mut parts = Vec::new(alloc);
+    push_line(form, race, stands, &mut parts)?;
+    write_parts(parts.as_slice(), text)
 }
 
-fn append_ending<A: Allocator + Copy, B: Allocator>(
-    transcript: &Transcript<B>,
-    text: &mut Vec<u8, A>,
+fn push_line<A: Allocator>(
+    form: Form,
+    race: &Kept,
+    stands: Option<u64>,
+    text: &mut Vec<Part<Told>, A>,
 ) -> Result<(), Memory>
-    ensures { OnOk result (text.new.items ≡ text.old.items ++ ending_text transcript.now.lines transcript.now.result) }
+    ensures { OnOk result (flat_map fact_of text.new.items ≡ flat_map fact_of text.old.items
+        ++ line_facts form stands race.now) }
 {
-    match transcript.result() {
-        Outcome3::Won(place, tick) => {
-            append_number(b"won after ", tick, b" ms", text)?;
-            if let Some(ip) = address_at(transcript.attempts(), place) {
-                text.extend_from_slice(b" by ")?;
-                write_ip(ip, text)?;
-            }
-            Ok(())
-        }
-        Outcome3::Exhausted(tick) => append_number(b"exhausted after ", tick, b" ms", text),
-        Outcome3::Limit(tick) => append_number(b"given up at its limit after ", tick, b" ms", text),
+    let verdict = Verdict::of(stands, value_of(Value::Time, race));
+    push_parts(&place_parts(form, race.place), text)?;
+    push_ending(form, race.ending, text)?;
+    push_parts(
+        &[Part::Says(Told::Is(verdict), verdict_words(form, verdict))],
+        text,
+    )
+}
+
+fn push_ending<A: Allocator>(
+    form: Form,
+    ending: Ending,
+    text: &mut Vec<Part<Told>, A>,
+) -> Result<(), Memory>
+    ensures { OnOk result (flat_map fact_of text.new.items ≡ flat_map fact_of text.old.items ++ ending_facts ending) }
+{
+    match ending {
+        Ending::Won(Some(ip), tick) => push_won(form, ip, tick, text),
+        Ending::Won(None, tick) => push_end(form, Told::Won, tick, text),
+        Ending::Exhausted(tick) => push_end(form, Told::Exhausted, tick, text),
+        Ending::Limit(tick) => push_end(form, Told::Limit, tick, text),
     }
 }
 
-// The address of the attempt of this place.
-fn address_at(lines: &[Line], place: usize) -> Option<Ip>
-    ensures { result ≡ address_at place lines.now }
+fn push_won<A: Allocator>(
+    form: Form,
+    ip: Ip,
+    tick: u64,
+    text: &mut Vec<Part<Told>, A>,
+) -> Result<(), Memory>
+    ensures { OnOk result (flat_map fact_of text.new.items ≡ flat_map fact_of text.old.items
+        ++ facts.Said Won ∷ facts.Ip ip ∷ facts.Number tick ∷ []) }
 {
-    lines
-        .iter()
-        .find(|line| line.place == place)
-        .map(|line| line.ip)
+    let words: [&'static [u8]; 3] = match form {
+        Form::Text => [b": connected to ", b" after ", b" ms"],
+        Form::Json | Form::Metrics => [b",\"ended\":\"won\",\"address\":\"", b"\",\"ms\":", b""],
+    };
+    push_parts(
+        &[
+            Part::Says(Told::Won, words[0]),
+            Part::Ip(ip),
+            Part::Words(words[1]),
+            Part::Number(tick),
+            Part::Words(words[2]),
+        ],
+        text,
+    )
 }
 
-fn append_verdict<A: Allocator + Copy>(
-    verdict: Verdict,
-    text: &mut Vec<u8, A>,
+fn push_end<A: Allocator>(
+    form: Form,
+    said: Told,
+    tick: u64,
+    text: &mut Vec<Part<Told>, A>,
 ) -> Result<(), Memory>
-    ensures { OnOk result (text.new.items ≡ text.old.items ++ verdict_text verdict) }
+    ensures { OnOk result (flat_map fact_of text.new.items ≡ flat_map fact_of text.old.items
+        ++ facts.Said said ∷ facts.Number tick ∷ []) }
 {
-    match verdict {
-        Verdict::Sooner(time) => return append_number(b"", time, b" ms sooner", text),
-        Verdict::Later(time) => return append_number(b"", time, b" ms later", text),
-        Verdict::Same => text.extend_from_slice(b"at the same time")?,
-        Verdict::OnlyWith => text.extend_from_slice(b"won only with them")?,
-        Verdict::OnlyWithout => text.extend_from_slice(b"won only without them")?,
-        Verdict::Neither => text.extend_from_slice(b"not won either way")?,
+    let (before, after): (&'static [u8], &'static [u8]) = match (form, said) {
+        (Form::Text, Told::Won) => (b": connected after ", b" ms"),
+        (Form::Text, Told::Exhausted) => (
+            b": not connected: nothing is left to try after ",
+            b" ms",
+        ),
+        (Form::Text, _) => (b": not connected by the limit of ", b" ms"),
+        (_, Told::Won) => (b",\"ended\":\"won\",\"ms\":", b""),
+        (_, Told::Exhausted) => (b",\"ended\":\"exhausted\",\"ms\":", b""),
+        (_, _) => (b",\"ended\":\"limit\",\"ms\":", b""),
+    };
+    push_parts(
+        &[
+            Part::Says(said, before),
+            Part::Number(tick),
+            Part::Words(after),
+        ],
+        text,
+    )
+}
+
+fn verdict_words(form: Form, verdict: Verdict) -> &'static [u8] {
+    match (form, verdict) {
+        (Form::Text, Verdict::Sooner) => b", sooner",
+        (Form::Text, Verdict::Later) => b", later",
+        (Form::Text, Verdict::Same) => b", the same",
+        (Form::Text, Verdict::OnlyWith) => b", won only with",
+        (Form::Text, Verdict::OnlyWithout) => b", won only without",
+        (Form::Text, Verdict::Neither) => b", not won either way",
+        (_, Verdict::Sooner) => b",\"verdict\":\"sooner\"",
+        (_, Verdict::Later) => b",\"verdict\":\"later\"",
+        (_, Verdict::Same) => b",\"verdict\":\"same\"",
+        (_, Verdict::OnlyWith) => b",\"verdict\":\"only with\"",
+        (_, Verdict::OnlyWithout) => b",\"verdict\":\"only without\"",
+        (_, Verdict::Neither) => b",\"verdict\":\"neither\"",
     }
-    Ok(())
 }

@@ -1,54 +1,114 @@
-// What the changes do to a race.
-ghost use Rattle.std.specs.Prelude.{◌≡◌};
-ghost use Rattle.he_compare.specs.Verdicts.{difference_of, verdict_at, verdict_of};
+//! What other settings do to a race.
+ghost use Rattle.std.specs.Prelude.{◌≡◌, count_by, None, IfOk};
+ghost use Rattle.he_compare.specs.Verdicts.{counts_of, is_like, stands_after, verdict_of, verdicts_on};
 
-use he_plan::Outcome3;
+use he_addr::Memory;
+use he_summary::Kept;
+use he_summary::totals::{Value, value_of};
+use std::alloc::Allocator;
 
-#[derive(Clone, Copy, PartialEq, Eq)]
-pub(crate) enum Verdict {
-    // It is won both ways, so many milliseconds sooner or later with the changes, or at the same tick.
-    Sooner(u64),
-    Later(u64),
+/// What other settings do to a race.
+#[derive(Clone, Copy, Debug, PartialEq, Eq)]
+pub enum Verdict {
+    /// It is won both ways, sooner or later with them, or at the same tick.
+    Sooner,
+    Later,
     Same,
-    // It is won in one way alone, or in none.
+    /// It is won in one way alone, or in none.
     OnlyWith,
     OnlyWithout,
     Neither,
 }
 
+/// How many races have each verdict.
+#[derive(Clone, Copy, Debug, PartialEq, Eq)]
+pub struct Verdicts {
+    pub sooner: u64,
+    pub later: u64,
+    pub same: u64,
+    pub only_with: u64,
+    pub only_without: u64,
+    pub neither: u64,
+}
+
 impl Verdict {
-    // By the result of the race as it stands, and with the changes.
-    pub(crate) fn of(stands: Outcome3, changed: Outcome3) -> Verdict
-        ensures { result ≡ verdict_of stands changed }
+    /// By the time to connect of the race as it stands, and with the settings.
+    pub fn of(stands: Option<u64>, with: Option<u64>) -> Verdict
+        ensures { result ≡ verdict_of stands with }
     {
-        match (stands, changed) {
-            (Outcome3::Won(_, own), Outcome3::Won(_, other)) => Verdict::at(own, other),
-            (Outcome3::Won(_, _), _) => Verdict::OnlyWithout,
-            (_, Outcome3::Won(_, _)) => Verdict::OnlyWith,
-            _ => Verdict::Neither,
+        match (stands, with) {
+            (Some(own), Some(other)) if other < own => Verdict::Sooner,
+            (Some(own), Some(other)) if own < other => Verdict::Later,
+            (Some(_), Some(_)) => Verdict::Same,
+            (Some(_), None) => Verdict::OnlyWithout,
+            (None, Some(_)) => Verdict::OnlyWith,
+            (None, None) => Verdict::Neither,
         }
     }
+}
 
-    fn at(own: u64, other: u64) -> Verdict
-        ensures { result ≡ verdict_at own other }
-    {
-        if other < own {
-            Verdict::Sooner(own - other)
-        } else if own < other {
-            Verdict::Later(other - own)
-        } else {
-            Verdict::Same
+// The verdicts on the races with the settings of a row, each beside the race as it stands, which is in the first row.
+pub(crate) fn verdicts_on<A: Allocator>(
+    alloc: A,
+    row: usize,
+    kept: &[Kept],
+) -> Result<Vec<Verdict, A>, Memory>
+    ensures { IfOk result (λ verdicts. verdicts.items ≡ verdicts_on row None kept.now) }
+{
+    let mut verdicts = Vec::new(alloc);
+    let mut stands = None;
+    for race in kept {
+        stands = stands_after(stands, race);
+        if race.row == row {
+            verdicts.push(Verdict::of(stands, value_of(Value::Time, race)))?;
         }
     }
+    Ok(verdicts)
+}
 
-    // How far apart the two wins are, in milliseconds.
-    pub(crate) fn difference(self) -> Option<u64>
-        ensures { result ≡ difference_of self }
-    {
-        match self {
-            Verdict::Sooner(time) | Verdict::Later(time) => Some(time),
-            Verdict::Same => Some(0),
-            _ => None,
-        }
+// The time to connect of the last race as it stands.
+pub(crate) fn stands_after(stands: Option<u64>, race: &Kept) -> Option<u64>
+    ensures { result ≡ stands_after stands race.now }
+{
+    if race.row == 0 {
+        value_of(Value::Time, race)
+    } else {
+        stands
+    }
+}
+
+pub(crate) fn counts_of(verdicts: &[Verdict]) -> Verdicts
+    ensures { result ≡ counts_of verdicts.now }
+{
+    Verdicts {
+        sooner: count(verdicts, Verdict::Sooner),
+        later: count(verdicts, Verdict::Later),
+        same: count(verdicts, Verdict::Same),
+        only_with: count(verdicts, Verdict::OnlyWith),
+        only_without: count(verdicts, Verdict::OnlyWithout),
+        neither: count(verdicts, Verdict::Neither),
+    }
+}
+
+fn count(verdicts: &[Verdict], verdict: Verdict) -> u64
+    ensures { result ≡ count_by (is_like verdict) verdicts.now }
+{
+    verdicts
+        .iter()
+        .filter(|other| is_like(verdict, **other))
+        .count() as u64
+}
+
+fn is_like(verdict: Verdict, other: Verdict) -> bool
+    ensures { result ≡ is_like verdict other }
+{
+    match (verdict, other) {
+        (Verdict::Sooner, Verdict::Sooner) => true,
+        (Verdict::Later, Verdict::Later) => true,
+        (Verdict::Same, Verdict::Same) => true,
+        (Verdict::OnlyWith, Verdict::OnlyWith) => true,
+        (Verdict::OnlyWithout, Verdict::OnlyWithout) => true,
+        (Verdict::Neither, Verdict::Neither) => true,
+        _ => false,
     }
 }

@@ -1,6 +1,9 @@
 -- A race that was run for a connection.
+use Rattle.std.specs.Global.{Global}
 use Rattle.std.specs.Prelude.{ℕ, ◌≡◌, ◌⊎◌, List, [], Bool, true, false, Option, Some, None, IfSome, is_some}
 use Rattle.he_addr.specs.declared.ip.Family.{Family}
+use Rattle.he_course.specs.Course.{IsCourse}
+use Rattle.he_course.specs.declared.course.Course.{Course}
 use Rattle.he_dns.specs.Texts.{HostName}
 use Rattle.he_timeline.specs.Race.{Race}
 use Rattle.he_live.specs.Dials.{goes_to}
@@ -20,9 +23,9 @@ use Rattle.he_connect.specs.declared.setup.Setup.{Setup}
 use Rattle.he_connect.specs.Answers.{AnswersOfNames, AsksNames}
 use Rattle.he_connect.specs.Start.{Starts}
 
--- what explains a race, where that is asked for, is the story of its record
+-- what explains a race, where that is asked for, is the story of its record's course
 abbrev pub IsExplained : Bool → Race → List ℕ → Type 0
-IsExplained true recorded story = Tells 1 1 recorded [] story
+IsExplained true recorded story = (course : Course Global) × IsCourse recorded 1 1 course × Tells course [] story
 IsExplained false recorded story = story ≡ []
 
 -- the family that is tried alone, if one is

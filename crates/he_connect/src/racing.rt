@@ -12,6 +12,7 @@ use crate::setup::{Setup, set_up};
 use crate::source::{FamilyFaults, HostAnswers, LookupFaults};
 use crate::telling::Telling;
 use crate::tried::write_tried;
+use he_course::Course;
 use he_live::{Dialed, ResolvingRequest, Steps, resolving_race_on};
 use he_race::Raced;
 use he_resolver::{Lookup, NamesFault, SystemResolver, Wanted};
@@ -183,10 +184,12 @@ fn texts_of<R: Net>(
 fn explain(alloc: Global, is_asked: bool, recorded: &Timeline) -> Result<Vec<u8>, ConnectFault>
     ensures { IfOk result (λ story. IsExplained is_asked recorded.now story.items) }
 {
-    let mut story = Vec::new(alloc);
-    if is_asked {
-        write_story(alloc, recorded, 1, 1, &mut story)?;
+    if !is_asked {
+        return Ok(Vec::new(alloc));
     }
+    let course = Course::of(alloc, recorded, 1, 1)?;
+    let mut story = Vec::new(alloc);
+    write_story(alloc, &course, &mut story)?;
     Ok(story)
 }
 

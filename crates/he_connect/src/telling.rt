@@ -69,12 +69,12 @@ impl<'f, F: Write> Watcher for Telling<'f, F> {
     }
 }
 
-// The line, as `he: 12 ms: attempt 0 at 2001:db8::1 failed: refused`.
+// The line, as `he: 12 ms: attempt 1 at 2001:db8::1 failed: refused`.
 fn write_step(step: Step, out: &mut Vec<u8>) -> Result<(), Memory> {
     out.extend_from_slice(b"he: ")?;
     write_number(step.tick, out)?;
     out.extend_from_slice(b" ms: attempt ")?;
-    write_number(step.place as u64, out)?;
+    write_number((step.place as u64).saturating_add(1), out)?;
     out.extend_from_slice(b" at ")?;
     write_ip(step.ip, out)?;
     match step.what {

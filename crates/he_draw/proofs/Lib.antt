@@ -1,2 +1,2 @@
-mod RepeatLaws
+mod EscapedLaws
 mod TextLaws

@@ -1,30 +1,75 @@
--- The picture of a race, for a terminal.
-use Rattle.std.specs.Prelude.{ℕ, ◌≡◌, ◌++◌, List, codes}
-use Rattle.he_timeline.specs.Race.{Race}
-use Rattle.he_plan.specs.Transcript.{IsTranscript, Report}
-use Rattle.he_draw.specs.declared.look.Look.{Look}
-use Rattle.he_draw.specs.Drawn.{drawn_text, frame_of}
-use Rattle.he_draw.specs.Heading.{heading_text}
-use Rattle.he_draw.specs.Rows.{end_tick, rows_of}
+-- What pictures say, in whatever words, signs and colours; and the picture of a race for a terminal.
+use Rattle.std.specs.Prelude.{ℕ, ◌≡◌, ◌-◌, ◌*◌, ◌/◌, ◌%◌, ◌==◌, ◌++◌, if◌then◌else◌, List, [], ◌∷◌, min}
+use Rattle.std.specs.List.{flat_map}
+use Rattle.he_addr.specs.declared.ip.Family.TheVariants as families
+use Rattle.he_course.specs.declared.course.Course.{Course}
+use Rattle.he_print.specs.declared.part.Fact.{Fact}
+use Rattle.he_print.specs.declared.part.Fact.TheVariants.{Said, Number, Ip, Times}
+use Rattle.he_print.specs.declared.part.Part.{Part}
+use Rattle.he_print.specs.Parts.{States, fact_of}
+use Rattle.he_story.specs.Story.{race_facts}
+use Rattle.he_story.specs.declared.said.Said.{Said as Words}
+use Rattle.he_story.specs.declared.said.Said.TheVariants as says
+use Rattle.he_draw.specs.declared.rows.Row.{Row}
+use Rattle.he_draw.specs.declared.rows.What.{What}
+use Rattle.he_draw.specs.declared.rows.What.TheVariants.{Answer, Wait, Missing, Pause, Attempt}
+use Rattle.he_draw.specs.Rows.{end_of, rows_of}
 
--- the rows of a race with this transcript, in a terminal of so many columns, and their scale
-abbrev pub rows_text : Look → ℕ → Race → Report → List ℕ
-rows_text look width race report =
-    drawn_text (frame_of look width (end_tick report.result) (rows_of race report)) (rows_of race report)
+-- a text that states these facts, in this order, has been appended
+abbrev pub Prints : {S : Type 0} → List (Fact S) → List ℕ → List ℕ → Type 0
+Prints facts old new = (text : List ℕ) × States facts text × (new ≡ old ++ text)
 
--- how the race ended, its rows, their scale, and an empty line
-abbrev pub picture_text : ℕ → ℕ → Look → ℕ → Race → Report → List ℕ
-picture_text number line look width race report =
-    heading_text number line report.result ++ (rows_text look width race report ++ codes "\n")
+-- the facts of parts
+abbrev pub told : {S : Type 0} → List (Part S) → List (Fact S)
+told parts = flat_map fact_of parts
 
--- the text is the picture of the race, by its transcript, in a terminal of so many columns: the race of this number
--- in its input, counted from 1, which begins at this line
-pub record IsPicture (number line : ℕ) (look : Look) (width : ℕ) (drawn : List ℕ) (race : Race) : Type 0 where
-  pub report : Report
-  pub is : IsTranscript race report
-  pub text : drawn ≡ picture_text number line look width race report
+-- of what a row is
+abbrev pub label_fact : What → Fact Words
+label_fact (Answer family usable) = Said (says.Answered family)
+label_fact (Wait usable) = Said (says.Answered families.V4)
+label_fact (Missing family) = Said (says.Answered family)
+label_fact Pause = Said says.Paused
+label_fact (Attempt ip became) = Ip ip
 
--- the picture has been appended
-abbrev pub Draws : ℕ → ℕ → Look → ℕ → Race → List ℕ → List ℕ → Type 0
-Draws number line look width race old new =
-    (text : List ℕ) × IsPicture number line look width text race × (new ≡ old ++ text)
+-- the ticks of a row, and what was then
+abbrev pub words_facts : ℕ → ℕ → What → List (Fact Words)
+words_facts from to (Answer family usable) = Number from ∷ Number usable ∷ Said says.ToTry ∷ []
+words_facts from to (Wait usable) =
+    Number from ∷ Number to ∷ Said says.Waits ∷ Number usable ∷ Said says.ToTry ∷ []
+words_facts from to (Missing family) = Said (says.NoAnswer family) ∷ []
+words_facts from to Pause = Number from ∷ Number to ∷ []
+words_facts from to (Attempt ip became) = Number from ∷ Number to ∷ Said became ∷ []
+
+-- the column of a tick, from 0, where the time up to the end has so many; what comes after the end is not drawn, and
+-- its column is the last one
+abbrev pub column : ℕ → ℕ → ℕ → ℕ
+column columns end tick = if end == 0 then 0 else min tick end * (columns - 1) / end
+
+-- so many columns that are alike, by eights
+abbrev pub times : ℕ → List (Fact Words)
+times n = Times (n / 8) ∷ Times (n % 8) ∷ []
+
+-- what stands in so many columns and one more: an answer in the first, what became of an attempt in the last
+abbrev pub bar_facts : What → ℕ → List (Fact Words)
+bar_facts (Answer family usable) more = Said (says.Answered family) ∷ []
+bar_facts (Wait usable) more = Said (says.Answered families.V4) ∷ times more
+bar_facts (Missing family) more = []
+bar_facts Pause more = Said says.Paused ∷ times more
+bar_facts (Attempt ip became) more = times more ++ Said became ∷ []
+
+-- all columns of a row: those before its first, its own, and those after its last
+abbrev pub columns_facts : ℕ → ℕ → ℕ → What → List (Fact Words)
+columns_facts columns from to what =
+    times from ++ (bar_facts what (to - from) ++ times (columns - 1 - to))
+
+abbrev pub row_facts : ℕ → ℕ → Row → List (Fact Words)
+row_facts columns end row =
+    label_fact row.what
+    ∷ (columns_facts columns (column columns end row.from) (column columns end row.to) row.what
+    ++ words_facts row.from row.to row.what)
+
+-- how the race ended, its rows in so many columns, and the end of the scale below them
+unfoldable pub picture_facts : {A : Type 0} → ℕ → Course A → List (Fact Words)
+picture_facts columns course =
+    race_facts course
+    ++ (flat_map (row_facts columns (end_of course)) (rows_of course) ++ Number (end_of course) ∷ [])

@@ -1,64 +1,77 @@
--- The rows of a picture: what is drawn of a race that has this transcript.
-use Rattle.std.specs.Prelude.{ℕ, ◌+◌, ◌&&◌, ◌++◌, if◌then◌else◌, not, Bool, false, List, [], ◌∷◌, count_by, map, min, nat_le, nat_lt, Option, Some, None}
-use Rattle.std.specs.List.{flat_map, list_any}
+-- The rows of a picture: what is drawn of a race.
+use Rattle.std.specs.Prelude.{ℕ, ◌++◌, if◌then◌else◌, List, [], ◌∷◌, map, min, nat_le, Option, Some, None}
+use Rattle.std.specs.List.{flat_map}
+use Rattle.std.specs.Option.{option_map_or}
+use Rattle.he_addr.specs.declared.ip.Family.{Family}
 use Rattle.he_addr.specs.declared.ip.Family.TheVariants as families
-use Rattle.he_addr.specs.Ip.{is_usable}
-use Rattle.he_timeline.specs.Seen.{seen}
-use Rattle.he_timeline.specs.Race.{Race, Reply}
-use Rattle.he_plan.specs.Transcript.{Report}
-use Rattle.he_plan.specs.declared.transcript.Outcome3.{Outcome3}
-use Rattle.he_plan.specs.declared.transcript.Outcome3.TheVariants as results
+use Rattle.he_plan.specs.declared.transcript.Line.{Line}
+use Rattle.he_plan.specs.declared.transcript.Mark.{Mark}
+use Rattle.he_plan.specs.declared.transcript.Mark.TheVariants as marks
+use Rattle.he_course.specs.declared.course.Course.{Course}
+use Rattle.he_course.specs.declared.course.Seen.{Seen}
+use Rattle.he_course.specs.declared.events.Event.{Event}
+use Rattle.he_course.specs.declared.events.EventKind.{EventKind}
+use Rattle.he_course.specs.declared.events.EventKind.TheVariants as kinds
+use Rattle.he_course.specs.Events.{end_event}
+use Rattle.he_story.specs.declared.said.Said.{Said}
+use Rattle.he_story.specs.declared.said.Said.TheVariants as says
 use Rattle.he_draw.specs.declared.rows.Row.{Row}
-use Rattle.he_draw.specs.declared.rows.Row.TheVariants as rows
+use Rattle.he_draw.specs.declared.rows.What.TheVariants.{Answer, Wait, Missing, Pause, Attempt}
 
--- the tick at which a race ends
-abbrev pub end_tick : Outcome3 → ℕ
-end_tick (results.Won place tick) = tick
-end_tick (results.Exhausted tick) = tick
-end_tick (results.Limit tick) = tick
+-- the tick at which the race ends
+abbrev pub end_of : {A : Type 0} → Course A → ℕ
+end_of course = (end_event course.transcript.result).tick
 
--- the AAAA answer of a race that ends at `end`, where it is seen by then
-abbrev pub aaaa_row : Race → ℕ → Option Reply → Row
-aaaa_row race end None = rows.Missing families.V6
-aaaa_row race end (Some aaaa) =
-    if nat_lt end (seen race aaaa.tick) then rows.Missing families.V6
-    else rows.Answered families.V6 (seen race aaaa.tick) (count_by is_usable aaaa.addresses)
+-- an answer, where it is seen by the end
+abbrev pub answer_row : ℕ → Family → Option Seen → Row
+answer_row end family None = record { what = Missing family; from = 0; to = 0 }
+answer_row end family (Some answer) =
+    if nat_le answer.tick end
+    then record { what = Answer family answer.usable; from = answer.tick; to = answer.tick }
+    else record { what = Missing family; from = 0; to = 0 }
 
--- the answer is seen by t
-abbrev pub is_seen_by : Race → ℕ → Option Reply → Bool
-is_seen_by race t None = false
-is_seen_by race t (Some reply) = nat_le (seen race reply.tick) t
+-- the end of the Resolution Delay in which the client waits for the AAAA answer, where it does (RFC 8305 section 3)
+abbrev pub until_of : EventKind → Option ℕ → Option ℕ
+until_of (kinds.Waits until) later = Some until
+until_of _ later = later
 
--- the client waits for the AAAA answer (RFC 8305 section 3): the A answer has a usable address, and is seen before
--- the AAAA answer is, and before the Resolution Delay is over
-abbrev pub is_waiting : Race → Reply → Bool
-is_waiting race a =
-    list_any is_usable a.addresses && nat_lt (seen race a.tick) (a.tick + race.settings.resolution)
-    && not (is_seen_by race (seen race a.tick) race.aaaa)
+abbrev pub wait_in : List Event → Option ℕ
+wait_in [] = None
+wait_in (event ∷ more) = until_of event.kind (wait_in more)
 
--- the end of a wait for the AAAA answer: that of the Resolution Delay or of the race, whichever is sooner, or when the
--- AAAA answer is seen, if that is sooner still
-abbrev pub wait_end : Race → ℕ → Option Reply → ℕ
-wait_end race last None = last
-wait_end race last (Some aaaa) = min (seen race aaaa.tick) last
+-- a wait that may last up to this tick is over when the AAAA answer is seen, if that is sooner
+abbrev pub wait_end : Option Seen → ℕ → ℕ
+wait_end aaaa last = option_map_or (λ answer. min answer.tick last) aaaa last
 
--- the A answer, and the wait for the AAAA answer, if there is one (RFC 8305 section 3)
-abbrev pub a_row : Race → ℕ → Option Reply → Row
-a_row race end None = rows.Missing families.V4
-a_row race end (Some a) =
-    if nat_lt end (seen race a.tick) then rows.Missing families.V4
-    else if is_waiting race a
-    then rows.Waits (seen race a.tick) (wait_end race (min (a.tick + race.settings.resolution) end) race.aaaa)
-    (count_by is_usable a.addresses)
-    else rows.Answered families.V4 (seen race a.tick) (count_by is_usable a.addresses)
+-- the A answer, and the wait that begins there
+abbrev pub a_row : ℕ → Option Seen → Option ℕ → Option Seen → Row
+a_row end aaaa (Some until) (Some a) =
+    record { what = Wait a.usable; from = a.tick; to = wait_end aaaa (min until end) }
+a_row end aaaa _ a = answer_row end families.V4 a
 
--- a pause, where it begins before the end
-abbrev pub pause_rows : ℕ → ℕ × ℕ → List Row
-pause_rows end p = if nat_lt p.0 end then rows.Paused p.0 p.1 ∷ [] else []
+-- a pause that begins before the end
+abbrev pub pause_rows : ℕ → EventKind → List Row
+pause_rows tick (kinds.Paused until) = record { what = Pause; from = tick; to = until } ∷ []
+pause_rows tick _ = []
+
+-- what became of an attempt, and when
+abbrev pub became : Mark → Said
+became (marks.Won tick) = says.Won
+became (marks.Failed tick) = says.Failed
+became (marks.Cancelled tick) = says.Cancelled
+
+abbrev pub stop_of : Mark → ℕ
+stop_of (marks.Won tick) = tick
+stop_of (marks.Failed tick) = tick
+stop_of (marks.Cancelled tick) = tick
+
+abbrev pub attempt_row : Line → Row
+attempt_row line = record { what = Attempt line.ip (became line.mark); from = line.tick; to = stop_of line.mark }
 
 -- the answers, the pauses, and each attempt once, by place
-unfoldable pub rows_of : Race → Report → List Row
-rows_of race report =
-    (aaaa_row race (end_tick report.result) race.aaaa ∷ a_row race (end_tick report.result) race.a
-    ∷ flat_map (pause_rows (end_tick report.result)) race.pauses)
-    ++ map rows.Tried report.lines
+unfoldable pub rows_of : {A : Type 0} → Course A → List Row
+rows_of course =
+    (answer_row (end_of course) families.V6 course.aaaa
+    ∷ a_row (end_of course) course.aaaa (wait_in course.events.items) course.a
+    ∷ flat_map (λ event. pause_rows event.tick event.kind) course.events.items)
+    ++ map attempt_row course.transcript.lines

@@ -1,183 +1,124 @@
-// The rows of a picture, and the scale below them.
+// The rows of a picture.
 
-ghost use Rattle.std.specs.Prelude.{◌≡◌, ◌++◌, ◌-◌, ◌+◌, length, decimal, OnOk};
-ghost use Rattle.std.specs.List.{flat_map, repeat};
-ghost use Rattle.he_draw.specs.Drawn.{aligned_text, bar_text, column, columns_text, drawn_text, framed_text, row_text, scale_text, sign_of_mark, start_of, stop_of};
-ghost use Rattle.he_draw.specs.Looks.{sign_text};
+ghost use Rattle.std.specs.Prelude.{◌≡◌, ◌++◌, [], OnOk};
+ghost use Rattle.std.specs.List.{flat_map};
+ghost use Rattle.he_print.specs.Parts.{fact_of};
+ghost use Rattle.he_draw.specs.Picture.{bar_facts, columns_facts, row_facts, times, told};
 
-use crate::frame::Frame;
-use crate::look::{Look, Sign, sign_text};
-use crate::parts::{LinePart, width_of, write_parts, write_repeated, write_words};
-use crate::rows::Row;
-use crate::words::{stop_of_mark, write_label, write_row_words};
-use he_addr::Memory;
-use he_plan::Mark;
+use crate::frame::{Frame, column};
+use crate::look::{BLANK, Run, Signs};
+use crate::rows::{Row, What};
+use crate::words::{label, push_words};
+use he_addr::{Family, Memory};
+use he_print::{Part, push_parts};
+use he_story::Said;
 use std::alloc::Allocator;
 
-fn start_of(row: Row) -> u64
-    ensures { result ≡ start_of row }
-{
-    match row {
-        Row::Answered(_, tick, _) => tick,
-        Row::Waits(from, _, _) => from,
-        Row::Missing(_) => 0,
-        Row::Paused(from, _) => from,
-        Row::Tried(line) => line.tick,
-    }
-}
+// How many signs are written at once.
+const RUN: usize = 8;
 
-fn stop_of(row: Row) -> u64
-    ensures { result ≡ stop_of row }
-{
-    match row {
-        Row::Answered(_, tick, _) => tick,
-        Row::Waits(_, to, _) => to,
-        Row::Missing(_) => 0,
-        Row::Paused(_, to) => to,
-        Row::Tried(line) => stop_of_mark(line.mark),
-    }
-}
+// The widest address has 39 characters.
+const GAP: &[u8] = b"                                        ";
 
-pub(crate) fn sign_of_mark(mark: Mark) -> Sign
-    ensures { result ≡ sign_of_mark mark }
-{
-    match mark {
-        Mark::Won(_) => Sign::Won,
-        Mark::Failed(_) => Sign::Failed,
-        Mark::Cancelled(_) => Sign::Cancelled,
-    }
-}
-
-// A sign, and behind it another one so many times.
-fn write_sign_and<A: Allocator + Copy>(
-    look: Look,
-    first: Sign,
-    more: usize,
-    next: Sign,
-    text: &mut Vec<u8, A>,
-) -> Result<(), Memory>
-    ensures { OnOk result (text.new.items ≡ text.old.items ++ (sign_text look first ++ repeat more
-        (sign_text look next))) }
-{
-    write_words(sign_text(look, first), text)?;
-    write_repeated(more, sign_text(look, next), text)
-}
-
-// A row's own columns: so many and one more.
-fn write_bar<A: Allocator + Copy>(
-    look: Look,
-    row: Row,
-    more: usize,
-    text: &mut Vec<u8, A>,
-) -> Result<(), Memory>
-    ensures { OnOk result (text.new.items ≡ text.old.items ++ bar_text look row more) }
-{
-    match row {
-        Row::Answered(_, _, _) => write_words(sign_text(look, Sign::Answer), text),
-        Row::Waits(_, _, _) => write_sign_and(look, Sign::Answer, more, Sign::Wait, text),
-        Row::Missing(_) => write_words(b" ", text),
-        Row::Paused(_, _) => write_sign_and(look, Sign::Pause, more, Sign::Pause, text),
-        Row::Tried(line) => {
-            write_repeated(more, sign_text(look, Sign::Attempt), text)?;
-            write_words(sign_text(look, sign_of_mark(line.mark)), text)
-        }
-    }
-}
-
-fn write_columns<A: Allocator + Copy>(
+/// The rows of a picture, whose labels are so wide.
+pub(crate) fn push_rows<A: Allocator>(
     frame: Frame,
-    row: Row,
-    text: &mut Vec<u8, A>,
-) -> Result<(), Memory>
-    ensures { OnOk result (text.new.items ≡ text.old.items ++ columns_text frame row) }
-{
-    let from = frame.column(start_of(row));
-    let to = frame.column(stop_of(row));
-    let last = frame.columns.saturating_sub(1);
-    write_repeated(from, b" ", text)?;
-    write_bar(frame.look, row, to.saturating_sub(from), text)?;
-    write_repeated(last.saturating_sub(to), b" ", text)
-}
-
-// A row's label, and spaces up to the width of the widest one.
-fn write_aligned<A: Allocator + Copy>(
-    frame: Frame,
-    row: Row,
-    text: &mut Vec<u8, A>,
-) -> Result<(), Memory>
-    ensures { OnOk result (text.new.items ≡ text.old.items ++ aligned_text frame row) }
-{
-    let before = text.len();
-    write_label(row, text)?;
-    let label = text.len().saturating_sub(before);
-    write_repeated(frame.label.saturating_sub(label), b" ", text)
-}
-
-// A row's columns between the edges, with the spaces beside these.
-fn write_framed<A: Allocator + Copy>(
-    frame: Frame,
-    row: Row,
-    text: &mut Vec<u8, A>,
-) -> Result<(), Memory>
-    ensures { OnOk result (text.new.items ≡ text.old.items ++ framed_text frame row) }
-{
-    let edge = sign_text(frame.look, Sign::Edge);
-    write_words(b" ", text)?;
-    write_words(edge, text)?;
-    write_columns(frame, row, text)?;
-    write_words(edge, text)?;
-    write_words(b" ", text)
-}
-
-// LABEL |    BAR     | WORDS
-fn write_row<A: Allocator + Copy>(
-    frame: Frame,
-    row: Row,
-    text: &mut Vec<u8, A>,
-) -> Result<(), Memory>
-    ensures { OnOk result (text.new.items ≡ text.old.items ++ row_text frame row) }
-{
-    write_aligned(frame, row, text)?;
-    write_framed(frame, row, text)?;
-    write_row_words(row, text)?;
-    write_words(b"\n", text)
-}
-
-fn write_rows<A: Allocator + Copy>(
-    frame: Frame,
+    labels: &[usize],
     rows: &[Row],
-    text: &mut Vec<u8, A>,
+    parts: &mut Vec<Part<Said>, A>,
 ) -> Result<(), Memory>
-    ensures { OnOk result (text.new.items ≡ text.old.items ++ flat_map (row_text frame) rows.now) }
+    ensures { OnOk result (told parts.new.items ≡ told parts.old.items
+        ++ flat_map (row_facts frame.columns frame.end) rows.now) }
 {
-    for row in rows {
-        write_row(frame, *row, text)?;
+    for (place, row) in rows.iter().enumerate() {
+        let label = labels.get(place).copied().unwrap_or(frame.label);
+        push_row(frame, frame.label.saturating_sub(label), *row, parts)?;
     }
     Ok(())
 }
 
-// The scale below the rows.
-fn write_scale<A: Allocator + Copy>(frame: Frame, text: &mut Vec<u8, A>) -> Result<(), Memory>
-    ensures { OnOk result (text.new.items ≡ text.old.items ++ scale_text frame) }
+// LABEL |    BAR     | WORDS
+fn push_row<A: Allocator>(
+    frame: Frame,
+    gap: usize,
+    row: Row,
+    parts: &mut Vec<Part<Said>, A>,
+) -> Result<(), Memory>
+    ensures { OnOk result (told parts.new.items ≡ told parts.old.items ++ row_facts frame.columns frame.end row) }
 {
-    let between = frame.columns.saturating_sub(width_of(frame.end) + 4).max(1);
-    write_repeated(frame.label, b" ", text)?;
-    write_words(b"  0", text)?;
-    write_repeated(between, b" ", text)?;
-    write_parts(
-        &[LinePart::Number(frame.end), LinePart::Words(b" ms\n")],
-        text,
-    )
+    let from = column(frame.columns, frame.end, row.from);
+    let to = column(frame.columns, frame.end, row.to);
+    push_parts(
+        &[label(row.what), blank(gap), Part::Words(frame.signs.left)],
+        parts,
+    )?;
+    push_columns(frame, from, to, row.what, parts)?;
+    push_parts(&[Part::Words(frame.signs.right)], parts)?;
+    push_words(row, parts)?;
+    push_parts(&[Part::Words(b"\n")], parts)
 }
 
-#[tactic(auto, unfolding(crate::specs::Drawn::drawn_text))]
-pub(crate) fn write_drawn<A: Allocator + Copy>(
-    frame: Frame,
-    rows: &[Row],
-    text: &mut Vec<u8, A>,
-) -> Result<(), Memory>
-    ensures { OnOk result (text.new.items ≡ text.old.items ++ drawn_text frame rows.now) }
+/// So many spaces, at most 40.
+pub(crate) fn blank(count: usize) -> Part<Said>
+    ensures { fact_of result ≡ [] }
 {
-    write_rows(frame, rows, text)?;
-    write_scale(frame, text)
+    Part::Words(&GAP[..count.min(GAP.len())])
+}
+
+// All columns of a row, whose own are from this one to that one.
+fn push_columns<A: Allocator>(
+    frame: Frame,
+    from: usize,
+    to: usize,
+    what: What,
+    parts: &mut Vec<Part<Said>, A>,
+) -> Result<(), Memory>
+    ensures { OnOk result (told parts.new.items ≡ told parts.old.items ++ columns_facts frame.columns from to what) }
+{
+    let last = frame.columns.saturating_sub(1);
+    push_parts(&times(BLANK, from), parts)?;
+    push_bar(frame.signs, what, to.saturating_sub(from), parts)?;
+    push_parts(&times(BLANK, last.saturating_sub(to)), parts)
+}
+
+// A row's own columns: so many and one more.
+fn push_bar<A: Allocator>(
+    signs: Signs,
+    what: What,
+    more: usize,
+    parts: &mut Vec<Part<Said>, A>,
+) -> Result<(), Memory>
+    ensures { OnOk result (told parts.new.items ≡ told parts.old.items ++ bar_facts what more) }
+{
+    match what {
+        What::Answer(family, _) => {
+            push_parts(&[Part::Says(Said::Answered(family), signs.answer)], parts)
+        }
+        What::Wait(_) => {
+            push_parts(
+                &[Part::Says(Said::Answered(Family::V4), signs.answer)],
+                parts,
+            )?;
+            push_parts(&times(signs.wait, more), parts)
+        }
+        What::Missing(_) => push_parts(&[Part::Words(b" ")], parts),
+        What::Pause => {
+            push_parts(&[Part::Says(Said::Paused, signs.pause.0)], parts)?;
+            push_parts(&times(signs.pause, more), parts)
+        }
+        What::Attempt(_, became) => {
+            push_parts(&times(signs.attempt, more), parts)?;
+            push_parts(&[Part::Says(became, signs.of(became))], parts)
+        }
+    }
+}
+
+// A sign so many times.
+fn times(run: Run, count: usize) -> [Part<Said>; 2]
+    ensures { told result ≡ times count }
+{
+    [
+        Part::Repeated(count / RUN, run.1),
+        Part::Repeated(count % RUN, run.0),
+    ]
 }

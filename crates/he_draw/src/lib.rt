@@ -1,13 +1,13 @@
-//! A picture of a race: what `he draw` writes.
+//! Pictures of a race: what `he draw` writes.
 //!
-//! [`write_picture`] draws it for a terminal: a line on how the race ended; a row for the AAAA answer, the A answer,
+//! [`write_picture`] draws a race for a terminal: a line on how it ended; a row for the AAAA answer, the A answer,
 //! each pause and each attempt, with a bar from its start to its end on one scale of time, and these ticks; and the
-//! scale. The right edge is the end of the race, what lies behind it is not drawn. The A answer's bar is the wait for
-//! the AAAA answer (RFC 8305 section 3). [`write_svg`] draws the same rows as an SVG image, and [`collect_rows`]
+//! scale. The right edge is the end of the race, and what comes after it is not drawn. The A answer's bar is the wait
+//! for the AAAA answer (RFC 8305 section 3). [`write_svg`] draws the same rows as an SVG image, and [`collect_rows`]
 //! answers them by themselves. Ticks are milliseconds.
 //!
 //! ```text
-//! race 1, line 1: won after 340 ms by attempt 2
+//! race 1, line 1: connected to 198.51.100.1 after 340 ms
 //! AAAA answer   |      o                                 | 60 ms, 1 usable
 //! A answer      |  o~~~~                                 | 25-60 ms wait, 1 usable
 //! 2001:db8:1::1 |      =====================x            | 60-240 ms failed
@@ -15,29 +15,36 @@
 //!                0                                 340 ms
 //! ```
 //!
-//! Proved, for every race: what is appended is the text of `specs/Picture`, that of an image the one of `specs/Svg`,
-//! by the race's one transcript. Their rows are those of `specs/Rows`: both answers, the pauses that begin before the
-//! end, and each attempt once, by place. A row's text is that of `specs/Drawn`, in the columns of its own ticks, with
-//! the words of `specs/Words`; `specs/Looks` has the characters, by which alone the two looks differ. Where memory is
-//! refused, the vector is as it was.
+//! A page of races has [`write_head`], of each race [`write_section`], its rows as bars of HTML and its story
+//! (he_story), and [`write_tail`], with the totals; [`write_name`] writes the name of a text above its races. Races
+//! are written as they come. A page needs nothing from elsewhere and runs no script.
 //!
-//! Not proved: that a terminal shows each character of a look in one column, and how a viewer shows an image.
+//! Proved, for every race: the rows are those of `specs/Rows`, both answers, the pauses that begin before the end, and
+//! each attempt once, by place. What is appended says the facts of `specs/Picture` or `specs/Svg`, in this order: how
+//! the race ended, and of each row whose it is, the columns before, in and after its bar, its ticks, and what became
+//! of it. Where memory is refused, the vector is as it was. A section has the same rows with their ticks, and totals
+//! their numbers (`specs/Page`); no byte of a name or a story is read as a tag.
+//!
+//! Not proved: the words, signs and colours, that lines are as wide as the terminal, and how a viewer shows an image.
 #![tactic(auto)]
 
-pub mod collecting;
 mod drawing;
+pub mod escaping;
 mod frame;
-mod heading;
 pub mod look;
-mod parts;
+pub mod page;
 pub mod picture;
 pub mod rows;
+pub mod section;
 mod shapes;
 pub mod svg;
+pub mod totals;
 mod words;
 
-pub use collecting::collect_rows;
 pub use look::Look;
+pub use page::{write_head, write_name, write_tail};
 pub use picture::write_picture;
-pub use rows::Row;
-pub use svg::{write_style, write_svg};
+pub use rows::{Row, What, collect_rows};
+pub use section::write_section;
+pub use svg::write_svg;
+pub use totals::{Times, Totals};

@@ -1,7 +1,6 @@
 // The characters of which pictures are drawn.
 
-ghost use Rattle.std.specs.Prelude.{◌≡◌};
-ghost use Rattle.he_draw.specs.Looks.{ascii_text, sign_text, unicode_text};
+use he_story::Said;
 
 /// Of which characters a picture is drawn.
 #[derive(Clone, Copy, Debug, PartialEq, Eq)]
@@ -12,62 +11,61 @@ pub enum Look {
     Unicode,
 }
 
-/// What a column of a picture shows.
-#[derive(Clone, Copy, Debug, PartialEq, Eq)]
-pub enum Sign {
-    /// The edge at the left and at the right.
-    Edge,
-    /// An answer is seen.
-    Answer,
-    /// The client waits for the AAAA answer.
-    Wait,
-    /// The client sees and starts nothing.
-    Pause,
+/// A sign that stands in a row of its own, and eight of them.
+pub(crate) type Run = (&'static [u8], &'static [u8]);
+
+pub(crate) const BLANK: Run = (b" ", b"        ");
+
+/// The signs of a look.
+#[derive(Clone, Copy)]
+pub(crate) struct Signs {
+    /// The edges, with the spaces beside them.
+    pub(crate) left: &'static [u8],
+    pub(crate) right: &'static [u8],
+    pub(crate) answer: &'static [u8],
+    pub(crate) won: &'static [u8],
+    pub(crate) failed: &'static [u8],
+    pub(crate) cancelled: &'static [u8],
+    pub(crate) wait: Run,
+    pub(crate) pause: Run,
     /// An attempt is under way.
-    Attempt,
-    /// The attempt won.
-    Won,
-    /// The attempt failed.
-    Failed,
-    /// The attempt is cancelled at the end of the race.
-    Cancelled,
+    pub(crate) attempt: Run,
 }
 
-pub(crate) fn sign_text(look: Look, sign: Sign) -> &'static [u8]
-    ensures { result.now ≡ sign_text look sign }
-{
+pub(crate) fn signs_of(look: Look) -> Signs {
     match look {
-        Look::Ascii => ascii_text(sign),
-        Look::Unicode => unicode_text(sign),
+        Look::Ascii => Signs {
+            left: b" |",
+            right: b"| ",
+            answer: b"o",
+            won: b"*",
+            failed: b"x",
+            cancelled: b">",
+            wait: (b"~", b"~~~~~~~~"),
+            pause: (b"#", b"########"),
+            attempt: (b"=", b"========"),
+        },
+        Look::Unicode => Signs {
+            left: " │".as_bytes(),
+            right: "│ ".as_bytes(),
+            answer: "●".as_bytes(),
+            won: "✓".as_bytes(),
+            failed: "✕".as_bytes(),
+            cancelled: "▸".as_bytes(),
+            wait: ("┄".as_bytes(), "┄┄┄┄┄┄┄┄".as_bytes()),
+            pause: ("░".as_bytes(), "░░░░░░░░".as_bytes()),
+            attempt: ("━".as_bytes(), "━━━━━━━━".as_bytes()),
+        },
     }
 }
 
-fn ascii_text(sign: Sign) -> &'static [u8]
-    ensures { result.now ≡ ascii_text sign }
-{
-    match sign {
-        Sign::Edge => b"|",
-        Sign::Answer => b"o",
-        Sign::Wait => b"~",
-        Sign::Pause => b"#",
-        Sign::Attempt => b"=",
-        Sign::Won => b"*",
-        Sign::Failed => b"x",
-        Sign::Cancelled => b">",
-    }
-}
-
-fn unicode_text(sign: Sign) -> &'static [u8]
-    ensures { result.now ≡ unicode_text sign }
-{
-    match sign {
-        Sign::Edge => "│".as_bytes(),
-        Sign::Answer => "●".as_bytes(),
-        Sign::Wait => "┄".as_bytes(),
-        Sign::Pause => "░".as_bytes(),
-        Sign::Attempt => "━".as_bytes(),
-        Sign::Won => "✓".as_bytes(),
-        Sign::Failed => "✕".as_bytes(),
-        Sign::Cancelled => "▸".as_bytes(),
+impl Signs {
+    /// The sign of what became of an attempt.
+    pub(crate) fn of(self, became: Said) -> &'static [u8] {
+        match became {
+            Said::Won => self.won,
+            Said::Failed => self.failed,
+            _ => self.cancelled,
+        }
     }
 }

@@ -1,72 +1,75 @@
 // The picture of a race, for a terminal.
 
-ghost use Rattle.std.specs.Prelude.{ℕ, List, ◌≡◌, ◌++◌, IfOk, OnOk, OnErr};
-ghost use Rattle.he_draw.specs.Picture.{Draws, IsPicture, rows_text};
+ghost use Rattle.std.specs.Prelude.{ℕ, ◌≡◌, ◌≤◌, ◌++◌, ◌∷◌, [], OnOk, OnErr, IfOk};
+ghost use Rattle.he_print.specs.Parts.{States};
+ghost use Rattle.he_print.specs.declared.part.Fact.TheVariants.{Number};
+ghost use Rattle.he_draw.specs.Picture.{Prints, picture_facts, told};
 
-use crate::collecting::{collect_rows, end_tick};
-use crate::drawing::write_drawn;
-use crate::frame::frame_of;
-use crate::heading::write_heading;
+use crate::drawing::{blank, push_rows};
+use crate::frame::{Frame, LEAST_COLUMNS, frame_of};
 use crate::look::Look;
-use crate::parts::write_words;
+use crate::rows::collect_rows;
 use he_addr::Memory;
-use he_plan::{Transcript, transcript_of};
-use he_timeline::Timeline;
+use he_course::Course;
+use he_print::{Part, push_parts, write_parts};
+use he_story::{Said, heading_parts};
 use std::alloc::Allocator;
-
-// The rows, and the scale below them.
-fn write_rows<A: Allocator + Copy, B: Allocator, C: Allocator>(
-    alloc: A,
-    timeline: &Timeline<B>,
-    transcript: &Transcript<C>,
-    look: Look,
-    width: u16,
-    text: &mut Vec<u8, A>,
-) -> Result<(), Memory>
-    ensures { OnOk result (text.new.items ≡ text.old.items ++ rows_text look width timeline.now transcript.now) }
-{
-    let rows = collect_rows(alloc, timeline, transcript)?;
-    let end = end_tick(transcript.result());
-    let frame = frame_of(alloc, look, width, end, &rows)?;
-    write_drawn(frame, &rows, text)
-}
-
-// The picture in a text of its own, so that nothing is appended of one that memory does not suffice for.
-fn picture<A: Allocator + Copy, B: Allocator>(
-    alloc: A,
-    timeline: &Timeline<B>,
-    number: usize,
-    line: u64,
-    look: Look,
-    width: u16,
-) -> Result<Vec<u8, A>, Memory>
-    ensures { IfOk result (λ text. IsPicture number line look width text.items timeline.now) }
-{
-    let transcript = transcript_of(alloc, timeline)?;
-    let mut text = Vec::new(alloc);
-    write_heading(number, line, transcript.result(), &mut text)?;
-    write_rows(alloc, timeline, &transcript, look, width, &mut text)?;
-    write_words(b"\n", &mut text)?;
-    Ok(text)
-}
 
 /// Appends the picture of the race: a line on how it ended; a row for each answer, each pause that begins before the
 /// end, and each attempt by place, with a bar from its start to its end and these ticks, in milliseconds; the scale;
-/// and an empty line. `number` is the race's number in its input, counted from 1, and `line` the line at which it
-/// begins. Lines are as wide as `width` columns, or wider where that leaves fewer than ten for the bars. After
-/// `Memory` the vector holds what it held.
+/// and an empty line. Lines are as wide as `width` columns, or wider where that leaves fewer than ten for the bars.
+/// After `Memory` the vector holds what it held.
 pub fn write_picture<A: Allocator + Copy, B: Allocator>(
-    alloc: A,
-    timeline: &Timeline<B>,
-    number: usize,
-    line: u64,
+    course: &Course<B>,
     look: Look,
     width: u16,
     out: &mut Vec<u8, A>,
 ) -> Result<(), Memory>
-    ensures ok { OnOk result (Draws number line look width timeline.now out.old.items out.new.items) }
+    ensures ok { OnOk result ((columns : ℕ) × (LEAST_COLUMNS ≤ columns)
+        × Prints (picture_facts columns course.now) out.old.items out.new.items) }
     ensures err { OnErr result (out.new.items ≡ out.old.items) }
 {
-    let text = picture(alloc, timeline, number, line, look, width)?;
+    let text = picture(*out.allocator(), course, look, width)?;
     out.extend_from_slice(&text).map_err(|_| Memory)
+}
+
+// The picture in a text of its own, so that nothing is appended of one that memory does not suffice for.
+#[tactic(auto, unfolding(crate::specs::Picture::picture_facts))]
+fn picture<A: Allocator + Copy, B: Allocator>(
+    alloc: A,
+    course: &Course<B>,
+    look: Look,
+    width: u16,
+) -> Result<Vec<u8, A>, Memory>
+    ensures { IfOk result (λ text. (columns : ℕ) × (LEAST_COLUMNS ≤ columns)
+        × States (picture_facts columns course.now) text.items) }
+{
+    let rows = collect_rows(alloc, course)?;
+    let (frame, labels) = frame_of(alloc, look, width, course.end(), &rows)?;
+    let mut parts = heading_parts(alloc, course)?;
+    push_parts(&[Part::Words(b"\n")], &mut parts)?;
+    push_rows(frame, &labels, &rows, &mut parts)?;
+    push_scale(frame, &mut parts)?;
+    let mut text = Vec::new(alloc);
+    write_parts(&parts, &mut text)?;
+    Ok(text)
+}
+
+// What stands beside the greatest number below the last column: `0`, the space after it, and ` ms`.
+const BESIDE_END: usize = 5;
+
+// The scale below the rows, and an empty line.
+fn push_scale<A: Allocator>(frame: Frame, parts: &mut Vec<Part<Said>, A>) -> Result<(), Memory>
+    ensures { OnOk result (told parts.new.items ≡ told parts.old.items ++ Number frame.end ∷ []) }
+{
+    let end = Part::Aligned(frame.columns.saturating_sub(BESIDE_END), frame.end);
+    push_parts(
+        &[
+            blank(frame.label),
+            Part::Words(b"  0 "),
+            end,
+            Part::Words(b" ms\n\n"),
+        ],
+        parts,
+    )
 }

@@ -1,24 +1,149 @@
-// A row of a picture.
+// The rows of a race's picture.
 
-use he_addr::Family;
-use he_plan::Line;
+ghost use Rattle.std.specs.Prelude.{◌≡◌, ◌++◌, map, IfOk, OnOk};
+ghost use Rattle.std.specs.List.{flat_map};
+ghost use Rattle.he_draw.specs.Rows.{a_row, answer_row, attempt_row, pause_rows, rows_of, wait_end, wait_in};
 
-/// What is drawn in a row of a picture. Ticks are milliseconds.
+use he_addr::{Family, Ip, Memory};
+use he_course::{Course, Event, EventKind, Seen};
+use he_plan::{Line, Mark};
+use he_story::Said;
+use std::alloc::{AllocError, Allocator};
+
+/// A row of a picture, with the ticks from which and to which it is drawn, in milliseconds.
 #[derive(Clone, Copy, Debug, PartialEq, Eq)]
-pub enum Row {
-    /// The answer of this family is seen at this tick, with so many usable addresses.
-    Answered(Family, u64, usize),
+pub struct Row {
+    pub what: What,
+    pub from: u64,
+    pub to: u64,
+}
 
-    /// The A answer is seen at the first tick, and the client waits for the AAAA answer up to the second one. The A
-    /// answer has so many usable addresses.
-    Waits(u64, u64, usize),
+/// What is drawn in a row.
+#[derive(Clone, Copy, Debug, PartialEq, Eq)]
+pub enum What {
+    /// The answer of this family is seen, with so many usable addresses.
+    Answer(Family, usize),
+
+    /// The A answer is seen, with so many usable addresses, and the client waits for the AAAA answer.
+    Wait(usize),
 
     /// No answer of this family is seen by the end of the race.
     Missing(Family),
 
-    /// The client sees and starts nothing from the first tick up to the second one.
-    Paused(u64, u64),
+    /// The client sees and starts nothing.
+    Pause,
 
-    /// The attempt, with what became of it.
-    Tried(Line),
+    /// An attempt at this address, and what became of it.
+    Attempt(Ip, Said),
+}
+
+// That of the AAAA answer, and that of the A answer.
+const ANSWER_ROWS: usize = 2;
+
+/// The rows of a race: the AAAA answer, the A answer, the pauses that begin before the end of the race, and the
+/// attempts by place.
+#[tactic(auto, unfolding(crate::specs::Rows::rows_of))]
+pub fn collect_rows<A: Allocator, B: Allocator>(
+    alloc: A,
+    course: &Course<B>,
+) -> Result<Vec<Row, A>, Memory>
+    ensures { IfOk result (λ rows. rows.items ≡ rows_of course.now) }
+{
+    // Each pause and each attempt's start is an event.
+    let most = course.events.len().saturating_add(ANSWER_ROWS);
+    let end = course.end();
+    let mut rows = Vec::with_capacity(alloc, most)?;
+    rows.push(answer_row(end, Family::V6, course.aaaa))?;
+    rows.push(a_row(end, course.aaaa, wait_in(&course.events), course.a))?;
+    push_pauses(&mut rows, &course.events)?;
+    push_attempts(&mut rows, course.transcript.attempts())?;
+    Ok(rows)
+}
+
+fn answer_row(end: u64, family: Family, answer: Option<Seen>) -> Row
+    ensures { result ≡ answer_row end family answer }
+{
+    match answer {
+        Some(answer) if answer.tick <= end => Row {
+            what: What::Answer(family, answer.usable),
+            from: answer.tick,
+            to: answer.tick,
+        },
+        _ => Row {
+            what: What::Missing(family),
+            from: 0,
+            to: 0,
+        },
+    }
+}
+
+fn a_row(end: u64, aaaa: Option<Seen>, until: Option<u64>, a: Option<Seen>) -> Row
+    ensures { result ≡ a_row end aaaa until a }
+{
+    match (until, a) {
+        (Some(until), Some(a)) => Row {
+            what: What::Wait(a.usable),
+            from: a.tick,
+            to: wait_end(aaaa, until.min(end)),
+        },
+        _ => answer_row(end, Family::V4, a),
+    }
+}
+
+fn wait_end(aaaa: Option<Seen>, last: u64) -> u64
+    ensures { result ≡ wait_end aaaa last }
+{
+    match aaaa {
+        Some(answer) => answer.tick.min(last),
+        None => last,
+    }
+}
+
+// Up to when the client waits for the AAAA answer at most, where it does.
+fn wait_in(events: &[Event]) -> Option<u64>
+    ensures { result ≡ wait_in events.now }
+{
+    for event in events {
+        if let EventKind::Waits(until) = event.kind {
+            return Some(until);
+        }
+    }
+    None
+}
+
+fn push_pauses<A: Allocator>(rows: &mut Vec<Row, A>, events: &[Event]) -> Result<(), AllocError>
+    ensures { OnOk result (rows.new.items ≡ rows.old.items
+        ++ flat_map (λ event. pause_rows event.tick event.kind) events.now) }
+{
+    for event in events {
+        if let EventKind::Paused(to) = event.kind {
+            let (what, from) = (What::Pause, event.tick);
+            rows.push(Row { what, from, to })?;
+        }
+    }
+    Ok(())
+}
+
+fn push_attempts<A: Allocator>(rows: &mut Vec<Row, A>, lines: &[Line]) -> Result<(), AllocError>
+    ensures { OnOk result (rows.new.items ≡ rows.old.items ++ map attempt_row lines.now) }
+{
+    for line in lines {
+        rows.push(attempt_row(line))?;
+    }
+    Ok(())
+}
+
+fn attempt_row(line: &Line) -> Row
+    ensures { result ≡ attempt_row line.now }
+{
+    let (became, to) = match line.mark {
+        Mark::Won(tick) => (Said::Won, tick),
+        Mark::Failed(tick) => (Said::Failed, tick),
+        Mark::Cancelled(tick) => (Said::Cancelled, tick),
+    };
+    Row {
+        what: What::Attempt(line.ip, became),
+        from: line.tick,
+        to,
+    }
 }

@@ -1,119 +1,77 @@
-// The label of a row, and its words.
+// The words of a row.
 
-ghost use Rattle.std.specs.Prelude.{◌≡◌, ◌++◌, OnOk};
-ghost use Rattle.he_draw.specs.Words.{family_text, became_text, label_text, range_text, stop_of_mark, words_text};
+ghost use Rattle.std.specs.Prelude.{◌≡◌, ◌++◌, ◌∷◌, [], OnOk};
+ghost use Rattle.he_print.specs.Parts.{fact_of};
+ghost use Rattle.he_draw.specs.Picture.{label_fact, told, words_facts};
 
-use crate::parts::{LinePart, write_parts, write_words};
-use crate::rows::Row;
-use he_addr::{Family, Memory, write_ip};
-use he_plan::Mark;
+use crate::rows::{Row, What};
+use he_addr::{Family, Memory};
+use he_print::{Part, push_parts};
+use he_story::Said;
 use std::alloc::Allocator;
 
-fn family_text(family: Family) -> &'static [u8]
-    ensures { result.now ≡ family_text family }
+/// Of what a row is.
+pub(crate) fn label(what: What) -> Part<Said>
+    ensures { fact_of result ≡ label_fact what ∷ [] }
 {
+    match what {
+        What::Answer(family, _) | What::Missing(family) => {
+            Part::Says(Said::Answered(family), answer_words(family))
+        }
+        What::Wait(_) => Part::Says(Said::Answered(Family::V4), answer_words(Family::V4)),
+        What::Pause => Part::Says(Said::Paused, b"pause"),
+        What::Attempt(ip, _) => Part::Ip(ip),
+    }
+}
+
+fn answer_words(family: Family) -> &'static [u8] {
     match family {
         Family::V6 => b"AAAA answer",
         Family::V4 => b"A answer",
     }
 }
 
-// Of what the row tells.
-pub(crate) fn write_label<A: Allocator + Copy>(
+/// What became of an attempt, in one word.
+pub(crate) fn became_word(became: Said) -> &'static [u8] {
+    match became {
+        Said::Won => b"won",
+        Said::Failed => b"failed",
+        _ => b"cancelled",
+    }
+}
+
+/// The ticks of a row, and what was then.
+pub(crate) fn push_words<A: Allocator>(
     row: Row,
-    text: &mut Vec<u8, A>,
+    parts: &mut Vec<Part<Said>, A>,
 ) -> Result<(), Memory>
-    ensures { OnOk result (text.new.items ≡ text.old.items ++ label_text row) }
+    ensures { OnOk result (told parts.new.items ≡ told parts.old.items ++ words_facts row.from row.to row.what) }
 {
-    match row {
-        Row::Answered(family, _, _) | Row::Missing(family) => write_words(
-            family_text(family),
-            text,
-        ),
-        Row::Waits(_, _, _) => write_words(b"A answer", text),
-        Row::Paused(_, _) => write_words(b"pause", text),
-        Row::Tried(line) => write_ip(line.ip, text),
-    }
-}
-
-/// The tick at which an attempt ended.
-pub(crate) fn stop_of_mark(mark: Mark) -> u64
-    ensures { result ≡ stop_of_mark mark }
-{
-    match mark {
-        Mark::Won(tick) => tick,
-        Mark::Failed(tick) => tick,
-        Mark::Cancelled(tick) => tick,
-    }
-}
-
-fn became_text(mark: Mark) -> &'static [u8]
-    ensures { result.now ≡ became_text mark }
-{
-    match mark {
-        Mark::Won(_) => b" ms won",
-        Mark::Failed(_) => b" ms failed",
-        Mark::Cancelled(_) => b" ms cancelled",
-    }
-}
-
-// FROM-TO, and what it was.
-fn write_range<A: Allocator + Copy>(
-    from: u64,
-    to: u64,
-    what: &[u8],
-    text: &mut Vec<u8, A>,
-) -> Result<(), Memory>
-    ensures { OnOk result (text.new.items ≡ text.old.items ++ range_text from to what.now) }
-{
-    write_parts(
-        &[
-            LinePart::Number(from),
-            LinePart::Words(b"-"),
-            LinePart::Number(to),
-            LinePart::Words(what),
-        ],
-        text,
-    )
-}
-
-// What is told at the right: the ticks, and what was then.
-pub(crate) fn write_row_words<A: Allocator + Copy>(
-    row: Row,
-    text: &mut Vec<u8, A>,
-) -> Result<(), Memory>
-    ensures { OnOk result (text.new.items ≡ text.old.items ++ words_text row) }
-{
-    match row {
-        Row::Answered(_, tick, usable) => write_parts(
-            &[
-                LinePart::Number(tick),
-                LinePart::Words(b" ms, "),
-                LinePart::Number(usable as u64),
-                LinePart::Words(b" usable"),
-            ],
-            text,
-        ),
-        Row::Waits(from, to, usable) => write_parts(
-            &[
-                LinePart::Number(from),
-                LinePart::Words(b"-"),
-                LinePart::Number(to),
-                LinePart::Words(b" ms wait, "),
-                LinePart::Number(usable as u64),
-                LinePart::Words(b" usable"),
-            ],
-            text,
-        ),
-        Row::Missing(_) => write_words(b"none by the end", text),
-        Row::Paused(from, to) => write_range(from, to, b" ms", text),
-        Row::Tried(line) => {
-            write_range(
-                line.tick,
-                stop_of_mark(line.mark),
-                became_text(line.mark),
-                text,
+    let from = Part::Number(row.from);
+    let to = Part::Number(row.to);
+    let between = Part::Words(b"-");
+    match row.what {
+        What::Answer(_, usable) => {
+            let usable = Part::Number(usable as u64);
+            let words = Part::Says(Said::ToTry, b" usable");
+            push_parts(&[from, Part::Words(b" ms, "), usable, words], parts)
+        }
+        What::Wait(usable) => {
+            let wait = Part::Says(Said::Waits, b" ms wait, ");
+            let usable = Part::Number(usable as u64);
+            let words = Part::Says(Said::ToTry, b" usable");
+            push_parts(&[from, between, to, wait, usable, words], parts)
+        }
+        What::Missing(family) => {
+            push_parts(
+                &[Part::Says(Said::NoAnswer(family), b"none by the end")],
+                parts,
             )
+        }
+        What::Pause => push_parts(&[from, between, to, Part::Words(b" ms")], parts),
+        What::Attempt(_, became) => {
+            let became = Part::Says(became, became_word(became));
+            push_parts(&[from, between, to, Part::Words(b" ms "), became], parts)
         }
     }
 }

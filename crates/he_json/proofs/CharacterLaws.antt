@@ -1,6 +1,6 @@
 -- The characters of numbers and addresses: digits, dots and colons.
 use Rattle.std.proofs.Common.{◌≡◌, ℕ, zero, suc, ◌+◌, ◌/◌, ◌%◌, ◌<◌, ◌≤◌, Bool, true, false, List, [], ◌∷◌, ◌++◌, take, drop, map, decimal, refl, ◌∙◌, arith, nat_eq}
-use Rattle.std.specs.Prelude.{if◌then◌else◌, nat_le}
+use Rattle.std.specs.Prelude.{if◌then◌else◌, nat_le, not}
 use Rattle.std.specs.Cmp.Derive.{both_true}
 use Rattle.std.specs.Fmt.{digit_glyph, digits, digits_onto}
 use Rattle.std.specs.Int.{w32, to_be_bytes}
@@ -12,7 +12,7 @@ use Rattle.he_addr.specs.declared.ip.Ip.{Ip}
 use Rattle.he_addr.specs.declared.ip.Ip.TheVariants.{V4, V6}
 use Rattle.he_addr.specs.Printed.{groups_of, hex, joined, shortened}
 use Rattle.he_addr.specs.Printing.{longest, printed, printed_v6}
-use Rattle.he_json.specs.Laws.{is_plain, is_printable}
+use Rattle.he_print.specs.Escaping.{is_control, is_plain}
 
 -- of a test that holds of these
 module _ (holds : ℕ → Bool) (digit : (d : ℕ) → d < 16 → holds (digit_glyph false d) ≡ true) (dot : holds 46 ≡ true) (colon : holds 58 ≡ true) where
@@ -62,14 +62,18 @@ module _ (holds : ℕ → Bool) (digit : (d : ℕ) → d < 16 → holds (digit_g
 plain_digit : (d : ℕ) → d < 16 → is_plain (digit_glyph false d) ≡ true
 plain_digit d h = grind (arith, nat_tests)
 
-printable_digit : (d : ℕ) → d < 16 → is_printable (digit_glyph false d) ≡ true
-printable_digit d h = grind (arith, nat_tests)
-
 pub printed_plain : (ip : Ip) → list_all is_plain (printed ip) ≡ true
 printed_plain ip = printed_holds is_plain plain_digit refl refl ip
 
-pub decimal_printable : (n : ℕ) → list_all is_printable (decimal n) ≡ true
-decimal_printable n = decimal_holds is_printable printable_digit refl refl n
+-- no control character
+abbrev pub stands : ℕ → Bool
+stands c = not (is_control c)
 
-pub printed_printable : (ip : Ip) → list_all is_printable (printed ip) ≡ true
-printed_printable ip = printed_holds is_printable printable_digit refl refl ip
+standing_digit : (d : ℕ) → d < 16 → stands (digit_glyph false d) ≡ true
+standing_digit d h = grind (arith, nat_tests)
+
+pub decimal_stands : (n : ℕ) → list_all stands (decimal n) ≡ true
+decimal_stands n = decimal_holds stands standing_digit refl refl n
+
+pub printed_stands : (ip : Ip) → list_all stands (printed ip) ≡ true
+printed_stands ip = printed_holds stands standing_digit refl refl ip

@@ -1,4 +1,3 @@
 mod CharacterLaws
 mod LineLaws
-mod Parting
-mod ReasonLaws
+mod RowLaws

@@ -1,156 +1,128 @@
 -- Each text is one line.
-use Rattle.std.proofs.Common.{◌≡◌, ℕ, ◌+◌, Bool, true, false, List, [], ◌∷◌, ◌++◌, map, codes, refl, ◌∙◌}
+use Rattle.std.proofs.Common.{◌≡◌, ℕ, true, false, List, [], ◌∷◌, ◌++◌, map, codes, decimal, refl, ◌∙◌, append_assoc}
 use Rattle.std.specs.Prelude.{Option, None, Some}
+use Rattle.std.specs.Borrow.{Bor}
 use Rattle.std.specs.Cmp.Derive.{both_true}
-use Rattle.std.specs.List.{AllByRecursion, join_with_byte, list_all}
+use Rattle.std.specs.List.{list_all}
 use Rattle.std.proofs.lemmas.List.Folds.{list_all-append}
-use Rattle.he_addr.specs.declared.ip.Family.{Family}
-use Rattle.he_addr.specs.declared.ip.Family.TheVariants as names
 use Rattle.he_addr.specs.declared.ip.Ip.{Ip}
-use Rattle.he_timeline.specs.Race.{Race}
-use Rattle.he_plan.specs.Transcript.{Report}
-use Rattle.he_plan.specs.declared.transcript.Line.{Line}
-use Rattle.he_plan.specs.declared.transcript.Mark.{Mark}
-use Rattle.he_plan.specs.declared.transcript.Mark.TheVariants as marks
-use Rattle.he_plan.specs.declared.transcript.Outcome3.{Outcome3}
-use Rattle.he_plan.specs.declared.transcript.Outcome3.TheVariants as results
-use Rattle.he_select.specs.declared.deciding.DestinationRule.{DestinationRule}
-use Rattle.he_select.specs.declared.deciding.DestinationRule.TheVariants as rules
-use Rattle.he_select.specs.declared.attributes.DestinationAttributes.{DestinationAttributes}
-use Rattle.he_explain.specs.declared.cause.Cause.{Cause}
-use Rattle.he_explain.specs.declared.cause.Cause.TheVariants as causes
-use Rattle.he_explain.specs.declared.events.Event.{Event}
-use Rattle.he_explain.specs.declared.events.EventKind.{EventKind}
-use Rattle.he_explain.specs.declared.events.EventKind.TheVariants as kinds
-use Rattle.he_explain.specs.declared.listing.Listed.{Listed}
-use Rattle.he_explain.specs.declared.listing.Turn.{Turn}
-use Rattle.he_explain.specs.declared.listing.Turn.TheVariants as whose
-use Rattle.he_explain.specs.Course.{course}
-use Rattle.he_explain.specs.Reasons.{Decision, all_attributes_of}
-use Rattle.he_json.specs.Events.{cause_members, event_json, event_named, family_name, kind_members, listed_members, number_member, turn_name}
-use Rattle.he_json.specs.Explanation.{explanation_json, explanation_object}
-use Rattle.he_json.specs.Json.{address, address_or_null, member, number_or_null, object, truth}
-use Rattle.he_json.specs.Laws.{IsLine, is_printable}
-use Rattle.he_json.specs.Orders.{order_json, order_object, place_json, place_members, places_json}
-use Rattle.he_json.specs.Reasons.{order_reasons, reason_members, reasoned_json, reasoned_places}
-use Rattle.he_json.specs.Transcripts.{attempt_json, end_of, result_json, transcript_json, transcript_object}
-use Rattle.he_json.proofs.CharacterLaws.{decimal_printable, printed_printable}
+use Rattle.he_addr.specs.Printing.{printed}
+use Rattle.he_print.specs.Escaping.{StringsAreLines, string_text}
+use Rattle.he_json.specs.Documents.{Spot, beginning_text, explanation_text, file_text, order_text, transcript_text}
+use Rattle.he_json.specs.Json.{address_text, member_text, object_text, objects_text, parted, value_text}
+use Rattle.he_json.specs.Laws.{IsLine}
+use Rattle.he_json.specs.Machine.{machine_text}
+use Rattle.he_json.specs.Names.{addresses_text, answer_text, given_text, names_text}
+use Rattle.he_json.specs.declared.members.Member.{Member}
+use Rattle.he_json.specs.declared.members.Value.{Value}
+use Rattle.he_json.specs.declared.members.Value.TheVariants as values
+use Rattle.he_json.proofs.CharacterLaws.{decimal_stands, printed_stands, stands}
 
-abbrev IsPrintable : List ℕ → Type 0
-IsPrintable text = list_all is_printable text ≡ true
+abbrev Stands : List ℕ → Type 0
+Stands text = list_all stands text ≡ true
 
-joined : (texts : List (List ℕ)) → AllByRecursion IsPrintable texts → IsPrintable (join_with_byte 44 texts)
-joined [] h = refl
-joined (text ∷ []) h = h.0
-joined (text ∷ next ∷ texts) h = list_all-append is_printable text (44 ∷ join_with_byte 44 (next ∷ texts)) ∙ both_true h.0 (joined (next ∷ texts) h.1)
+both : (first more : List ℕ) → Stands first → Stands more → Stands (first ++ more)
+both first more one other = list_all-append stands first more ∙ both_true one other
 
-mapped : {X : Type 0} (f : X → List ℕ) → ((x : X) → IsPrintable (f x)) → (xs : List X) → AllByRecursion IsPrintable (map f xs)
-mapped f each [] = tt
-mapped f each (x ∷ xs) = (each x, mapped f each xs)
+address_stands : (ip : Ip) → Stands (address_text ip)
+address_stands ip = both_true refl (both (printed ip) (codes "\"") (printed_stands ip) refl)
 
-or_null_numbers : (number : Option ℕ) → IsPrintable (number_or_null number)
-or_null_numbers None = refl
-or_null_numbers (Some number) = decimal_printable number
+parted_stands : {X : Type 0} (f : X → List ℕ) → ((x : X) → Stands (f x)) → (gap : List ℕ) → Stands gap → (xs : List X) → Stands (parted gap (map f xs))
+parted_stands f each gap between [] = refl
+parted_stands f each gap between (x ∷ xs) =
+    both gap (f x ++ parted (codes ",") (map f xs)) between
+    (both (f x) (parted (codes ",") (map f xs)) (each x) (parted_stands f each (codes ",") refl xs))
 
-or_null_addresses : (ip : Option Ip) → IsPrintable (address_or_null ip)
-or_null_addresses None = refl
-or_null_addresses (Some ip) = simp (list_all-append, printed_printable)
+bracketed : (first text last : List ℕ) → Stands first → Stands text → Stands last → Stands (first ++ (text ++ last))
+bracketed first text last one two three = both first (text ++ last) one (both text last two three)
 
-families : (family : Family) → IsPrintable (family_name family)
-families names.V6 = refl
-families names.V4 = refl
+addresses_stand : (ips : List Ip) → Stands (addresses_text ips)
+addresses_stand ips = bracketed (codes "[") (parted [] (map address_text ips)) (codes "]") refl (parted_stands address_text address_stands [] refl ips) refl
 
-turns : (turn : Turn) → IsPrintable (turn_name turn)
-turns whose.Leads = refl
-turns whose.InTurn = refl
-turns whose.RunOut = refl
+given_stands : (tick : ℕ) (ips : List Ip) → Stands (given_text tick ips)
+given_stands tick ips =
+    bracketed (codes "{\"tick\":") (decimal tick) (codes ",\"addresses\":" ++ (addresses_text ips ++ codes "}")) refl (decimal_stands tick)
+    (bracketed (codes ",\"addresses\":") (addresses_text ips) (codes "}") refl (addresses_stand ips) refl)
 
-truths : (holds : Bool) → IsPrintable (truth holds)
-truths true = refl
-truths false = refl
+answer_stands : (answer : Option (ℕ × Bor (List Ip))) → Stands (answer_text answer)
+answer_stands None = refl
+answer_stands (Some answer) = given_stands answer.0 answer.1.now
 
-ends : (mark : Mark) → IsPrintable (end_of mark)
-ends (marks.Won tick) = refl
-ends (marks.Failed tick) = refl
-ends (marks.Cancelled tick) = refl
+module _ (strings : StringsAreLines) where
+  value_stands : (value : Value) → Stands (value_text value)
+  value_stands (values.Number n) = decimal_stands n
+  value_stands (values.NumberOrNull None) = refl
+  value_stands (values.NumberOrNull (Some n)) = decimal_stands n
+  value_stands (values.Address ip) = address_stands ip
+  value_stands (values.AddressOrNull None) = refl
+  value_stands (values.AddressOrNull (Some ip)) = address_stands ip
+  value_stands (values.Truth true) = refl
+  value_stands (values.Truth false) = refl
+  value_stands (values.Says said words) = strings words.now
 
-ruleset printable = (list_all-append, decimal_printable, printed_printable, or_null_numbers, or_null_addresses, ends, families, turns, truths)
+  member_stands : (member : Member) → Stands (member_text member)
+  member_stands member = bracketed (string_text member.0.now) (codes ":") (value_text member.1) (strings member.0.now) refl (value_stands member.1)
 
-attempts : (line : Line) → IsPrintable (attempt_json line)
-attempts line = simp printable
+  object_stands : (members : List Member) → Stands (object_text members)
+  object_stands members = bracketed (codes "{") (parted [] (map member_text members)) (codes "}") refl (parted_stands member_text member_stands [] refl members) refl
 
-ending : (result : Outcome3) → IsPrintable (result_json result)
-ending (results.Won place tick) = simp printable
-ending (results.Exhausted tick) = simp printable
-ending (results.Limit tick) = simp printable
+  objects_stands : (rows : List (List Member)) → Stands (objects_text rows)
+  objects_stands rows = bracketed (codes "[") (parted [] (map object_text rows)) (codes "]") refl (parted_stands object_text object_stands [] refl rows) refl
 
-pub transcripts_are_lines : (report : Report) → IsLine (transcript_json report)
-transcripts_are_lines report =
-    let all : IsPrintable (join_with_byte 44 (map attempt_json report.lines)) = joined (map attempt_json report.lines) (mapped attempt_json attempts report.lines) in
-    let end : IsPrintable (result_json report.result) = ending report.result in
-    (transcript_object report, refl, simp (printable, all, end))
+  file_stands : (file : Option (List ℕ)) → Stands (file_text file)
+  file_stands None = refl
+  file_stands (Some name) = strings name
 
-place : (n : ℕ) (attributes : DestinationAttributes) → IsPrintable (place_json n attributes)
-place n attributes = simp printable
+  beginning_stands : (spot : Spot) → Stands (beginning_text spot)
+  beginning_stands spot =
+      bracketed (codes "{\"file\":") (file_text spot.file) (codes ",\"race\":" ++ (decimal spot.number ++ (codes ",\"line\":" ++ decimal spot.line))) refl (file_stands spot.file)
+      (bracketed (codes ",\"race\":") (decimal spot.number) (codes ",\"line\":" ++ decimal spot.line) refl (decimal_stands spot.number)
+      (both (codes ",\"line\":") (decimal spot.line) refl (decimal_stands spot.line)))
 
-places : (n : ℕ) (all_attributes : List DestinationAttributes) → AllByRecursion IsPrintable (places_json n all_attributes)
-places n [] = tt
-places n (attributes ∷ all_attributes) = (place n attributes, places (n + 1) all_attributes)
+  pub order_is_line : (spot : Spot) (addresses : List (List Member)) → IsLine (order_text spot addresses)
+  order_is_line spot addresses = (
+    beginning_text spot ++ (codes ",\"order\":" ++ (objects_text addresses ++ codes "}")),
+    simp append_assoc,
+    both (beginning_text spot) (codes ",\"order\":" ++ (objects_text addresses ++ codes "}")) (beginning_stands spot)
+        (bracketed (codes ",\"order\":") (objects_text addresses) (codes "}") refl (objects_stands addresses) refl),
+  )
 
-pub orders_are_lines : (race : Race) → IsLine (order_json race)
-orders_are_lines race =
-    let all : IsPrintable (join_with_byte 44 (places_json 0 (all_attributes_of race))) = joined (places_json 0 (all_attributes_of race)) (places 0 (all_attributes_of race)) in
-    (order_object race, refl, simp (printable, all))
+  pub transcript_is_line : (spot : Spot) (attempts : List (List Member)) (end : List Member) → IsLine (transcript_text spot attempts end)
+  transcript_is_line spot attempts end =
+      let last : List ℕ = codes ",\"result\":" ++ (object_text end ++ codes "}") in (
+        beginning_text spot ++ (codes ",\"attempts\":" ++ (objects_text attempts ++ last)),
+        simp append_assoc,
+        both (beginning_text spot) (codes ",\"attempts\":" ++ (objects_text attempts ++ last)) (beginning_stands spot)
+            (bracketed (codes ",\"attempts\":") (objects_text attempts) last refl (objects_stands attempts)
+            (bracketed (codes ",\"result\":") (object_text end) (codes "}") refl (object_stands end) refl)),
+      )
 
-behind : (n : ℕ) (rule : DestinationRule) (earlier later : DestinationAttributes) → IsPrintable (object (place_members n later ++ reason_members rule earlier later))
-behind n rules.AvoidUnusable earlier later = simp printable
-behind n rules.MatchingScope earlier later = simp printable
-behind n rules.AvoidDeprecated earlier later = simp printable
-behind n rules.MatchingLabel earlier later = simp printable
-behind n rules.HigherPrecedence earlier later = simp printable
-behind n rules.NativeTransport earlier later = simp printable
-behind n rules.SmallerScope earlier later = simp printable
-behind n rules.LowerRoundTripTime earlier later = simp printable
-behind n rules.UsedBefore earlier later = simp printable
-behind n rules.LongestPrefix earlier later = simp printable
-behind n rules.Unchanged earlier later = simp printable
+  pub explanation_is_line : (spot : Spot) (addresses events : List (List Member)) → IsLine (explanation_text spot addresses events)
+  explanation_is_line spot addresses events =
+      let last : List ℕ = codes ",\"events\":" ++ (objects_text events ++ codes "}") in (
+        beginning_text spot ++ (codes ",\"order\":" ++ (objects_text addresses ++ last)),
+        simp append_assoc,
+        both (beginning_text spot) (codes ",\"order\":" ++ (objects_text addresses ++ last)) (beginning_stands spot)
+            (bracketed (codes ",\"order\":") (objects_text addresses) last refl (objects_stands addresses)
+            (bracketed (codes ",\"events\":") (objects_text events) (codes "}") refl (objects_stands events) refl)),
+      )
 
-reasoned : (decide : Decision) (n : ℕ) (earlier : Option DestinationAttributes) (later : DestinationAttributes) → IsPrintable (reasoned_json decide n earlier later)
-reasoned decide n None later = place n later
-reasoned decide n (Some earlier) later = behind n (decide earlier later) earlier later
+  pub machine_is_line : (sources routes : List (List Member)) → IsLine (machine_text sources routes)
+  machine_is_line sources routes =
+      let last : List ℕ = codes ",\"routes\":" ++ (objects_text routes ++ codes "}") in (
+        codes "{\"sources\":" ++ (objects_text sources ++ last),
+        simp append_assoc,
+        bracketed (codes "{\"sources\":") (objects_text sources) last refl (objects_stands sources)
+            (bracketed (codes ",\"routes\":") (objects_text routes) (codes "}") refl (objects_stands routes) refl),
+      )
 
-reasons : (decide : Decision) (n : ℕ) (earlier : Option DestinationAttributes) (all_attributes : List DestinationAttributes) → AllByRecursion IsPrintable (reasoned_places decide n earlier all_attributes)
-reasons decide n earlier [] = tt
-reasons decide n earlier (attributes ∷ all_attributes) = (reasoned decide n earlier attributes, reasons decide (n + 1) (Some attributes) all_attributes)
-
-started : (tick n : ℕ) (ip : Ip) (cause : Cause) (held : Bool) (listed : Listed)
-    → IsPrintable (object (number_member (codes "tick") tick ∷ event_named (codes "attempt") ∷ number_member (codes "attempt") n ∷ member (codes "address") (address ip) ∷ (cause_members cause ++ listed_members held listed)))
-started tick n ip causes.AaaaAnswer held listed = simp printable
-started tick n ip causes.BothAnswers held listed = simp printable
-started tick n ip causes.ResolutionDelay held listed = simp printable
-started tick n ip (causes.AttemptDelay place delay) held listed = simp printable
-started tick n ip (causes.Floor place floor) held listed = simp printable
-started tick n ip (causes.LastFailure failed) held listed = simp printable
-started tick n ip (causes.LaterAnswer names.V6) held listed = simp printable
-started tick n ip (causes.LaterAnswer names.V4) held listed = simp printable
-
-at_tick : (tick : ℕ) (kind : EventKind) → IsPrintable (object (number_member (codes "tick") tick ∷ kind_members kind))
-at_tick tick (kinds.Paused end) = simp printable
-at_tick tick (kinds.Answered family count) = simp printable
-at_tick tick (kinds.Waits end) = simp printable
-at_tick tick kinds.DelayOver = simp printable
-at_tick tick (kinds.Failed place) = simp printable
-at_tick tick (kinds.Started start) = started tick start.place start.ip start.cause start.held start.listed
-at_tick tick (kinds.Won place) = simp printable
-at_tick tick kinds.Exhausted = simp printable
-at_tick tick kinds.Limit = simp printable
-at_tick tick (kinds.Cancelled place) = simp printable
-
-events : (event : Event) → IsPrintable (event_json event)
-events event = at_tick event.tick event.kind
-
-pub explanations_are_lines : (race : Race) (report : Report) → IsLine (explanation_json race report)
-explanations_are_lines race report =
-    let order : IsPrintable (join_with_byte 44 (order_reasons race)) = joined (order_reasons race) (reasons _ 0 None (all_attributes_of race)) in
-    let told : IsPrintable (join_with_byte 44 (map event_json (course race report))) = joined (map event_json (course race report)) (mapped event_json events (course race report)) in
-    (explanation_object race report, refl, simp (printable, order, told))
+  pub names_is_line : (host : List ℕ) (aaaa a : Option (ℕ × Bor (List Ip))) → IsLine (names_text host aaaa a)
+  names_is_line host aaaa a =
+      let last : List ℕ = codes ",\"a\":" ++ (answer_text a ++ codes "}") in
+      let more : List ℕ = codes ",\"aaaa\":" ++ (answer_text aaaa ++ last) in (
+        codes "{\"host\":" ++ (string_text host ++ more),
+        simp append_assoc,
+        bracketed (codes "{\"host\":") (string_text host) more refl (strings host)
+            (bracketed (codes ",\"aaaa\":") (answer_text aaaa) last refl (answer_stands aaaa)
+            (bracketed (codes ",\"a\":") (answer_text a) (codes "}") refl (answer_stands a) refl)),
+      )

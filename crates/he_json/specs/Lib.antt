@@ -1,8 +1,6 @@
-pub mod Events
-pub mod Explanation
+pub mod Documents
+pub mod Facts
 pub mod Json
 pub mod Laws
-pub mod Members
-pub mod Orders
-pub mod Reasons
-pub mod Transcripts
+pub mod Machine
+pub mod Names

@@ -1,20 +1,21 @@
-// Laws of the definitions. Each is the contract of a function that does nothing.
+//! Laws of the definitions. Each is the contract of a function that does nothing.
 
-ghost use Rattle.he_json.specs.Laws.{AddressesArePlain, ExplanationsAreLines, OrdersAreLines, RulesAreNamed, TranscriptsAreLines};
+ghost use Rattle.he_json.specs.Laws.{AddressesArePlain, ExplanationsAreLines, MachinesAreLines, NamesAreLines, OrdersAreLines, TranscriptsAreLines};
 
-/// Each text is one line: characters from space to tilde, and a line end.
+use he_print::laws::strings_end;
+
+/// Each text is one line, without control characters in it, whatever the name of the file or the host.
 pub fn texts_are_lines()
     ensures transcripts { TranscriptsAreLines }
     ensures orders { OrdersAreLines }
     ensures explanations { ExplanationsAreLines }
-{}
+    ensures machines { MachinesAreLines }
+    ensures names { NamesAreLines }
+{
+    strings_end();
+}
 
-/// No address has a character that needs an escape in a string.
+/// No character of an address needs an escape in a string.
 pub fn addresses_are_plain()
     ensures { AddressesArePlain }
-{}
-
-/// Each rule has the number and the name that the plain lines tell.
-pub fn rules_are_named()
-    ensures { RulesAreNamed }
 {}

@@ -1,23 +1,120 @@
-// The order of a race's addresses as JSON, each with what puts it behind the one before.
+// What puts an address after the one before it.
 
-ghost use Rattle.std.specs.Prelude.{◌≡◌, ◌++◌, ◌∷◌, [], codes, decimal, None, OnOk};
-ghost use Rattle.he_select.specs.Attributes.{rule_between};
-ghost use Rattle.he_explain.specs.Reasons.{of_source};
-ghost use Rattle.he_json.specs.Json.{member, number_or_null};
-ghost use Rattle.he_json.specs.Members.{parted};
-ghost use Rattle.he_json.specs.Orders.{place_members};
-ghost use Rattle.he_json.specs.Reasons.{after_members, behind_members, compared_members, name_of, number_of, reason_members, reasoned_json, reasoned_places, rule_members, unlike_members};
+ghost use Rattle.std.specs.Prelude.{◌≡◌, ◌++◌, Some, OnOk};
+ghost use Rattle.std.specs.List.{flat_map};
+ghost use Rattle.he_json.specs.Facts.{compared_facts, of_source, reason_facts, values_facts};
+ghost use Rattle.he_json.specs.Json.{fact_of};
 
-use crate::members::{Member, Value, write_members, write_words};
-use crate::orders::write_place_members;
-use he_addr::Memory;
+use crate::members::{Member, Said, Value, push};
 use he_select::{DestinationAttributes, DestinationRule};
-use std::alloc::Allocator;
+use std::alloc::{AllocError, Allocator};
+
+// The rule, and what it compares.
+pub(crate) fn push_reason<A: Allocator>(
+    rule: Option<DestinationRule>,
+    before: Option<DestinationAttributes>,
+    own: &DestinationAttributes,
+    row: &mut Vec<Member, A>,
+) -> Result<(), AllocError>
+    ensures { OnOk result (flat_map fact_of row.new.items ≡ flat_map fact_of row.old.items ++ reason_facts rule before
+        own.now) }
+{
+    let (Some(rule), Some(before)) = (rule, before) else {
+        return Ok(());
+    };
+    let said = Said::Rule(rule);
+    let members = [
+        Member(b"rule", Value::Says(said, number_of(rule))),
+        Member(b"why", Value::Says(said, name_of(rule))),
+    ];
+    push(&members, row)?;
+    push_compared(rule, &before, own, row)
+}
+
+// The values that the rule compares, if it compares any.
+fn push_compared<A: Allocator>(
+    rule: DestinationRule,
+    before: &DestinationAttributes,
+    own: &DestinationAttributes,
+    row: &mut Vec<Member, A>,
+) -> Result<(), AllocError>
+    ensures { OnOk result (flat_map fact_of row.new.items ≡ flat_map fact_of row.old.items ++ compared_facts rule
+        before.now own.now) }
+{
+    match rule {
+        DestinationRule::MatchingScope => {
+            push_unlike(own.scope as u64, source_scope(own) as u64, row)
+        }
+        DestinationRule::MatchingLabel => {
+            push_unlike(own.label as u64, source_label(own) as u64, row)
+        }
+        DestinationRule::HigherPrecedence => {
+            push_after(own.precedence as u64, before.precedence as u64, row)
+        }
+        DestinationRule::SmallerScope => push_after(own.scope as u64, before.scope as u64, row),
+        DestinationRule::LowerRoundTripTime => push_values(own.rtt, b"before", before.rtt, row),
+        DestinationRule::LongestPrefix => push_after(own.common as u64, before.common as u64, row),
+        DestinationRule::AvoidUnusable
+        | DestinationRule::AvoidDeprecated
+        | DestinationRule::NativeTransport
+        | DestinationRule::UsedBefore
+        | DestinationRule::Unchanged => Ok(()),
+    }
+}
+
+// A value of the address, and that of the address before it.
+fn push_after<A: Allocator>(
+    own: u64,
+    before: u64,
+    row: &mut Vec<Member, A>,
+) -> Result<(), AllocError>
+    ensures { OnOk result (flat_map fact_of row.new.items ≡ flat_map fact_of row.old.items ++ values_facts (Some own)
+        (Some before)) }
+{
+    push_values(Some(own), b"before", Some(before), row)
+}
+
+// A value of the address, and that of its own source.
+fn push_unlike<A: Allocator>(
+    own: u64,
+    source: u64,
+    row: &mut Vec<Member, A>,
+) -> Result<(), AllocError>
+    ensures { OnOk result (flat_map fact_of row.new.items ≡ flat_map fact_of row.old.items ++ values_facts (Some own)
+        (Some source)) }
+{
+    push_values(Some(own), b"of_source", Some(source), row)
+}
+
+fn push_values<A: Allocator>(
+    own: Option<u64>,
+    name: &'static [u8],
+    other: Option<u64>,
+    row: &mut Vec<Member, A>,
+) -> Result<(), AllocError>
+    ensures { OnOk result (flat_map fact_of row.new.items ≡ flat_map fact_of row.old.items ++ values_facts own other) }
+{
+    let members = [
+        Member(b"own", Value::NumberOrNull(own)),
+        Member(name, Value::NumberOrNull(other)),
+    ];
+    push(&members, row)
+}
+
+fn source_scope(attributes: &DestinationAttributes) -> u8
+    ensures { result ≡ of_source (λ source. source.scope) attributes.now }
+{
+    attributes.source.map_or(0, |source| source.scope)
+}
+
+fn source_label(attributes: &DestinationAttributes) -> u16
+    ensures { result ≡ of_source (λ source. source.label) attributes.now }
+{
+    attributes.source.map_or(0, |source| source.label)
+}
 
 // The rule's number in RFC 6724 section 6; 8a and 8b are those of RFC 8305 section 4.
-fn number_of(rule: DestinationRule) -> &'static [u8]
-    ensures { result.now ≡ number_of rule }
-{
+fn number_of(rule: DestinationRule) -> &'static [u8] {
     match rule {
         DestinationRule::AvoidUnusable => b"1",
         DestinationRule::MatchingScope => b"2",
@@ -34,9 +131,7 @@ fn number_of(rule: DestinationRule) -> &'static [u8]
 }
 
 // And its name there.
-fn name_of(rule: DestinationRule) -> &'static [u8]
-    ensures { result.now ≡ name_of rule }
-{
+fn name_of(rule: DestinationRule) -> &'static [u8] {
     match rule {
         DestinationRule::AvoidUnusable => b"avoid unusable destinations",
         DestinationRule::MatchingScope => b"prefer matching scope",
@@ -50,180 +145,4 @@ fn name_of(rule: DestinationRule) -> &'static [u8]
         DestinationRule::LongestPrefix => b"use longest matching prefix",
         DestinationRule::Unchanged => b"otherwise leave the order unchanged",
     }
-}
-
-// A value of the address, and another one behind this key.
-fn write_values<A: Allocator + Copy>(
-    own: Option<u64>,
-    key: &[u8],
-    other: Option<u64>,
-    text: &mut Vec<u8, A>,
-) -> Result<(), Memory>
-    ensures { OnOk result (text.new.items ≡ text.old.items ++ parted (codes ",") (member (codes "own")
-        (number_or_null own) ∷ member key.now (number_or_null other) ∷ [])) }
-{
-    write_members(
-        b",",
-        &[
-            Member(b"own", Value::NumberOrNull(own)),
-            Member(key, Value::NumberOrNull(other)),
-        ],
-        text,
-    )
-}
-
-// A value of the address, and that of the address before it.
-fn write_after<A: Allocator + Copy>(
-    own: u64,
-    before: u64,
-    text: &mut Vec<u8, A>,
-) -> Result<(), Memory>
-    ensures { OnOk result (text.new.items ≡ text.old.items ++ parted (codes ",") (after_members (decimal own)
-        (decimal before))) }
-{
-    write_values(Some(own), b"before", Some(before), text)
-}
-
-// A value of the address, and that of its own source.
-fn write_unlike<A: Allocator + Copy>(
-    own: u64,
-    source: u64,
-    text: &mut Vec<u8, A>,
-) -> Result<(), Memory>
-    ensures { OnOk result (text.new.items ≡ text.old.items ++ parted (codes ",") (unlike_members own source)) }
-{
-    write_values(Some(own), b"of_source", Some(source), text)
-}
-
-fn source_scope(attributes: &DestinationAttributes) -> u8
-    ensures { result ≡ of_source (λ source. source.scope) attributes.now }
-{
-    attributes.source.map_or(0, |source| source.scope)
-}
-
-fn source_label(attributes: &DestinationAttributes) -> u16
-    ensures { result ≡ of_source (λ source. source.label) attributes.now }
-{
-    attributes.source.map_or(0, |source| source.label)
-}
-
-// The values that the rule compares, if it compares any.
-fn write_compared<A: Allocator + Copy>(
-    rule: DestinationRule,
-    earlier: &DestinationAttributes,
-    later: &DestinationAttributes,
-    text: &mut Vec<u8, A>,
-) -> Result<(), Memory>
-    ensures { OnOk result (text.new.items ≡ text.old.items ++ parted (codes ",")
-        (compared_members rule earlier.now later.now)) }
-{
-    match rule {
-        DestinationRule::MatchingScope => {
-            write_unlike(later.scope as u64, source_scope(later) as u64, text)
-        }
-        DestinationRule::MatchingLabel => {
-            write_unlike(later.label as u64, source_label(later) as u64, text)
-        }
-        DestinationRule::HigherPrecedence => {
-            write_after(later.precedence as u64, earlier.precedence as u64, text)
-        }
-        DestinationRule::SmallerScope => {
-            write_after(later.scope as u64, earlier.scope as u64, text)
-        }
-        DestinationRule::LowerRoundTripTime => write_values(
-            later.rtt,
-            b"before",
-            earlier.rtt,
-            text,
-        ),
-        DestinationRule::LongestPrefix => {
-            write_after(later.common as u64, earlier.common as u64, text)
-        }
-        DestinationRule::AvoidUnusable
-        | DestinationRule::AvoidDeprecated
-        | DestinationRule::NativeTransport
-        | DestinationRule::UsedBefore
-        | DestinationRule::Unchanged => Ok(()),
-    }
-}
-
-fn write_rule<A: Allocator + Copy>(
-    rule: DestinationRule,
-    text: &mut Vec<u8, A>,
-) -> Result<(), Memory>
-    ensures { OnOk result (text.new.items ≡ text.old.items ++ parted (codes ",") (rule_members rule)) }
-{
-    write_members(
-        b",",
-        &[
-            Member(b"rule", Value::Words(number_of(rule))),
-            Member(b"why", Value::Words(name_of(rule))),
-        ],
-        text,
-    )
-}
-
-// The rule that puts the later of two addresses behind the earlier one, and what it compares.
-fn write_reason<A: Allocator + Copy>(
-    rule: DestinationRule,
-    earlier: &DestinationAttributes,
-    later: &DestinationAttributes,
-    text: &mut Vec<u8, A>,
-) -> Result<(), Memory>
-    ensures { OnOk result (text.new.items ≡ text.old.items ++ parted (codes ",")
-        (reason_members rule earlier.now later.now)) }
-{
-    write_rule(rule, text)?;
-    write_compared(rule, earlier, later, text)
-}
-
-// Why the address stands behind the one before it, if there is one.
-fn write_behind<A: Allocator + Copy>(
-    earlier: Option<DestinationAttributes>,
-    later: &DestinationAttributes,
-    text: &mut Vec<u8, A>,
-) -> Result<(), Memory>
-    ensures { OnOk result (text.new.items ≡ text.old.items ++ parted (codes ",")
-        (behind_members rule_between earlier later.now)) }
-{
-    match earlier {
-        Some(earlier) => {
-            let rule = DestinationRule::between(&earlier, later);
-            write_reason(rule, &earlier, later, text)
-        }
-        None => Ok(()),
-    }
-}
-
-fn write_reasoned<A: Allocator + Copy>(
-    place: u64,
-    earlier: Option<DestinationAttributes>,
-    attributes: &DestinationAttributes,
-    text: &mut Vec<u8, A>,
-) -> Result<(), Memory>
-    ensures { OnOk result (text.new.items ≡ text.old.items ++ reasoned_json rule_between place earlier attributes.now) }
-{
-    write_words(b"{", text)?;
-    write_place_members(place, attributes, text)?;
-    write_behind(earlier, attributes, text)?;
-    write_words(b"}", text)
-}
-
-// The addresses, which are given sorted, with a comma between each two.
-pub(crate) fn write_reasons<A: Allocator + Copy>(
-    sorted: &[DestinationAttributes],
-    text: &mut Vec<u8, A>,
-) -> Result<(), Memory>
-    ensures { OnOk result (text.new.items ≡ text.old.items ++ parted []
-        (reasoned_places rule_between 0 None sorted.now)) }
-{
-    let mut gap: &[u8] = b"";
-    let mut earlier = None;
-    for (place, attributes) in sorted.iter().enumerate() {
-        write_words(gap, text)?;
-        write_reasoned(place as u64, earlier, attributes, text)?;
-        gap = b",";
-        earlier = Some(*attributes);
-    }
-    Ok(())
 }

@@ -40,7 +40,7 @@ at_port port = record { port = port; scope = 0 }
 abbrev pub is_on_link : ℕ → Bool
 is_on_link bits = agrees 128 bits (0xfe80 * 2 ^ 112) 10
 
--- the interface that goes with an address: it belongs to a link-local one of IPv6, and to no other (RFC 4007 section 6)
+-- the interface that goes with an address: a link-local one of IPv6 has it, and no other (RFC 4007 section 6)
 abbrev pub scope_with : ℕ → Ip → ℕ
 scope_with scope (V4 bits) = 0
 scope_with scope (V6 bits) = if is_on_link bits then scope else 0

@@ -1,5 +1,5 @@
 -- Why attempts of a live race failed, and what is told of them.
-use Rattle.std.specs.Prelude.{ℕ, ◌≡◌, ◌==◌, ◌++◌, Bool, true, false, if◌then◌else◌, List, [], ◌∷◌, map, filter, flat_map, codes, decimal, ℤ, unsigned_abs, Option, Some, None}
+use Rattle.std.specs.Prelude.{ℕ, ◌≡◌, ◌==◌, ◌+◌, ◌++◌, Bool, true, false, if◌then◌else◌, List, [], ◌∷◌, map, filter, flat_map, codes, decimal, ℤ, unsigned_abs, Option, Some, None}
 use Rattle.std.specs.IoError.{error_kind, raw_os_error}
 use Rattle.std.specs.declared.io.Error.{Error}
 use Rattle.std.specs.declared.io.ErrorKind.{ErrorKind}
@@ -71,8 +71,9 @@ abbrev pub reason_text : Reason → List ℕ
 reason_text (Other number) = words_of (Other number) ++ decimal number
 reason_text reason = words_of reason
 
+-- people count from 1
 abbrev pub place_text : ℕ → List ℕ
-place_text place = codes "he: attempt " ++ decimal place
+place_text place = codes "he: attempt " ++ decimal (place + 1)
 
 abbrev pub at_text : Ip → List ℕ
 at_text ip = codes " at " ++ printed ip

@@ -6,6 +6,7 @@ use crate::reason::Reason;
 use crate::steps::Steps;
 use he_addr::{Ip, Memory, write_ip, write_number};
 use he_plan::{Line, Mark};
+use itoa::Buffer;
 use std::alloc::{AllocError, Allocator, Global};
 
 /// An attempt of a live race that failed.
@@ -62,8 +63,8 @@ pub fn first_local(failed: &[FailedAttempt]) -> Option<FailedAttempt>
     None
 }
 
-/// Appends a line for each failed attempt, as `he: attempt 3 at 198.51.100.7 failed: refused`, or `could
-/// not begin: too many open files` where this machine itself could not begin it.
+/// Appends a line for each failed attempt, as `he: attempt 3 at 198.51.100.7 failed: refused`, or `could not begin:
+/// too many open files` where this machine itself could not begin it. Attempts are counted from 1.
 ///
 /// # Errors
 ///
@@ -96,15 +97,17 @@ fn write_start<A: Allocator + Copy>(
 ) -> Result<(), Memory>
     ensures { OnOk result (out.new.items ≡ out.old.items ++ start_text attempt) }
 {
-    write_place(attempt.place as u64, out)?;
+    write_place(attempt.place, out)?;
     write_at(attempt.ip, out)
 }
 
-fn write_place<A: Allocator + Copy>(place: u64, out: &mut Vec<u8, A>) -> Result<(), Memory>
+fn write_place<A: Allocator + Copy>(place: usize, out: &mut Vec<u8, A>) -> Result<(), Memory>
     ensures { OnOk result (out.new.items ≡ out.old.items ++ place_text place) }
 {
+    let mut digits = Buffer::new();
     out.extend_from_slice(b"he: attempt ")?;
-    write_number(place, out)
+    out.extend_from_slice(digits.format(place as u128 + 1).as_bytes())?;
+    Ok(())
 }
 
 fn write_at<A: Allocator + Copy>(ip: Ip, out: &mut Vec<u8, A>) -> Result<(), Memory>

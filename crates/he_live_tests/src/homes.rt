@@ -87,7 +87,7 @@ pub fn replays<R: Lender>(rt: &R, transcript: &[u8], record: &[u8]) -> Result<bo
     let told = replay(
         rt,
         rt.alloc(),
-        TextRequest::of(Content::Transcript),
+        &TextRequest::of(Content::Transcript),
         1,
         &mut input,
         &mut output,

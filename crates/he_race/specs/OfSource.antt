@@ -26,8 +26,8 @@ HearsAll {S} hears s race (p ∷ polls) s' new =
     (between : S) × (reply_of race p.family ≡ None) × hears s p.family p.tick p.told between
     × HearsAll hears between (with_told race p.family p.tick p.told) polls s' new
 
--- the second race is the first with what the source told, from this state of it on; but for how attempts ended and when
--- the client slept it has nothing else
+-- the second race is the first with what the source told, from this state of it on; but for how attempts ended and
+-- when the client slept it has nothing else
 pub record IsOfSource {S : Type 0} (hears : Tells S) (s : S) (given recorded : Race) : Type 0 where
   pub polls : List SourcePoll
   pub last : S

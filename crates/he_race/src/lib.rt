@@ -107,14 +107,14 @@
 //!   connection exactly where the race was won (`Replays` in `specs/Turns.antt`).
 //! - The winner's connection goes to the address of the transcript's line at the winning place, by what its connector
 //!   says of where connections go (`reaches`; `WinnerGoes` in `specs/Winner.antt`).
-//! - What a `ResolvingRace` gives replays likewise, for every source too: the record has the given settings and policy
-//!   and each given answer; its history and its host begin with the given ones (`ReplaysGiven` in
+//! - What a `ResolvingRace` gives replays likewise, for every source too: the record has the given settings and
+//!   policy and each given answer; its history and its host begin with the given ones (`ReplaysGiven` in
 //!   `specs/Resolving.antt`). All else of it, but for outcomes and pauses, is what the source told in polls that its
-//!   own relation allows, one after the other from its first state on: of each family without an answer the addresses,
-//!   at the tick of the poll, what is known of these and of no other, and the family's lines (`IsOfSource` in
-//!   `specs/OfSource.antt`, `with_told` in `specs/Heard.antt`). In each turn each family that has no answer is polled
-//!   once, and no other (`HeardAt` in `specs/Resolving.antt`). One more answer, with history and lines, changes nothing
-//!   before its tick (`laws::one_more_answer_above`).
+//!   own relation allows, one after the other from its first state on: of each family without an answer the
+//!   addresses, at the tick of the poll, what is known of these and of no other, and the family's lines (`IsOfSource`
+//!   in `specs/OfSource.antt`, `with_told` in `specs/Heard.antt`). In each turn each family that has no answer is
+//!   polled once, and no other (`HeardAt` in `specs/Resolving.antt`). One more answer, with history and lines,
+//!   changes nothing before its tick (`laws::one_more_answer_above`).
 //! - In a turn each unfinished attempt is polled once, with an answer and a new state that its trial's relation
 //!   allows; how one that answers ended is recorded, with the ticks since its start, and nothing else is; a pause is
 //!   recorded exactly where something was due before the turn, from there to it; the race ends exactly where the

@@ -16,8 +16,9 @@ use Rattle.he_words.specs.Ranges.{most_races}
 use Rattle.he_inputs.specs.RaceReading.{ending_of}
 use Rattle.he_inputs.specs.declared.stream_fault.StreamFault.{StreamFault}
 use Rattle.he_inputs.specs.declared.stream_fault.StreamFault.TheVariants as faults
-use Rattle.he_replay.specs.Output.{TextRelation}
-use Rattle.he_replay.specs.Rounds.{EndsWithFault, GoesOn, HasTold, IsAt, IsFaultPast, PutsAny, PutsRound}
+use Rattle.he_replay.specs.declared.rounds.RoundEnd.{RoundEnd}
+use Rattle.he_replay.specs.Output.{IsOutput, TextRelation}
+use Rattle.he_replay.specs.Rounds.{EndsWithFault, GoesOn, HasTold, IsAt, IsFaultPast, PutsAny, PutsRound, Tells}
 use Rattle.he_replay.specs.Stream.{PutsOutput, Streams, TellsSome}
 use Rattle.he_replay.proofs.Further.{last_output, not_broken, one_more_round, round_failed, round_on, some_told, told_output}
 use Rattle.he_replay.proofs.RoundEnd.{none_told}
@@ -32,6 +33,32 @@ ends_handed IsText Gave Taken Whole RoundScope Put (Err found) fault told ends =
 not_open : (is_broken : Bool) → ending_of is_broken ≡ endings.Open → ⊥
 not_open true is = cc
 not_open false is = cc
+
+-- all bytes of an input were told at once
+pub told_whole : (IsText : TextRelation) (bytes old text : List ℕ) (is_broken : Bool) (told : RoundEnd) → old ≡ []
+    → Tells IsText (ending_of is_broken) bytes (record { end = 0; races = 0; lines = 0 }) old text told → IsOutput IsText bytes is_broken text told.fault
+told_whole IsText bytes old text is_broken told none tells =
+    let start : RaceReader = record { end = 0; races = 0; lines = 0 } in
+    let Any : List ℕ → Type 0 = λ bytes. Unit {0} in
+    let few : 0 ≤ most_races = omega arith in
+    let at : IsAt IsText bytes start Any Any = record {
+      races = [];
+      before = [];
+      text = [];
+      told = (refl, refl);
+      front = refl;
+      counted = refl;
+      few = few;
+      lined = refl;
+      took = tt;
+      put = tt;
+    } in
+    let has = tells.on 0 0 (none_told IsText bytes start old refl few none) in
+    last_output IsText bytes start Any Any at text told.reader has is_broken told.fault
+    (elim tells.fault_is [
+      | inl goes_on ↦ absurd (not_open is_broken goes_on.0)
+      | inr is ↦ is
+    ])
 
 -- a round in which nothing was ready
 pub told_none : {S : Type 0} (IsText : TextRelation) (contents : S → Option (List ℕ)) (puts : S → Put → S → Type 0) (flushes : S → Flushed → S → Type 0)

@@ -1,8 +1,7 @@
 -- Pieces that are put together: one more that does not go on where the reader stands.
-use Rattle.std.proofs.Common.{◌≡◌, ◌+◌, ◌<◌, ◌≤◌, ◌∷◌, ◌++◌, [], ℕ, List, All, get_or, inl, inr, sym, ◌∙◌, subst, arith}
+use Rattle.std.proofs.Common.{◌≡◌, ◌≤◌, ◌∷◌, ◌++◌, [], List, get_or, inl, inr, sym, ◌∙◌, subst, arith}
 use Rattle.std.proofs.lemmas.List.Elements.{All-push}
 use Rattle.he_inputs.specs.declared.race_reader.RaceReader.{RaceReader}
-use Rattle.he_words.specs.Ranges.{most_races}
 use Rattle.he_replay.specs.declared.pieces.Piece.{Piece}
 use Rattle.he_replay.specs.Pieces.{IsJoined, IsPast}
 

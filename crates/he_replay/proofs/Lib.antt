@@ -5,6 +5,7 @@ pub mod Joining
 pub mod Known
 pub mod Moved
 pub mod OneOutput
+mod Printed
 pub mod RaceTexts
 pub mod RoundEnd
 pub mod Workers

@@ -1,18 +1,17 @@
 -- Workers that take pieces from a board: what one more take, and a rejoin of two passes, leave.
-use Rattle.std.proofs.Common.{◌≡◌, ℕ, ◌+◌, ◌<◌, ◌≤◌, List, [], ◌∷◌, ◌++◌, All, map, refl, sym, ap, ◌∙◌, subst, arith}
+use Rattle.std.proofs.Common.{◌≡◌, ℕ, ◌+◌, ◌<◌, List, [], ◌∷◌, ◌++◌, sym, ap, ◌∙◌, subst, arith}
 use Rattle.std.proofs.lemmas.List.{map-append}
 use Rattle.std.proofs.lemmas.List.Elements.{All-append, All-push}
 use Rattle.he_board.specs.declared.board.Board.{Board}
 use Rattle.he_board.specs.declared.pass.Pass.{Pass}
 use Rattle.he_board.specs.declared.view.View.{View}
-use Rattle.he_board.specs.Notes.{joined, knowing, taking, times}
+use Rattle.he_board.specs.Notes.{joined, times}
 use Rattle.he_board.specs.Passes.{IsPassOf, notes}
 use Rattle.he_board.proofs.Lists.{times-append}
-use Rattle.he_pool.specs.Working.{IsTried}
 use Rattle.he_pool.proofs.Trying.{tried-next}
 use Rattle.he_replay.specs.declared.pieces.Piece.{Piece}
 use Rattle.he_replay.specs.Output.{TextRelation}
-use Rattle.he_replay.specs.Pieces.{ArePieces, HasWorked, IsPiece, IsWhole, numbers_of}
+use Rattle.he_replay.specs.Pieces.{HasWorked, IsPiece, IsWhole, numbers_of}
 
 module _ {A : Type 0} (IsText : TextRelation) (board : Board A) (bytes : List ℕ) (count : ℕ) where
   abbrev pub Told : Piece A → Type 0

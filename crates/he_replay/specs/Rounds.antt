@@ -15,13 +15,14 @@ use Rattle.he_words.specs.Ranges.{most_races}
 use Rattle.he_inputs.specs.RaceReading.{EndsAt, MayFollow}
 use Rattle.he_inputs.specs.declared.stream_fault.StreamFault.{StreamFault}
 use Rattle.he_inputs.specs.declared.stream_fault.StreamFault.TheVariants as faults
+use Rattle.he_json.specs.Documents.{name_of}
 use Rattle.he_replay.specs.declared.race_texts.TextRequest.{TextRequest}
 use Rattle.he_replay.specs.declared.rounds.RoundEnd.{RoundEnd}
 use Rattle.he_replay.specs.Output.{AreTold, IsTextWith, TextRelation}
 
 -- the text of what is asked for of the race
 abbrev pub IsAsked : TextRequest → ℕ → ℕ → List ℕ → Race → Type 0
-IsAsked asked = IsTextWith asked.content asked.changes
+IsAsked asked = IsTextWith asked.content asked.changes (name_of asked.file)
 
 -- a text that is such was appended
 pub record WritesText (IsSuch : List ℕ → Type 0) (old new : List ℕ) : Type 0 where

@@ -69,7 +69,7 @@ Streams IsText Gave Taken Whole RoundScope Put (Err Memory) = PutsSome IsText Ga
 abbrev pub HasWorkers : ℕ → Type 0
 HasWorkers workers = (LEAST_WORKERS ≤ workers) × (workers ≤ MOST_WORKERS)
 
--- what is asked for of the input's races, each with the changes of its settings
-abbrev pub Replays : Content → ChangeValues → (List ℕ → Bool → Type 0) → (List ℕ → Type 0) → (List ℕ → Type 0)
-    → (List ℕ → Type 0) → (List ℕ → Type 0) → Result (Unit {0}) StreamFault → Type 0
-Replays content changes = Streams (IsTextWith content changes)
+-- what is asked for of the races of an input of this name, if it has one, each with the changes of its settings
+abbrev pub Replays : Content → ChangeValues → Option (List ℕ) → (List ℕ → Bool → Type 0) → (List ℕ → Type 0)
+    → (List ℕ → Type 0) → (List ℕ → Type 0) → (List ℕ → Type 0) → Result (Unit {0}) StreamFault → Type 0
+Replays content changes file = Streams (IsTextWith content changes file)

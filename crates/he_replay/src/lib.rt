@@ -1,16 +1,16 @@
 //! Replaying races: texts of timelines read from an input, and what happens in each written to an output.
 //!
 //! [`replay`] writes of each race what is asked for ([`Content`]): its transcript, the order of its addresses (RFC
-//! 6724), why it went as it did, or that for a person to read (`he_story`), with changes of its settings where there
-//! are any.
+//! 6724), each of them as a JSON object too, or why it went as it did, by a printer of its course ([`Printer`]), with
+//! changes of its settings where there are any.
 //!
 //! Proved, whatever the input and the output (by `specs/Stream` and `specs/Output`): what is written is put in rounds,
-//! each of which ends in a flush. After success and after a fault of the text it is the transcripts, orders,
-//! explanations or stories of the races up to the first fault, the line of a fault counted over the whole input, and
-//! so are the number and the line of a race in its story; after a step of the input that failed, or the bound of
-//! steps, of the races before it; after a step of the output or a flush that failed, a first part of those of some
-//! first races; after want of memory, those of some first races. No other step leads to such a fault. An input has one
-//! output and one fault, and a fault of the text is told only where the input ended, where nothing that follows could
+//! each of which ends in a flush. After success and after a fault of the text it is what is asked for of the races up
+//! to the first fault, the line of a fault counted over the whole input, and so are the number and the line of a race;
+//! after a step of the input that failed, or the bound of steps, of the races before it; after a step of the output or
+//! a flush that failed, a first part of that of some first races; after want of memory, that of some first races. No
+//! other step leads to such a fault. An input has one list of races and one fault, and one output where it is of
+//! transcripts or orders; and a fault of the text is told only where the input ended, where nothing that follows could
 //! change it, in which case the input may not be read further, or of a policy table in which the input broke off
 //! (`laws`).
 //!
@@ -39,5 +39,5 @@ mod sharing;
 mod streaming;
 
 pub use he_pool::{Gate, NoGate, batch_jobs, replay_batch};
-pub use race_texts::{Content, TextRequest};
-pub use replaying::replay;
+pub use race_texts::{Content, Printer, TextRequest};
+pub use replaying::{replay, write_races};

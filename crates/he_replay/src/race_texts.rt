@@ -1,16 +1,16 @@
-//! What is written of a race, and its text.
+//! What is written of a race, and its text: the table of printers.
 ghost use Rattle.std.specs.Prelude.{◌≡◌, ◌++◌, None, OnOk};
 ghost use Rattle.he_write.specs.Written.{transcript_text};
-ghost use Rattle.he_replay.specs.Output.{IsTextOf, IsTranscriptText, has_place};
+ghost use Rattle.he_json.specs.Documents.{name_of, spot_of};
+ghost use Rattle.he_replay.specs.Output.{IsOfCourse, IsOrderObject, IsPrinted, IsTextOf, IsTranscriptObject, IsTranscriptText, has_place};
 ghost use Rattle.he_replay.specs.Rounds.{IsAsked, WritesText};
 
 use crate::limits::TEXT_ROOM;
 use he_addr::Memory;
-use he_draw::{Look, write_picture, write_svg};
-use he_explain::write_explanation;
-use he_json::{write_explanation_json, write_order_json, write_transcript_json};
-use he_page::write_section;
-use he_plan::{Transcript, transcript_of};
+use he_course::Course;
+use he_draw::{Look, write_picture, write_section, write_svg};
+use he_json::{Place, write_explanation_json, write_order_json, write_transcript_json};
+use he_plan::{Transcript, sorted_attributes, transcript_of};
 use he_story::write_story;
 use he_timeline::{Changes, Timeline};
 use he_write::{write_order, write_transcript};
@@ -19,30 +19,31 @@ use std::alloc::{AllocError, Allocator};
 /// What is written of a race.
 #[derive(Clone, Copy, Debug, PartialEq, Eq)]
 pub enum Content {
-    /// What happens in it ([`write_transcript`]).
+    /// What happens in it ([`write_transcript`]), or that as a JSON object ([`write_transcript_json`]).
     Transcript,
-    /// In which order its addresses are to be tried (RFC 6724 section 6): its usable addresses, whatever the ticks of
-    /// the answers, each with the source that the host uses for it ([`write_order`]).
-    Order,
-    /// Why it went as it did: the order of its addresses, each from the second on with the rule that puts it behind
-    /// the one before (RFC 6724 section 6), then what happened at which tick, each attempt with what started it (RFC
-    /// 8305 sections 3 to 5) ([`write_explanation`]).
-    Explanation,
-    /// Its story, for a person to read, behind its number in the input and the line where it begins, both counted from
-    /// 1 ([`write_story`]).
-    Story,
-    /// Its transcript, its order or its explanation as a JSON object on one line ([`write_transcript_json`],
-    /// [`write_order_json`], [`write_explanation_json`]).
     TranscriptJson,
+    /// In which order its addresses are to be tried (RFC 6724 section 6): its usable addresses, whatever the ticks of
+    /// the answers, each with the source that the host uses for it ([`write_order`]). Or that as a JSON object
+    /// ([`write_order_json`]).
+    Order,
     OrderJson,
-    ExplanationJson,
-    /// Its picture, of so many columns, behind its number in the input and the line where it begins
-    /// ([`write_picture`]).
+    /// Why it went as it did, by one of the printers of its course.
+    Course(Printer),
+}
+
+/// What prints the course of a race, each behind its number in the input and the line at which it begins.
+#[derive(Clone, Copy, Debug, PartialEq, Eq)]
+pub enum Printer {
+    /// A story, for a person to read ([`write_story`]).
+    Story,
+    /// A JSON object on one line ([`write_explanation_json`]).
+    Json,
+    /// A picture of so many columns ([`write_picture`]).
     Picture { look: Look, width: u16 },
     /// The same as an SVG image ([`write_svg`]).
     Image,
-    /// That image beside its story, a part of a page ([`write_section`]).
-    Section,
+    /// A part of a page, of the text of this place among those of the page ([`write_section`]).
+    Section { text: usize },
 }
 
 impl Content {
@@ -50,43 +51,39 @@ impl Content {
     pub fn has_place(self) -> bool
         ensures { result ≡ has_place self }
     {
-        matches!(
-            self,
-            Content::Story | Content::Picture { .. } | Content::Image | Content::Section
-        )
+        !matches!(self, Content::Transcript | Content::Order)
     }
 }
 
 /// What is asked for of each race of an input.
 #[derive(Clone, Copy)]
-pub struct TextRequest {
+pub struct TextRequest<'f> {
     /// What is written of it.
     pub content: Content,
     /// The settings with which it is taken in place of its own.
     pub changes: Changes,
+    /// The name of the input's file for JSON objects, where it has one.
+    pub file: Option<&'f str>,
 }
 
-impl TextRequest {
-    /// This, of each race as it stands.
-    pub fn of(content: Content) -> TextRequest
+impl TextRequest<'static> {
+    /// This, of each race as it stands, in an input without a name.
+    pub fn of(content: Content) -> TextRequest<'static>
         ensures { result ≡ record {
           content = content;
-          changes = record {
-            resolution = None;
-            attempt = None;
-            count =
-                None;
-            limit = None;
-            floor = None;
-          };
+          changes = record { resolution = None; attempt = None; count = None; limit = None; floor = None };
+          file = None;
         } }
     {
         TextRequest {
             content,
             changes: Changes::none(),
+            file: None,
         }
     }
+}
 
+impl TextRequest<'_> {
     // Appends the text that is asked for of the race, which has this number in the input and begins at this line. What
     // is needed for that alone is taken from `alloc`.
     pub(crate) fn write<A: Allocator + Copy, T: Allocator + Copy>(
@@ -101,7 +98,12 @@ impl TextRequest {
             text.new.items) }
     {
         let timeline = race.with_changes(self.changes);
-        append(self.content, alloc, &timeline, number, line, text)
+        let place = Place {
+            file: self.file,
+            number,
+            line,
+        };
+        append(self.content, alloc, &timeline, place, text)
     }
 }
 
@@ -109,16 +111,15 @@ fn append<A: Allocator + Copy, T: Allocator + Copy>(
     content: Content,
     alloc: A,
     timeline: &Timeline<A>,
-    number: usize,
-    line: u64,
+    place: Place<'_>,
     text: &mut Vec<u8, T>,
 ) -> Result<(), AllocError>
-    ensures { OnOk result (WritesText (λ told. IsTextOf content number line told timeline.now) text.old.items
+    ensures { OnOk result (WritesText (λ told. IsTextOf content (spot_of place.entry) told timeline.now) text.old.items
         text.new.items) }
 {
     match content {
         Content::Transcript => append_transcript(alloc, timeline, text),
-        _ => append_own(content, alloc, timeline, number, line, text),
+        _ => append_own(content, alloc, timeline, place, text),
     }
 }
 
@@ -147,15 +148,14 @@ fn append_own<A: Allocator + Copy, T: Allocator + Copy>(
     content: Content,
     alloc: A,
     timeline: &Timeline<A>,
-    number: usize,
-    line: u64,
+    place: Place<'_>,
     text: &mut Vec<u8, T>,
 ) -> Result<(), AllocError>
-    ensures { OnOk result (WritesText (λ told. IsTextOf content number line told timeline.now) text.old.items
+    ensures { OnOk result (WritesText (λ told. IsTextOf content (spot_of place.entry) told timeline.now) text.old.items
         text.new.items) }
 {
     let mut own = Vec::with_capacity(alloc, TEXT_ROOM)?;
-    write(content, alloc, timeline, number, line, &mut own).map_err(|_| AllocError)?;
+    write(content, alloc, timeline, place, &mut own).map_err(|_| AllocError)?;
     text.extend_from_slice(&own)
 }
 
@@ -163,25 +163,78 @@ fn write<A: Allocator + Copy>(
     content: Content,
     alloc: A,
     timeline: &Timeline<A>,
-    number: usize,
-    line: u64,
+    place: Place<'_>,
     text: &mut Vec<u8, A>,
 ) -> Result<(), Memory>
-    ensures { OnOk result (WritesText (λ told. IsTextOf content number line told timeline.now) text.old.items
+    ensures { OnOk result (WritesText (λ told. IsTextOf content (spot_of place.entry) told timeline.now) text.old.items
         text.new.items) }
 {
     match content {
         Content::Transcript => write_transcript(&transcript_of(alloc, timeline)?, text),
+        Content::TranscriptJson => write_transcript_object(alloc, timeline, place, text),
         Content::Order => write_order(alloc, timeline, text),
-        Content::Explanation => write_explanation(alloc, timeline, text),
-        Content::Story => write_story(alloc, timeline, number, line, text),
-        Content::TranscriptJson => write_transcript_json(alloc, timeline, text),
-        Content::OrderJson => write_order_json(alloc, timeline, text),
-        Content::ExplanationJson => write_explanation_json(alloc, timeline, text),
-        Content::Picture { look, width } => {
-            write_picture(alloc, timeline, number, line, look, width, text)
+        Content::OrderJson => write_order_object(alloc, timeline, place, text),
+        Content::Course(printer) => write_course(printer, alloc, timeline, place, text),
+    }
+}
+
+fn write_transcript_object<A: Allocator + Copy>(
+    alloc: A,
+    timeline: &Timeline<A>,
+    place: Place<'_>,
+    text: &mut Vec<u8, A>,
+) -> Result<(), Memory>
+    ensures { OnOk result (WritesText (λ told. IsTranscriptObject (spot_of place.entry) told timeline.now)
+        text.old.items text.new.items) }
+{
+    let transcript = transcript_of(alloc, timeline)?;
+    write_transcript_json(alloc, place, &transcript, text)
+}
+
+fn write_order_object<A: Allocator + Copy>(
+    alloc: A,
+    timeline: &Timeline<A>,
+    place: Place<'_>,
+    text: &mut Vec<u8, A>,
+) -> Result<(), Memory>
+    ensures { OnOk result (WritesText (λ told. IsOrderObject (spot_of place.entry) told timeline.now) text.old.items
+        text.new.items) }
+{
+    let sorted = sorted_attributes(alloc, timeline)?;
+    write_order_json(alloc, place, &sorted, text)
+}
+
+fn write_course<A: Allocator + Copy>(
+    printer: Printer,
+    alloc: A,
+    timeline: &Timeline<A>,
+    place: Place<'_>,
+    text: &mut Vec<u8, A>,
+) -> Result<(), Memory>
+    ensures { OnOk result (WritesText (λ told. IsOfCourse printer (spot_of place.entry) told timeline.now)
+        text.old.items text.new.items) }
+{
+    let course = Course::of(alloc, timeline, place.number, place.line)?;
+    printer.write(alloc, &course, place.file, text)
+}
+
+impl Printer {
+    fn write<A: Allocator + Copy>(
+        self,
+        alloc: A,
+        course: &Course<A>,
+        file: Option<&str>,
+        text: &mut Vec<u8, A>,
+    ) -> Result<(), Memory>
+        ensures { OnOk result (WritesText (IsPrinted self (name_of file.entry) course.now) text.old.items
+            text.new.items) }
+    {
+        match self {
+            Printer::Story => write_story(alloc, course, text),
+            Printer::Json => write_explanation_json(alloc, course, file, text),
+            Printer::Picture { look, width } => write_picture(course, look, width, text),
+            Printer::Image => write_svg(course, text),
+            Printer::Section { text: place } => write_section(course, place, text),
         }
-        Content::Image => write_svg(alloc, timeline, true, number, line, text),
-        Content::Section => write_section(alloc, timeline, number, line, text),
     }
 }

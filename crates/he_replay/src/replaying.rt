@@ -1,15 +1,19 @@
 //! Replaying the timelines of an input to an output.
-ghost use Rattle.std.specs.Prelude.{◌≤◌};
+ghost use Rattle.std.specs.Prelude.{◌≤◌, IfOk};
 ghost use Rattle.he_stream.specs.Input.{Gives, GivesSoFar};
 ghost use Rattle.he_stream.specs.Output.{PutsAndEnds, PutsInRounds, PutsRoundsPart};
+ghost use Rattle.he_json.specs.Documents.{name_of};
+ghost use Rattle.he_replay.specs.Output.{IsOutput};
+ghost use Rattle.he_replay.specs.Rounds.{IsAsked};
 ghost use Rattle.he_replay.specs.Stream.{Replays};
 
 use crate::limits::{LEAST_WORKERS, MOST_WORKERS};
 use crate::race_texts::TextRequest;
+use crate::rounds::{RoundScope, tell_races};
 use crate::streaming::stream_races;
-use he_inputs::StreamFault;
+use he_inputs::{Ending, InputFault, RaceReader, StreamFault};
 use he_stream::{InputStream, OutputStream};
-use std::alloc::Allocator;
+use std::alloc::{AllocError, Allocator};
 use std::thread::Threads;
 
 /// Reads timelines to the end of the input and writes what is asked for of each, its transcript say, by at most so
@@ -49,14 +53,15 @@ pub fn replay<
 >(
     rt: &R,
     alloc: A,
-    asked: TextRequest,
+    asked: &TextRequest<'_>,
     workers: u16,
     input: &mut I,
     output: &mut O,
 ) -> Result<(), StreamFault>
     requires some { LEAST_WORKERS ≤ workers }
     requires few { workers ≤ MOST_WORKERS }
-    ensures { Replays asked.content asked.changes (Gives I.remaining I.takes input.old input.new)
+    ensures { Replays asked.now.content asked.now.changes (name_of asked.now.file)
+        (Gives I.remaining I.takes input.old input.new)
         (GivesSoFar I.remaining I.takes input.old input.new)
         (PutsAndEnds O.contents O.puts O.flushes output.old output.new)
         (PutsRoundsPart O.contents O.puts O.flushes output.old output.new)
@@ -67,5 +72,29 @@ pub fn replay<
     } else {
         workers
     };
-    stream_races(rt, alloc, workers, &asked, input, output)
+    stream_races(rt, alloc, workers, asked, input, output)
+}
+
+/// What is asked for of each race of an input that was read whole, up to its first fault, and this fault; `is_broken`
+/// says whether the input broke off.
+///
+/// # Errors
+///
+/// `AllocError` where an allocation was refused.
+pub fn write_races<A: Allocator + Copy>(
+    alloc: A,
+    asked: &TextRequest<'_>,
+    input: &[u8],
+    is_broken: bool,
+) -> Result<(Vec<u8, A>, Option<InputFault>), AllocError>
+    ensures { IfOk result (λ told. IsOutput (IsAsked asked.now) input.now is_broken told.0.items told.1) }
+{
+    let mut text = Vec::new(alloc);
+    let part = RoundScope {
+        begun: RaceReader::START,
+        reach: input.len(),
+        ending: Ending::of(is_broken),
+    };
+    let told = tell_races(alloc, input, part, asked, &mut text)?;
+    Ok((text, told.fault))
 }

@@ -1,6 +1,6 @@
 // Each growth refused in turn: the fault is Memory and what some first races ask for is written, or all is.
 
-use crate::hostile::{CONTENTS, TEXT, output_of, run_over};
+use crate::hostile::{CONTENTS, EXPLAINED, TEXT, output_of, run_over};
 use he_inputs::StreamFault;
 use he_replay::Content;
 use he_stream::{FromReader, ToWriter};
@@ -55,5 +55,10 @@ fn refused_growths_are_told(rt: HostRuntime) -> Result<(), Fail> {
         });
         assert!(rt; refused > 3);
     }
+    let wanted = output_of(EXPLAINED);
+    let refused = each_growth_refused(&heap, || {
+        assert!(rt; is_right(&rt, &heap, rt.alloc(), EXPLAINED, TEXT, wanted));
+    });
+    assert!(rt; refused > 3);
     Ok(())
 }

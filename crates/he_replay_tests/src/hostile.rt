@@ -1,7 +1,7 @@
 // Replays, orders and explanations of texts that break off, over readers and writers that fail.
 
 use he_inputs::StreamFault;
-use he_replay::{Content, TextRequest, replay};
+use he_replay::{Content, Printer, TextRequest, replay};
 use he_select::PolicyFault;
 use he_stream::{FromReader, InputStream, ToWriter};
 use he_words::{TextFault, TextKind};
@@ -27,17 +27,21 @@ pub const TRANSCRIPT: &[u8] = b"attempt 0 20 2001:db8:1::1 won 55\nwon 0 55\n";
 
 pub const ORDER: &[u8] = b"0 2001:db8:1::1 from 2001:db8::2\n1 198.51.100.1 from 192.0.2.2\nend\n";
 
-const EXPLANATION: &[u8] = b"order 0 2001:db8:1::1 source 2001:db8::2
-order 1 198.51.100.1 source 192.0.2.2, behind 0 by rule 6, prefer higher precedence: 35 after 40
-20 answer aaaa usable 1
-20 attempt 0 2001:db8:1::1, on the AAAA answer, listed at 0 of 1, its family leads
-25 answer a usable 1
-55 won attempt 0
-end
+const EXPLANATION: &[u8] = b"{\"file\":null,\"race\":1,\"line\":1,\"order\":[\
+{\"place\":0,\"address\":\"2001:db8:1::1\",\"source\":\"2001:db8::2\"},\
+{\"place\":1,\"address\":\"198.51.100.1\",\"source\":\"192.0.2.2\",\
+\"rule\":\"6\",\"why\":\"prefer higher precedence\",\"own\":35,\"before\":40}],\"events\":[\
+{\"tick\":20,\"event\":\"answer\",\"family\":\"aaaa\",\"usable\":1},\
+{\"tick\":20,\"event\":\"attempt\",\"attempt\":0,\"address\":\"2001:db8:1::1\",\"cause\":\"aaaa answer\",\
+\"held\":false,\"listed\":0,\"of\":1,\"turn\":\"leads\"},\
+{\"tick\":25,\"event\":\"answer\",\"family\":\"a\",\"usable\":1},\
+{\"tick\":55,\"event\":\"won\",\"attempt\":0}]}
 ";
 
-// What is asked for.
-pub const CONTENTS: [Content; 3] = [Content::Transcript, Content::Order, Content::Explanation];
+// What is asked for, of which the text is the same wherever the race stands; and what has its place, too.
+pub const CONTENTS: [Content; 2] = [Content::Transcript, Content::Order];
+
+pub const EXPLAINED: Content = Content::Course(Printer::Json);
 
 // What is written for the text above.
 pub fn output_of(content: Content) -> &'static [u8] {
@@ -55,7 +59,8 @@ pub fn run_over<R: Threads + Sync, A: Allocator + Copy + Send + Sync, I: InputSt
     input: &mut I,
     output: &mut ToWriter<FakeWriter>,
 ) -> Result<(), StreamFault> {
-    replay(rt, alloc, TextRequest::of(content), 4, input, output)
+    let asked = TextRequest::of(content);
+    replay(rt, alloc, &asked, 4, input, output)
 }
 
 // Whether the call over the reader and the writer answers this, has written this, and has flushed so often.
@@ -291,7 +296,8 @@ fn right_ends<R: Threads + Sync>(rt: &R, alloc: Global, content: Content) -> boo
 #[test]
 fn hostile_streams_are_told(rt: HostRuntime) -> Result<(), Fail> {
     let alloc = rt.alloc();
-    for content in CONTENTS {
+    let [transcript, order] = CONTENTS;
+    for content in [transcript, order, EXPLAINED] {
         let right = (
             right_cuts(&rt, alloc, content),
             right_rooms(&rt, alloc, content),

@@ -2,7 +2,7 @@
 
 use crate::hostile::{CONTENTS, TEXT, output_of, run_over};
 use he_inputs::StreamFault;
-use he_replay::{Content, TextRequest, replay};
+use he_replay::{Content, Printer, TextRequest, replay};
 use he_stream::{FromReader, ToWriter};
 use std::alloc::{AllocError, Global};
 use std::test::Fail;
@@ -71,7 +71,7 @@ fn stories_know_their_place(rt: HostRuntime) -> Result<(), Fail> {
     let result = replay(
         &rt,
         alloc,
-        TextRequest::of(Content::Story),
+        &TextRequest::of(Content::Course(Printer::Story)),
         4,
         &mut input,
         &mut output,

@@ -96,7 +96,7 @@ fn replayed<R: Threads + Sync>(
     let result = replay(
         rt,
         alloc,
-        TextRequest::of(Content::Transcript),
+        &TextRequest::of(Content::Transcript),
         workers,
         &mut input,
         &mut output,
@@ -131,7 +131,7 @@ fn is_right<R: Threads + Sync>(
     let result = replay(
         rt,
         heap,
-        TextRequest::of(Content::Transcript),
+        &TextRequest::of(Content::Transcript),
         2,
         &mut input,
         &mut output,

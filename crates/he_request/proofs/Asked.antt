@@ -12,7 +12,7 @@ use Rattle.he_timeline.specs.declared.limits.TheConstants.{MAX_RESOLUTION, MIN_A
 use Rattle.he_timeline.specs.declared.settings.Range.{Range}
 use Rattle.he_timeline.specs.declared.settings.Range.TheVariants.{Resolution, Attempt, Count, Limit, Floor}
 use Rattle.he_request.specs.Requests.{AsksDrawing, AsksTexts, IsDrawn, page_of}
-use Rattle.he_request.specs.Words.{AsksChanges, HasNumber, is_setting, last_number, values_of}
+use Rattle.he_request.specs.Words.{AsksChanges, AsksSettings, HasNumber, is_setting, last_number, values_of}
 use Rattle.he_request.specs.declared.refusal.OptionFault.{OptionFault}
 use Rattle.he_request.specs.declared.texts.Content.{Content}
 use Rattle.he_request.specs.declared.texts.Task.{Task}
@@ -41,28 +41,29 @@ of_changes given (Ok made) result Post P is cases holds =
 of_changes given (Err range) (Ok made) Post P is cases holds = absurd cases
 of_changes given (Err range) (Err fault) Post P is cases holds = tt
 
--- they are those that the line asks for
-pub all_asked : {E : Type 0} (gives : List ℕ → Result ℕ E → Type 0) (found : Found) (texts : List (Bor (List ℕ))) (resolution attempt count limit floor timeout : Option ℕ)
-    → map (λ text. text.now) texts ≡ values_of found (codes "set") → All (λ text. is_setting text.now ≡ true) texts
+-- they are those of the texts
+pub all_asked : (texts : List (Bor (List ℕ))) (resolution attempt count limit floor timeout : Option ℕ) → All (λ text. is_setting text.now ≡ true) texts
     → resolution ≡ last_number (codes "resolution=") (map (λ text. text.now) texts)
     → attempt ≡ last_number (codes "attempt=") (map (λ text. text.now) texts)
     → count ≡ last_number (codes "count=") (map (λ text. text.now) texts)
     → limit ≡ option_or (last_number (codes "limit=") (map (λ text. text.now) texts)) timeout
     → floor ≡ last_number (codes "floor=") (map (λ text. text.now) texts)
-    → HasNumber gives found (codes "timeout") timeout
-    → AsksChanges gives found (record { resolution = resolution; attempt = attempt; count = count; limit = limit; floor = floor })
-all_asked gives found texts resolution attempt count limit floor timeout same named is_resolution is_attempt is_count is_limit is_floor timed = record {
-  named =
-      subst (λ (values : List (List ℕ)). All (λ text. is_setting text ≡ true) values) same
-      (All-map (λ (text : List ℕ). is_setting text ≡ true) (λ (text : Bor (List ℕ)). text.now) texts named);
-  resolution = is_resolution ∙ ap (last_number (codes "resolution=")) same;
-  attempt = is_attempt ∙ ap (last_number (codes "attempt=")) same;
-  count = is_count ∙ ap (last_number (codes "count=")) same;
-  floor = is_floor ∙ ap (last_number (codes "floor=")) same;
-  timeout = timeout;
-  timed = timed;
-  limit = is_limit ∙ ap (λ (values : List (List ℕ)). option_or (last_number (codes "limit=") values) timeout) same;
+    → AsksSettings (map (λ text. text.now) texts) timeout (record { resolution = resolution; attempt = attempt; count = count; limit = limit; floor = floor })
+all_asked texts resolution attempt count limit floor timeout named is_resolution is_attempt is_count is_limit is_floor = record {
+  named = All-map (λ (text : List ℕ). is_setting text ≡ true) (λ (text : Bor (List ℕ)). text.now) texts named;
+  resolution = is_resolution;
+  attempt = is_attempt;
+  count = is_count;
+  limit = is_limit;
+  floor = is_floor;
 }
+
+-- those of the texts of the line are those that it asks for
+pub by_line : {E F : Type 0} (gives : List ℕ → Result ℕ E → Type 0) (found : Found) (texts : List (List ℕ)) (timeout : Option ℕ) (result : Result ChangeValues F)
+    → texts ≡ values_of found (codes "set") → HasNumber gives found (codes "timeout") timeout → IfOk result (AsksSettings texts timeout) → IfOk result (AsksChanges gives found)
+by_line gives found texts timeout (Ok changes) same timed asks =
+    (timeout, timed, subst (λ (values : List (List ℕ)). AsksSettings values timeout changes) same asks)
+by_line gives found texts timeout (Err fault) same timed asks = tt
 
 -- one more text gives a setting a number
 pub one_more : (texts : List (Bor (List ℕ))) (i : ℕ) (default : Bor (List ℕ)) (bytes : List ℕ) (answer : Bool)

@@ -1,5 +1,6 @@
 pub mod Ports
 pub mod Requests
 pub mod Resolvers
+pub mod Rows
 pub mod Shown
 pub mod Words

@@ -1,5 +1,5 @@
 -- What a line asks for, by what clap found of its words.
-use Rattle.std.specs.Prelude.{◌≡◌, ◌≤◌, ◌||◌, ℕ, Bool, true, false, List, Option, Some, None, Result, codes, if◌then◌else◌, is_some, length, map, max, min, option_map}
+use Rattle.std.specs.Prelude.{◌≡◌, ◌≤◌, ◌||◌, ℕ, Bool, true, false, List, Option, Some, None, Result, codes, if◌then◌else◌, is_some, length, map, max, min, option_map, string_bytes}
 use Rattle.std.specs.Option.{unwrap_or}
 use Rattle.std.specs.Str.{bytes_eq}
 use Rattle.clap.specs.Matches.{first_value}
@@ -11,6 +11,7 @@ use Rattle.he_addr.specs.declared.ip.Family.{Family}
 use Rattle.he_addr.specs.declared.ip.Family.TheVariants as families
 use Rattle.he_timeline.specs.Changes.{ChangeValues}
 use Rattle.he_request.specs.Ports.{IsPort, NamesPort}
+use Rattle.he_request.specs.Rows.{AreRows, labels_of}
 use Rattle.he_request.specs.Words.{AsksChanges, HasFlag, HasNumber, connect_settings, values_of}
 use Rattle.he_request.specs.declared.connect.Connection.{Connection}
 use Rattle.he_request.specs.declared.limits.TheConstants.{DEFAULT_WORKERS, LEAST_WORKERS, MOST_FILES, MOST_WORKERS}
@@ -22,7 +23,7 @@ use Rattle.he_request.specs.declared.request.Request.TheVariants as requests
 use Rattle.he_request.specs.declared.texts.Content.{Content}
 use Rattle.he_request.specs.declared.texts.Content.TheVariants as contents
 use Rattle.he_request.specs.declared.texts.Task.{Task}
-use Rattle.he_request.specs.declared.texts.Task.TheVariants.{Write, Check, Summarize}
+use Rattle.he_request.specs.declared.texts.Task.TheVariants.{Write, Compare, Check, Summarize}
 use Rattle.he_request.specs.declared.texts.Texts.{Texts}
 
 -- the number of workers, where there are any, is in its range
@@ -75,11 +76,26 @@ AsksOrder found task = (json : Bool) × HasFlag found (codes "json") json × (ta
 
 abbrev pub AsksExplain : Found → Task → Type 0
 AsksExplain found task =
-    (json lines : Bool) × HasFlag found (codes "json") json × HasFlag found (codes "lines") lines
-    × (task ≡ Write (if json || lines then contents.Explanation json else contents.Story) 1)
+    (json : Bool) × HasFlag found (codes "json") json
+    × (task ≡ Write (if json then contents.ExplanationJson else contents.Story) 1)
 
-abbrev pub AsksSummary : Found → Task → Type 0
-AsksSummary found task = (json : Bool) × HasFlag found (codes "json") json × (task ≡ Summarize json)
+abbrev pub AsksSummary : {E : Type 0} → (List ℕ → Result ℕ E → Type 0) → Found → Task → Type 0
+AsksSummary gives found task =
+    (json metrics : Bool) × (slowest : Option ℕ) × HasFlag found (codes "json") json
+    × HasFlag found (codes "openmetrics") metrics × HasNumber gives found (codes "slowest") slowest
+    × (task ≡ Summarize json metrics (unwrap_or slowest 0))
+
+-- a comparison, as JSON or not, with the races or without, of the files and with the settings of the line
+pub record AsksComparison (found : Found) (texts : Texts) : Type 0 where
+  pub json : Bool
+  pub races : Bool
+  pub has_json : HasFlag found (codes "json") json
+  pub has_races : HasFlag found (codes "races") races
+  pub task_is : texts.task ≡ Compare json races
+  pub rows : AreRows (values_of found (codes "set")) texts.rows.items
+  pub labels : map string_bytes texts.labels.items ≡ labels_of (values_of found (codes "set"))
+  pub files : map (λ file. file.now) texts.files.items ≡ values_of found (codes "file")
+  pub keeps : HasFlag found (codes "keep-going") texts.goes_on
 
 abbrev pub AsksCheck : Found → Task → Type 0
 AsksCheck found task = (all : Bool) × HasFlag found (codes "all") all × (task ≡ Check all)
@@ -138,3 +154,4 @@ pub record AsksConnection {E : Type 0} (gives : List ℕ → Result ℕ E → Ty
   pub explains : HasFlag found (codes "explain") connection.explains
   pub tells_steps : HasFlag found (codes "verbose") connection.tells_steps
   pub only_tries : HasFlag found (codes "try") connection.only_tries
+  pub is_json : HasFlag found (codes "json") connection.is_json

@@ -42,18 +42,21 @@ is_setting text =
     || is_some (number_for (codes "count=") text) || is_some (number_for (codes "limit=") text)
     || is_some (number_for (codes "floor=") text)
 
--- the settings are exactly those that the line asks for by --set and --timeout: each text of --set is one, the last of
--- a name counts, and a limit of --set before --timeout
-pub record AsksChanges {E : Type 0} (gives : List ℕ → Result ℕ E → Type 0) (found : Found)
-    (changes : ChangeValues) : Type 0 where
-  pub named : All (λ text. is_setting text ≡ true) (values_of found (codes "set"))
-  pub resolution : changes.resolution ≡ last_number (codes "resolution=") (values_of found (codes "set"))
-  pub attempt : changes.attempt ≡ last_number (codes "attempt=") (values_of found (codes "set"))
-  pub count : changes.count ≡ last_number (codes "count=") (values_of found (codes "set"))
-  pub floor : changes.floor ≡ last_number (codes "floor=") (values_of found (codes "set"))
-  pub timeout : Option ℕ
-  pub timed : HasNumber gives found (codes "timeout") timeout
-  pub limit : changes.limit ≡ option_or (last_number (codes "limit=") (values_of found (codes "set"))) timeout
+-- the settings are exactly those of these texts of --set and of --timeout: each text is one, the last of a name
+-- counts, and a limit of --set before --timeout
+pub record AsksSettings (texts : List (List ℕ)) (timeout : Option ℕ) (changes : ChangeValues) : Type 0 where
+  pub named : All (λ text. is_setting text ≡ true) texts
+  pub resolution : changes.resolution ≡ last_number (codes "resolution=") texts
+  pub attempt : changes.attempt ≡ last_number (codes "attempt=") texts
+  pub count : changes.count ≡ last_number (codes "count=") texts
+  pub limit : changes.limit ≡ option_or (last_number (codes "limit=") texts) timeout
+  pub floor : changes.floor ≡ last_number (codes "floor=") texts
+
+-- those that the line asks for
+abbrev pub AsksChanges : {E : Type 0} → (List ℕ → Result ℕ E → Type 0) → Found → ChangeValues → Type 0
+AsksChanges gives found changes =
+    (timeout : Option ℕ) × HasNumber gives found (codes "timeout") timeout
+    × AsksSettings (values_of found (codes "set")) timeout changes
 
 -- the settings of a connection: where one is not given that of RFC 8305 section 8, and the least floor
 abbrev pub connect_defaults : SettingValues

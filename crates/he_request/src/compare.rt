@@ -1,32 +1,83 @@
 //! `he compare`.
+ghost use Rattle.std.specs.Prelude.{◌≡◌, IfOk};
+ghost use Rattle.clap.specs.Matches.{found_of};
+ghost use Rattle.he_request.specs.Requests.{AsksComparison, IsTexts};
 
-use crate::arguments::{HEADED_FILES_HELP, files, plain, verbose};
-use crate::settings::set;
-use clap::Command;
+use crate::arguments::{FILES_HELP, files, files_of, flag, flag_of, plain, value, verbose};
+use crate::refusal::Refusal;
+use crate::rows::rows_of;
+use crate::texts::{Task, Texts};
+use clap::{ArgAction, ArgMatches, Command};
+use he_timeline::Changes;
 use std::alloc::{AllocError, Global};
 
-const ABOUT: &str = "Write what other settings would do to each race";
+const ABOUT: &str = "Write what other settings would do to races";
+
+const SET_HELP: &str = "Override a setting in every race; repeatable.\n\
+NAME is attempt, resolution, count, limit or floor;\n\
+one NAME may have a list, N,N,.., with a row for each";
+
+const JSON_HELP: &str = "Write the table as one JSON object, on one line";
+
+const RACES_HELP: &str = "Write a line for each race and row before the table";
+
+const KEEP_GOING_HELP: &str = "Go on to the next file after a faulty one";
 
 const EXAMPLE: &str = "\
-Reads timelines, as `he replay` does. Standard output has a line for each race:
-how it ends, how it would end with the settings that are given, and what they do
-to it; and a last line with the sums. Nothing is written before the end of the
-file. Of several files each has its own lines and sums: for one sum, `cat` them
-into standard input.
+Reads timelines, as `he replay` does. Standard output has one table of the races
+of all files: a row for them as they stand, and one for each setting that is
+given. It has the times to connect within which half, 90 and 99 of 100 races
+that were won were won; the attempts of a race, in the mean; which share of the
+races that were won was won by IPv6; and how many races were won sooner, later,
+at the same time, with these settings alone and without them alone. Nothing is
+written before the end of the last file. Of a file with a fault the races before
+it are compared.
 
-For the example of `he draw --help`, --set floor=10 gives (two lines):
+For the example of `he draw --help`, --set floor=10,200 gives:
 
-  race 1, line 1: won after 300 ms by 198.51.100.1; with the changes won after
-    60 ms by 198.51.100.1, 240 ms sooner
-  1 race: 1 sooner, 0 later, 0 at the same time, 0 won only with the changes,
-    0 won only without them, 0 not won either way; difference where both won:
-    median 240 ms, greatest 240 ms
+    p50    p90    p99  attempts    IPv6  sooner   later    same  only with  ..
+    300    300    300      2.00    0.0 %       0       0       1          0  ..
+     60     60     60      2.00    0.0 %       1       0       0          0  ..
+    250    250    250      2.00    0.0 %       1       0       0          0  ..
 
 A floor above the attempt delay of a race changes nothing: the delay is over
 before. An address without a connect line is silent with the settings too.";
 
 pub(crate) fn command<'a>(alloc: Global) -> Result<Command<'a>, AllocError> {
-    let set = set(alloc).required(true);
-    let args = vec![in alloc; files(alloc, HEADED_FILES_HELP), set, verbose(alloc)]?;
+    let set = value(alloc, "set", "NAME=N,..", SET_HELP)
+        .action(ArgAction::Append)
+        .required(true);
+    let args = vec![in alloc;
+        files(alloc, FILES_HELP),
+        flag(alloc, "json", JSON_HELP),
+        flag(alloc, "races", RACES_HELP),
+        flag(alloc, "keep-going", KEEP_GOING_HELP),
+        set,
+        verbose(alloc),
+    ]?;
     plain(alloc, "compare", ABOUT, EXAMPLE, args)
+}
+
+// What the line asks for.
+pub(crate) fn comparison_of<'a>(
+    alloc: Global,
+    matches: &ArgMatches<'a>,
+) -> Result<Texts<'a>, Refusal>
+    ensures is { IfOk result IsTexts }
+    ensures asks { IfOk result (AsksComparison (found_of matches.now)) }
+{
+    let rows = rows_of(alloc, matches)?;
+    Ok(Texts {
+        task: Task::Compare {
+            is_json: flag_of(matches, "json"),
+            tells_races: flag_of(matches, "races"),
+        },
+        changes: Changes::none(),
+        rows: rows.changes,
+        labels: rows.labels,
+        files: files_of(alloc, matches)?,
+        goes_on: flag_of(matches, "keep-going"),
+        explains: flag_of(matches, "verbose"),
+        page: None,
+    })
 }

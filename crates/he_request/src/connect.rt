@@ -32,6 +32,9 @@ in place of this machine's own";
 const RECORD_HELP: &str = "Write the race to FILE, for `he replay`;\n\
 with -z `-` is standard output";
 
+const JSON_HELP: &str = "With -z, write the race as one JSON object, as\n\
+`he explain --json`";
+
 const EXPLAIN_HELP: &str = "Explain the race on standard error, as `he explain`";
 
 const EXAMPLE: &str = "\
@@ -51,6 +54,10 @@ Examples:
   ssh -o ProxyCommand='he connect %h %p' example.org
   he connect -z --timeout 2000 example.org 22 && echo it is there
   he connect --record day.timeline --explain example.org 443 < request
+
+With -z and --json standard output has the race, won or not, as one object:
+
+  {\"file\":null,\"race\":1,\"line\":1,\"order\":[..],\"events\":[..]}
 
 Where nothing connects, standard error says what was tried:
 
@@ -78,6 +85,7 @@ pub(crate) fn command<'a>(alloc: Global) -> Result<Command<'a>, AllocError> {
         value(alloc, "host-lines", "FILE", LINES_HELP).long("host"),
         resolver_argument(alloc),
         value(alloc, "record", "FILE", RECORD_HELP),
+        flag(alloc, "json", JSON_HELP),
         flag(alloc, "explain", EXPLAIN_HELP),
         flag(alloc, "verbose", "Tell each step of the race as it happens").short('v'),
     ]?;
@@ -113,11 +121,14 @@ pub struct Connection<'a> {
     pub record: Option<&'a str>,
     /// Whether the connection is closed once it is made.
     pub only_tries: bool,
+    /// Whether the race of a connection that is only tried is written as JSON.
+    pub is_json: bool,
     /// How long standard input is waited for once the remote has ended its way, in milliseconds, where that is given.
     pub wait: Option<u32>,
 }
 
-// The connection that the line asks for. Its record goes to standard output only where nothing is relayed there.
+// The connection that the line asks for. Its record or its object goes to standard output only where nothing else
+// does.
 pub(crate) fn connection_of<'a>(matches: &ArgMatches<'a>) -> Result<Connection<'a>, OptionFault>
     ensures port { IfOk result (λ connection. IsPort connection.port) }
     ensures asks { IfOk result (AsksConnection ⟦<u32 as FromStr>⟧.from_str_gives (found_of matches.now)) }
@@ -126,6 +137,10 @@ pub(crate) fn connection_of<'a>(matches: &ArgMatches<'a>) -> Result<Connection<'
     let only_tries = flag_of(matches, "try");
     if record == Some(STANDARD) && !only_tries {
         return Err(OptionFault::Record);
+    }
+    let is_json = flag_of(matches, "json");
+    if is_json && (record == Some(STANDARD) || !only_tries) {
+        return Err(OptionFault::Json);
     }
     let (port, resolver) = (port_of(matches)?, resolver_of(matches)?);
     Ok(Connection {
@@ -139,6 +154,7 @@ pub(crate) fn connection_of<'a>(matches: &ArgMatches<'a>) -> Result<Connection<'
         tells_steps: flag_of(matches, "verbose"),
         record,
         only_tries,
+        is_json,
         wait: matches.get_one::<u32>("wait"),
     })
 }

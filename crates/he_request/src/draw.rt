@@ -20,7 +20,7 @@ const WIDTH_HELP: &str =
     "Columns of a line, 40 to 1000; default is that of\nthe environment's COLUMNS, else 80";
 
 const HTML_HELP: &str = "Write a page for a browser to FILE.html, or to\n\
-standard output (-): each race beside its story";
+standard output (-): each race with its story";
 
 const EXAMPLE: &str = "\
 Reads timelines, as `he replay` does. Standard output has a picture of each
@@ -45,7 +45,7 @@ Example input:
 
 Output of `he draw --ascii --width 72`:
 
-  race 1, line 1: won after 300 ms by attempt 2
+  race 1, line 1: connected to 198.51.100.1 after 300 ms
   AAAA answer   |  o                                     | 20 ms, 1 usable
   A answer      |   o                                    | 25 ms, 1 usable
   2001:db8:1::1 |  x                                     | 20-21 ms failed

@@ -2,7 +2,7 @@
 ghost use Rattle.clap.specs.Matches.{found_of};
 ghost use Rattle.he_request.specs.Requests.{AsksExplain};
 
-use crate::arguments::{HEADED_FILES_HELP, files, flag, flag_of, json, plain, verbose};
+use crate::arguments::{HEADED_FILES_HELP, files, flag_of, json, plain, verbose};
 use crate::settings::set;
 use crate::texts::{Content, Task, alone};
 use clap::{ArgMatches, Command};
@@ -10,49 +10,34 @@ use std::alloc::{AllocError, Global};
 
 const ABOUT: &str = "Explain why races went as they did";
 
-const LINES_HELP: &str = "Write lines for scripts, to be cut at their spaces";
-
 const EXAMPLE: &str = "\
 Reads timelines, as `he replay` does. Standard output has for each race how it
-ended; its usable addresses in the order of preference, each with the source
-that the host uses for it, and from the second on what puts it after the one
-before (RFC 6724 section 6, RFC 8305 section 4); what happened at which
-millisecond, each attempt with what started it (RFC 8305 sections 3 to 5); and
-last what had to wait, and whether a floor (`set floor 10`) would have helped.
+ended, and what it lost; its usable addresses in the order of preference, each
+with the source that the host uses for it, and from the second on what puts it
+after the one before (RFC 6724 section 6, RFC 8305 section 4); what happened at
+which millisecond, each attempt with what started it (RFC 8305 sections 3 to 5);
+and last what had to wait, and whether a floor (`set floor 10`) would have
+helped.
 Attempts and addresses are counted from 1.
 
 For the example of `he replay --help` it writes:
 
-  race 1, line 1: connected to 2001:db8:1::1 after 55 ms, by attempt 1 of 1
+  race 1, line 1: connected to 2001:db8:1::1 after 55 ms; nothing lost
   preferred, once every answer is known:
     1. 2001:db8:1::1 from 2001:db8::2
     2. 198.51.100.1 from 192.0.2.2; precedence 35, the one before 40 (RFC 6724
        rule 6)
-  what happened:
+  course:
     20 ms  AAAA answer: 1 address to try; the A answer is not there yet
     20 ms  attempt 1 to 2001:db8:1::1: the AAAA answer is there; the only
            address known
     25 ms  A answer: 1 address to try
     55 ms  attempt 1 connected after 35 ms
-  no address of the A answer was tried
-
-With --lines it writes (the second line is one line):
-
-  order 0 2001:db8:1::1 source 2001:db8::2
-  order 1 198.51.100.1 source 192.0.2.2, behind 0 by rule 6, prefer higher
-    precedence: 35 after 40
-  20 answer aaaa usable 1
-  20 attempt 0 2001:db8:1::1, on the AAAA answer, listed at 0 of 1, its family
-    leads
-  25 answer a usable 1
-  55 won attempt 0
-  end";
+  no address of the A answer was tried";
 
 pub(crate) fn command<'a>(alloc: Global) -> Result<Command<'a>, AllocError> {
-    let lines = flag(alloc, "lines", LINES_HELP).conflicts_with("json")?;
     let args = vec![in alloc;
         files(alloc, HEADED_FILES_HELP),
-        lines,
         set(alloc),
         json(alloc),
         verbose(alloc),
@@ -64,10 +49,9 @@ pub(crate) fn command<'a>(alloc: Global) -> Result<Command<'a>, AllocError> {
 pub(crate) fn task_of(matches: &ArgMatches<'_>) -> Task
     ensures { AsksExplain (found_of matches.now) result }
 {
-    let (json, lines) = (flag_of(matches, "json"), flag_of(matches, "lines"));
-    if json || lines {
-        alone(Content::Explanation { is_json: json })
+    alone(if flag_of(matches, "json") {
+        Content::ExplanationJson
     } else {
-        alone(Content::Story)
-    }
+        Content::Story
+    })
 }

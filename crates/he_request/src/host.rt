@@ -1,6 +1,6 @@
 //! `he host`.
 
-use crate::arguments::{plain, value};
+use crate::arguments::{flag, flag_of, plain, value};
 use crate::refusal::{OptionFault, Refusal};
 use clap::{ArgAction, ArgMatches, Command};
 use he_addr::{Ip, read_ip};
@@ -10,6 +10,8 @@ const ABOUT: &str = "Write the addresses and routes of this machine as lines of 
 
 const FOR_HELP: &str = "Write the lines for these destinations alone, as the\n\
 kernel reaches them: IPv4 or IPv6 addresses";
+
+const JSON_HELP: &str = "Write one JSON object in place of the lines";
 
 const EXAMPLE: &str = "\
 Reads no input. Standard output has the `source` and `route` lines of this
@@ -42,6 +44,10 @@ Output, on a machine with one network:
   route 192.0.2.0/24 2
   route ::1/128 1
 
+With --json it is one object on one line, which begins on that machine
+
+  {\"sources\":[{\"address\":\"127.0.0.1\",\"length\":8,\"interface\":1,
+
 To make a race of it, and to run that:
 
   { echo race 1; he host; echo aaaa 0 ::1; echo a 0 127.0.0.1; echo end; } \\
@@ -52,11 +58,29 @@ pub(crate) fn command<'a>(alloc: Global) -> Result<Command<'a>, AllocError> {
     let destinations = value(alloc, "for", "ADDRESS", FOR_HELP)
         .num_args(1..)
         .action(ArgAction::Append);
-    plain(alloc, "host", ABOUT, EXAMPLE, vec![in alloc; destinations]?)
+    let args = vec![in alloc; destinations, flag(alloc, "json", JSON_HELP)]?;
+    plain(alloc, "host", ABOUT, EXAMPLE, args)
+}
+
+/// The addresses and routes of this machine, which are to be written.
+#[derive(Drop)]
+pub struct Host {
+    /// The destinations whose lines alone are written; those of the whole machine are where there are none.
+    pub destinations: Vec<Ip>,
+    /// Whether they are written as JSON.
+    pub is_json: bool,
+}
+
+// What the line asks for.
+pub(crate) fn host_of(alloc: Global, matches: &ArgMatches<'_>) -> Result<Host, Refusal> {
+    Ok(Host {
+        destinations: destinations_of(alloc, matches)?,
+        is_json: flag_of(matches, "json"),
+    })
 }
 
 // The destinations that the line names.
-pub(crate) fn destinations_of(alloc: Global, matches: &ArgMatches<'_>) -> Result<Vec<Ip>, Refusal> {
+fn destinations_of(alloc: Global, matches: &ArgMatches<'_>) -> Result<Vec<Ip>, Refusal> {
     let mut destinations = Vec::new(alloc);
     if let Some(texts) = matches.get_strs("for") {
         for text in texts {

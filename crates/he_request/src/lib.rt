@@ -9,10 +9,11 @@
 //!
 //! - The numbers of a request are in their ranges ([`read_words`]).
 //! - What each part of a line asks for (`specs/Requests`): the settings are exactly those of --set and --timeout, the
-//!   last of a name, and those of a connection where it gives none (`specs/Words`); the files, the workers, what is
-//!   written of each race, the file of a page; the port is the number that the word says, or the name of a service by
-//!   its form (`specs/Ports`); the families, and the flags. The text of a resolver names an address, at port 53, or one
-//!   with a port other than 0 (`specs/Resolvers`).
+//!   last of a name, and those of a connection where it gives none (`specs/Words`); the rows of a comparison are
+//!   those of the numbers of its list, with their words (`specs/Rows`); the files, the workers, what is written of
+//!   each race, the file of a page; the port is the number that the word says, or the name of a service by its form
+//!   (`specs/Ports`); the families, and the flags. The text of a resolver names an address, at port 53, or one with a
+//!   port other than 0 (`specs/Resolvers`).
 //! - Help is told from words that are wrong and from want of memory.
 //! - A word as a terminal may show it has no character that controls one (`specs/Shown`).
 //!
@@ -26,7 +27,7 @@ mod compare;
 pub mod connect;
 mod draw;
 mod explain;
-mod host;
+pub mod host;
 pub mod limits;
 pub mod live;
 pub mod names;
@@ -36,6 +37,7 @@ pub mod refusal;
 mod replay;
 pub mod request;
 pub mod resolver;
+mod rows;
 mod settings;
 pub mod shown;
 mod summary;
@@ -43,6 +45,7 @@ pub mod texts;
 
 pub use arguments::STANDARD;
 pub use connect::Connection;
+pub use host::Host;
 pub use live::Live;
 pub use names::Names;
 pub use port::Port;

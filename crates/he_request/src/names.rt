@@ -20,6 +20,11 @@ Example: `he names www.example.com` may write
   aaaa 31 2001:db8:1::1 2001:db8:1::2
   a 12 198.51.100.1
 
+and with --json, in one line
+
+  {\"host\":\"www.example.com\",\"aaaa\":{\"tick\":31,\"addresses\":[\"2001:db8:1::1\",
+  \"2001:db8:1::2\"]},\"a\":{\"tick\":12,\"addresses\":[\"198.51.100.1\"]}}
+
 An address is its own answer, and a name of /etc/hosts has the addresses there.
 Any other is asked of the name servers of /etc/resolv.conf, both families at
 once, over UDP, and over TCP where an answer is cut off; `search` and the
@@ -37,7 +42,12 @@ as where there is no such name; 2 for a line that is refused.";
 pub(crate) fn command<'a>(alloc: Global) -> Result<Command<'a>, AllocError> {
     let host = word(alloc, "host", "HOST", HOST_HELP).required(true);
     let verbose = flag(alloc, "verbose", "Tell what happened in the look-up").short('v');
-    let args = vec![in alloc; host, resolver_argument(alloc), verbose]?;
+    let json = flag(
+        alloc,
+        "json",
+        "Write one JSON object in place of the answers",
+    );
+    let args = vec![in alloc; host, resolver_argument(alloc), json, verbose]?;
     plain(alloc, "names", ABOUT, EXAMPLE, args)
 }
 
@@ -47,6 +57,8 @@ pub struct Names<'a> {
     /// A name or an address.
     pub host: &'a str,
     pub resolver: Resolver,
+    /// Whether the answers are written as JSON.
+    pub is_json: bool,
     /// Whether what happened is told.
     pub tells_steps: bool,
 }
@@ -56,6 +68,7 @@ pub(crate) fn names_of<'a>(matches: &ArgMatches<'a>) -> Result<Names<'a>, Option
     Ok(Names {
         host: matches.get_str("host").unwrap_or(""),
         resolver: resolver_of(matches)?,
+        is_json: flag_of(matches, "json"),
         tells_steps: flag_of(matches, "verbose"),
     })
 }

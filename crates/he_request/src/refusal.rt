@@ -37,6 +37,8 @@ pub enum OptionFault {
     Destination,
     #[error("invalid value for '--record <FILE>': `-` goes with `-z`, since the connection has standard output")]
     Record,
+    #[error("'--json' goes with `-z`, and not with `--record -`: nothing else may have standard output")]
+    Json,
     #[error("more than 4294967296 files")]
     Files,
     #[error("invalid value for '--html <FILE>': the name of a page ends in `.html`, or is `-` for standard output")]
@@ -44,6 +46,8 @@ pub enum OptionFault {
     /// A setting isn't a number, or has a name that there isn't.
     #[error("invalid value for '--set <NAME=N>': expected NAME=N, with NAME one of attempt, resolution, count, limit, floor")]
     Form,
+    #[error("invalid value for '--set <NAME=N,..>': one NAME may have a list, of at most 64 numbers")]
+    Lists,
     /// This setting is out of its range.
     #[error("invalid value for '--set <NAME=N>': {text}", text = range_text(.0))]
     Range(Range),

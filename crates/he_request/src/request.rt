@@ -3,13 +3,13 @@ ghost use Rattle.std.specs.Prelude.{IfOk};
 ghost use Rattle.he_request.specs.Requests.{HasTaskWorkers, IsRequest};
 
 use crate::connect::Connection;
+use crate::host::Host;
 use crate::live::Live;
 use crate::names::Names;
 use crate::refusal::Refusal;
 use crate::texts::{Task, Texts, texts_of};
 use crate::{check, compare, connect, draw, explain, host, live, names, order, replay, summary};
 use clap::{ArgMatches, Command};
-use he_addr::Ip;
 use std::alloc::{AllocError, Global};
 
 /// What a command line asks for.
@@ -19,8 +19,8 @@ pub enum Request<'a> {
     Connect(Connection<'a>),
     /// To find the addresses of a host.
     Names(Names<'a>),
-    /// To write the lines of this machine's addresses and routes, for these destinations alone where there are some.
-    Host(Vec<Ip>),
+    /// To write the addresses and routes of this machine.
+    Host(Host),
     /// To run a race on real sockets.
     Live(Live<'a>),
     /// To do something with the races of texts.
@@ -89,7 +89,10 @@ fn request_of<'a>(
     ensures { IfOk result IsRequest }
 {
     let Some((name, matches)) = matches.subcommand() else {
-        return Ok(Request::Host(Vec::new(alloc)));
+        return Ok(Request::Host(Host {
+            destinations: Vec::new(alloc),
+            is_json: false,
+        }));
     };
     match name {
         "connect" => match connect::connection_of(matches) {
@@ -97,12 +100,13 @@ fn request_of<'a>(
             Err(fault) => Err(Refusal::Option(fault)),
         },
         "names" => Ok(Request::Names(names::names_of(matches)?)),
-        "host" => Ok(Request::Host(host::destinations_of(alloc, matches)?)),
+        "host" => Ok(Request::Host(host::host_of(alloc, matches)?)),
         "live" => match live::live_of(matches) {
             Ok(live) => Ok(Request::Live(live)),
             Err(fault) => Err(Refusal::Option(fault)),
         },
         "draw" => draw::drawing_of(alloc, columns, matches).map(Request::Texts),
+        "compare" => compare::comparison_of(alloc, matches).map(Request::Texts),
         _ => texts_of(alloc, task_of(name, matches), None, matches).map(Request::Texts),
     }
 }
@@ -114,7 +118,6 @@ fn task_of(name: &str, matches: &ArgMatches<'_>) -> Task
     match name {
         "explain" => explain::task_of(matches),
         "summary" => summary::task_of(matches),
-        "compare" => Task::Compare,
         "order" => order::task_of(matches),
         "check" => check::task_of(matches),
         _ => replay::task_of(matches),

@@ -1,8 +1,8 @@
 //! The settings of a race, as a line gives them.
 ghost use Rattle.std.specs.Prelude.{◌≡◌, All, IfOk, Ok, codes, map, true};
 ghost use Rattle.clap.specs.Matches.{found_of};
-ghost use Rattle.he_request.specs.Words.{AsksChanges, HasNumber, connect_defaults, connect_settings, is_setting};
-ghost use Rattle.he_request.specs.Words.{last_number, number_for, values_of};
+ghost use Rattle.he_request.specs.Words.{AsksChanges, AsksSettings, HasNumber, connect_defaults, connect_settings};
+ghost use Rattle.he_request.specs.Words.{is_setting, last_number, number_for, values_of};
 
 use crate::arguments::value;
 use crate::limits::MOST_WAIT;
@@ -33,15 +33,21 @@ pub(crate) fn set<'a>(alloc: Global) -> Arg<'a> {
     value(alloc, "set", "NAME=N", SET_HELP).action(ArgAction::Append)
 }
 
-// The settings that the line gives. Of two for one name the later counts, and `--set limit=N` before `--timeout`.
+// The settings that the line gives.
 pub(crate) fn changes_of(matches: &ArgMatches<'_>) -> Result<Changes, OptionFault>
     ensures { IfOk result (AsksChanges ⟦<u32 as FromStr>⟧.from_str_gives (found_of matches.now)) }
 {
-    let texts = texts_of(matches);
+    changes_in(texts_of(matches), timeout_of(matches))
+}
+
+// The settings of these texts of `--set`, and of `--timeout`. Of two for one name the later counts, and `--set
+// limit=N` before `--timeout`.
+pub(crate) fn changes_in(texts: &[&str], timeout: Option<u64>) -> Result<Changes, OptionFault>
+    ensures { IfOk result (AsksSettings (map (λ text. text.now) texts.now) timeout) }
+{
     if !are_settings(texts) {
         return Err(OptionFault::Form);
     }
-    let timeout = timeout_of(matches);
     Changes::new(
         last_number(b"resolution=", texts),
         last_number(b"attempt=", texts),
@@ -53,7 +59,7 @@ pub(crate) fn changes_of(matches: &ArgMatches<'_>) -> Result<Changes, OptionFaul
 }
 
 // The texts of `--set`, in order.
-fn texts_of<'a>(matches: &'a ArgMatches<'_>) -> &'a [&'a str]
+pub(crate) fn texts_of<'a>(matches: &'a ArgMatches<'_>) -> &'a [&'a str]
     ensures { map (λ text. text.now) result.now ≡ values_of (found_of matches.now) (codes "set") }
 {
     matches.get_strs("set").unwrap_or(&[])

@@ -17,13 +17,27 @@ use std::str::FromStr;
 #[derive(Clone, Copy)]
 pub enum Task {
     /// To write this of each race, by at most so many workers, 1 to 64.
-    Write { content: Content, workers: u16 },
-    /// To compare its races with what they would be with other settings.
-    Compare,
+    Write {
+        content: Content,
+        workers: u16,
+    },
+    /// To compare the races of all texts with what they would be with other settings, as JSON or in a table, and in
+    /// lines for each race too, or in the table alone.
+    Compare {
+        is_json: bool,
+        tells_races: bool,
+    },
     /// To check it, and to explain its first fault, or each after which it goes on, or to warn of its slips.
-    Check { is_all: bool },
-    /// To sum its races up with those of the other texts, as JSON or in lines.
-    Summarize { is_json: bool },
+    Check {
+        is_all: bool,
+    },
+    /// To sum its races up with those of the other texts, as JSON, as metrics or in lines, with so many of the slowest
+    /// ones.
+    Summarize {
+        is_json: bool,
+        is_metrics: bool,
+        slowest: u16,
+    },
 }
 
 /// What is written of a race.
@@ -33,15 +47,15 @@ pub enum Content {
     Transcript { is_json: bool },
     /// In which order its addresses are to be tried.
     Order { is_json: bool },
-    /// Why it went as it did, for scripts.
-    Explanation { is_json: bool },
+    /// Why it went as it did, as JSON.
+    ExplanationJson,
     /// The same for a person to read.
     Story,
     /// Its picture, of so many columns.
     Picture { is_ascii: bool, width: u16 },
     /// The same as an SVG image.
     Image,
-    /// That image beside its story, a part of a page.
+    /// Its part of a page.
     Section,
 }
 
@@ -51,6 +65,9 @@ pub struct Texts<'a> {
     pub task: Task,
     /// The settings that each race has in place of its own.
     pub changes: Changes,
+    /// Those that it has in each row of a comparison, and the words for them; none where there is no comparison.
+    pub rows: Vec<Changes>,
+    pub labels: Vec<String>,
     /// The files that have them, one after the other, `-` for standard input; where there are none, it has one.
     pub files: Vec<&'a str>,
     /// Whether the files after one that has a fault are read too.
@@ -99,6 +116,8 @@ pub(crate) fn texts_of<'a>(
     Ok(Texts {
         task,
         changes: changes_of(matches)?,
+        rows: Vec::new(alloc),
+        labels: Vec::new(alloc),
         files: files_of(alloc, matches)?,
         goes_on: flag_of(matches, "keep-going") || task.tells_faults(),
         explains: flag_of(matches, "verbose") || matches!(task, Task::Check { .. }),

@@ -1,6 +1,5 @@
 pub mod Asking
 pub mod Begins
-pub mod Choices
 pub mod Events
 pub mod Faults
 pub mod Heard

@@ -1,12 +1,11 @@
 //! Which resolver is asked.
 
-ghost use Rattle.std.specs.Prelude.{◌≡◌, IfNone, IfSome};
+ghost use Rattle.std.specs.Prelude.{◌≡◌};
 ghost use Rattle.std.specs.Net.Socket.{socket_scope_id};
-ghost use Rattle.he_resolver.specs.Choices.{NamesChoice, NamesNone};
 ghost use Rattle.he_resolver.specs.Plans.{IsAt};
 
 use crate::limits::SERVER_PORT;
-use he_addr::{Ip, read_ip};
+use he_addr::Ip;
 use std::net::{IpAddr, Ipv4Addr, Ipv6Addr, SocketAddr};
 
 /// Which resolver is asked.
@@ -18,26 +17,6 @@ pub enum Choice {
     Server(SocketAddr),
     /// The system's resolver.
     System,
-}
-
-impl Choice {
-    /// The choice that a text names: `system`, or the address of a name server, alone or with a port, as
-    /// `192.0.2.1:5353` and `[2001:db8::1]:5353`; None for any other text, and for port 0. Without a port it is 53.
-    pub fn read(text: &[u8]) -> Option<Choice>
-        ensures some { IfSome result (NamesChoice text.now) }
-        ensures none { IfNone result (NamesNone text.now) }
-    {
-        if text == b"system".as_slice() {
-            return Some(Choice::System);
-        }
-        if let Some(ip) = read_ip(text) {
-            return Some(Choice::Server(server_at(ip)));
-        }
-        match SocketAddr::parse_ascii(text) {
-            Ok(server) if server.port() != 0 => Some(Choice::Server(server)),
-            _ => None,
-        }
-    }
 }
 
 // A name server at its usual port.

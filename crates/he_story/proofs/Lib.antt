@@ -1,4 +1,1 @@
-mod FloorLaws
-mod OrderLaws
-mod SpaceLaws
-mod TextLaws
+mod Pauses

@@ -1,8 +1,2 @@
-pub mod Beginning
-pub mod Closing
-pub mod Floor
-pub mod Happening
-pub mod Heading
-pub mod Parts
-pub mod Preferred
+pub mod Lines
 pub mod Story

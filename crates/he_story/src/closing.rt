@@ -1,155 +1,99 @@
-// The last lines of a story: answers that the race did not have, and how long an answer waited for an attempt.
+// The last lines of a story: answers that the race did not have, how long an answer waited for an attempt, and what a
+// floor would have changed.
 
 ghost use Rattle.std.specs.Prelude.{◌≡◌, ◌++◌, OnOk};
-ghost use Rattle.std.specs.List.{list_any};
-ghost use Rattle.he_addr.specs.Ip.{is_usable};
-ghost use Rattle.he_timeline.specs.Race.{reply_of};
-ghost use Rattle.he_timeline.specs.Timeline.{is_of};
-ghost use Rattle.he_explain.specs.Events.{end_event};
-ghost use Rattle.he_story.specs.Closing.{answer_text, closing_text, first_of, gap_text, missing_text, name_of, seen_text};
+ghost use Rattle.he_story.specs.Lines.{told};
+ghost use Rattle.he_story.specs.Story.{answer_facts, closing_facts, first_of, gap_facts, seen_facts, sooner_facts};
 
-use crate::parts::{LinePart, write_parts};
-use he_addr::{Family, Ip, Memory};
-use he_explain::end_tick;
-use he_plan::{Line, Transcript};
-use he_timeline::Timeline;
+use crate::said::Said;
+use crate::story::Story;
+use crate::words::name_of;
+use he_addr::{Family, Memory};
+use he_course::{Course, Ended, Seen};
+use he_plan::Line;
+use he_print::Part;
+use he_timeline::limits::MIN_FLOOR;
 use std::alloc::Allocator;
-
-fn name_of(family: Family) -> &'static [u8]
-    ensures { result.now ≡ name_of family }
-{
-    match family {
-        Family::V6 => b"AAAA",
-        Family::V4 => b"A",
-    }
-}
-
-fn has_usable(ips: &[Ip]) -> bool
-    ensures { result ≡ list_any is_usable ips.now }
-{
-    ips.iter().any(|ip| ip.is_usable())
-}
-
-fn is_of(family: Family, ip: Ip) -> bool
-    ensures { result ≡ is_of family ip }
-{
-    ip.family() == family
-}
 
 // The first attempt at an address of the family.
 fn first_of(family: Family, lines: &[Line]) -> Option<Line>
     ensures { result ≡ first_of family lines.now }
 {
     for line in lines {
-        if is_of(family, line.ip) {
+        if line.ip.family() == family {
             return Some(*line);
         }
     }
     None
 }
 
-// How long an answer, seen at this tick, waited for the first attempt at one of its addresses.
-fn write_gap<A: Allocator + Copy>(
-    family: Family,
-    seen: u64,
-    first: Option<Line>,
-    text: &mut Vec<u8, A>,
-) -> Result<(), Memory>
-    ensures { OnOk result (text.new.items ≡ text.old.items ++ gap_text family seen first) }
-{
-    let name = LinePart::Words(name_of(family));
-    match first {
-        Some(line) if seen < line.tick => write_parts(
-            &[
-                LinePart::Number(line.tick - seen),
-                LinePart::Words(b" ms passed between the "),
-                name,
-                LinePart::Words(b" answer and the first attempt at one of its addresses\n"),
-            ],
-            text,
-        ),
-        Some(_) => Ok(()),
-        None => write_parts(
-            &[
-                LinePart::Words(b"no address of the "),
-                name,
-                LinePart::Words(b" answer was tried\n"),
-            ],
-            text,
-        ),
+impl<A: Allocator> Story<A> {
+    // How long an answer, seen at this tick, waited for the first attempt at one of its addresses.
+    fn tell_gap(&mut self, family: Family, seen: u64, first: Option<Line>) -> Result<(), Memory>
+        ensures { OnOk result (told self.new ≡ told self.old ++ gap_facts family seen first) }
+    {
+        let name = Part::Words(name_of(family));
+        match first {
+            Some(line) if seen < line.tick => {
+                self.tell(
+                    Said::Passed(family),
+                    &[Part::Number(line.tick - seen), name],
+                )
+            }
+            Some(_) => Ok(()),
+            None => self.tell(Said::Untried(family), &[name]),
+        }
     }
-}
 
-// An answer that is seen at this tick, in a race that ended at `end`.
-fn write_seen<A: Allocator + Copy>(
-    family: Family,
-    end: u64,
-    lines: &[Line],
-    seen: u64,
-    ips: &[Ip],
-    text: &mut Vec<u8, A>,
-) -> Result<(), Memory>
-    ensures { OnOk result (text.new.items ≡ text.old.items ++ seen_text family end lines.now seen ips.now) }
-{
-    if end < seen {
-        let name = LinePart::Words(name_of(family));
-        return write_parts(
-            &[
-                LinePart::Words(b"the "),
-                name,
-                LinePart::Words(b" answer came at "),
-                LinePart::Number(seen),
-                LinePart::Words(b" ms, after the end\n"),
-            ],
-            text,
-        );
+    // An answer that is seen, in a race that ended at `end`.
+    fn tell_seen(
+        &mut self,
+        family: Family,
+        end: u64,
+        lines: &[Line],
+        seen: Seen,
+    ) -> Result<(), Memory>
+        ensures { OnOk result (told self.new ≡ told self.old ++ seen_facts family end lines.now seen) }
+    {
+        if end < seen.tick {
+            let name = Part::Words(name_of(family));
+            return self.tell(Said::AfterEnd(family), &[name, Part::Number(seen.tick)]);
+        }
+        if seen.usable == 0 {
+            return Ok(());
+        }
+        self.tell_gap(family, seen.tick, first_of(family, lines))
     }
-    if !has_usable(ips) {
-        return Ok(());
+
+    fn tell_answer<B: Allocator>(
+        &mut self,
+        course: &Course<B>,
+        family: Family,
+    ) -> Result<(), Memory>
+        ensures { OnOk result (told self.new ≡ told self.old ++ answer_facts course.now family) }
+    {
+        let lines = course.transcript.attempts();
+        match course.answer(family) {
+            Some(seen) => self.tell_seen(family, course.end(), lines, seen),
+            None => self.tell(Said::NoAnswer(family), &[Part::Words(name_of(family))]),
+        }
     }
-    write_gap(family, seen, first_of(family, lines), text)
-}
 
-// An answer that never comes.
-fn write_missing<A: Allocator + Copy>(family: Family, text: &mut Vec<u8, A>) -> Result<(), Memory>
-    ensures { OnOk result (text.new.items ≡ text.old.items ++ missing_text family) }
-{
-    let name = LinePart::Words(name_of(family));
-    write_parts(
-        &[
-            LinePart::Words(b"no "),
-            name,
-            LinePart::Words(b" answer came\n"),
-        ],
-        text,
-    )
-}
-
-fn write_answer<A: Allocator + Copy, B: Allocator>(
-    timeline: &Timeline<B>,
-    family: Family,
-    end: u64,
-    lines: &[Line],
-    text: &mut Vec<u8, A>,
-) -> Result<(), Memory>
-    ensures { OnOk result (text.new.items ≡ text.old.items ++ answer_text timeline.now family end lines.now
-        (reply_of timeline.now family)) }
-{
-    match timeline.answer(family) {
-        Some((tick, ips)) => write_seen(family, end, lines, timeline.seen(tick), ips, text),
-        None => write_missing(family, text),
+    pub(crate) fn tell_answers<B: Allocator>(&mut self, course: &Course<B>) -> Result<(), Memory>
+        ensures { OnOk result (told self.new ≡ told self.old ++ closing_facts course.now) }
+    {
+        self.tell_answer(course, Family::V6)?;
+        self.tell_answer(course, Family::V4)
     }
-}
 
-pub(crate) fn write_closing<A: Allocator + Copy, B: Allocator, C: Allocator>(
-    timeline: &Timeline<B>,
-    transcript: &Transcript<C>,
-    text: &mut Vec<u8, A>,
-) -> Result<(), Memory>
-    ensures { OnOk result (text.new.items ≡ text.old.items ++ closing_text timeline.now transcript.now) }
-{
-    let end = end_tick(transcript.result());
-    let lines = transcript.attempts();
-    write_answer(timeline, Family::V6, end, lines, text)?;
-    write_answer(timeline, Family::V4, end, lines, text)
+    // How the race would have ended with the least floor, where that is sooner.
+    pub(crate) fn tell_sooner(&mut self, sooner: Option<Ended>) -> Result<(), Memory>
+        ensures { OnOk result (told self.new ≡ told self.old ++ sooner_facts sooner) }
+    {
+        let Some(ended) = sooner else {
+            return Ok(());
+        };
+        self.tell(Said::WithFloor, &[Part::Number(MIN_FLOOR)])?;
+        self.tell_ending(ended)
+    }
 }

@@ -1,122 +1,59 @@
-// What happened in a race: its events, a line each.
+// The course of a race: its events, a line each.
 
-ghost use Rattle.std.specs.Prelude.{◌≡◌, ◌++◌, ◌∷◌, ◌+◌, [], codes, decimal, length, map, OnOk};
-ghost use Rattle.std.specs.List.{concat, flat_map};
-ghost use Rattle.he_addr.specs.Ip.{family_of};
-ghost use Rattle.he_addr.specs.Printing.{printed};
-ghost use Rattle.he_timeline.specs.Race.{reply_of};
-ghost use Rattle.he_explain.specs.Events.{is_seen_by};
-ghost use Rattle.he_explain.specs.Reasons.{all_attributes_of};
-ghost use Rattle.he_story.specs.Happening.{answer_of, answered_text, became_text, cause_text, event_line, events_text, happening_text, held_text, kind_text, listed_text, other_of, other_text, start_text, still_missing, taken, tick_width, turn_text};
+ghost use Rattle.std.specs.Prelude.{◌≡◌, ◌++◌, IfOk, OnOk};
+ghost use Rattle.std.specs.List.{flat_map};
+ghost use Rattle.he_story.specs.Lines.{became_facts, cause_facts, event_facts, happening_facts, held_facts, is_seen_by, is_short, is_short_to, kind_facts, late_at, late_facts, listed_facts, met_facts, other_facts, other_of, short_pauses, start_facts, taken, told};
 
-use crate::parts::{
-    LinePart, unless, width_of, write_aligned, write_counted, write_parts, write_words,
-};
+use crate::preferred::width_of;
+use crate::said::Said;
+use crate::story::Story;
+use crate::words::{name_of, noun, turn_words};
 use he_addr::{Family, Memory};
-use he_explain::{
-    Cause, Event, EventKind, Listed, Start, Turn, collect_events, end_tick, sort_events,
-};
-use he_plan::{Line, Transcript};
-use he_select::DestinationAttributes;
-use he_timeline::Timeline;
-use std::alloc::Allocator;
+use he_course::{Cause, Course, Event, EventKind, Listed, Seen, Start};
+use he_plan::Line;
+use he_print::Part;
+use std::alloc::{AllocError, Allocator};
 
-// Why an attempt starts now.
-fn write_cause<A: Allocator + Copy>(cause: Cause, text: &mut Vec<u8, A>) -> Result<(), Memory>
-    ensures { OnOk result (text.new.items ≡ text.old.items ++ cause_text cause) }
+/// A pause of fewer milliseconds is no line of a story.
+pub const LEAST_PAUSE: u64 = 5;
+
+// Whether it is a pause that is too short for a line.
+fn is_short(event: &Event) -> bool
+    ensures { result ≡ is_short event.now.tick event.now.kind }
 {
-    match cause {
-        Cause::AaaaAnswer => write_words(b"the AAAA answer is there", text),
-        Cause::BothAnswers => write_words(b"both answers are there", text),
-        Cause::ResolutionDelay => write_words(b"the wait for the AAAA answer is over", text),
-        Cause::AttemptDelay(place, delay) => write_parts(
-            &[
-                LinePart::Number(delay),
-                LinePart::Words(b" ms after the start of attempt "),
-                LinePart::Place(place),
-            ],
-            text,
-        ),
-        Cause::Floor(place, floor) => write_parts(
-            &[
-                LinePart::Words(b"all before have failed, and the floor of "),
-                LinePart::Number(floor),
-                LinePart::Words(b" ms after attempt "),
-                LinePart::Place(place),
-                LinePart::Words(b" is over"),
-            ],
-            text,
-        ),
-        Cause::LastFailure(_) => write_parts(&[LinePart::Words(b"all before have failed")], text),
-        Cause::LaterAnswer(Family::V6) => write_words(b"it came with the AAAA answer", text),
-        Cause::LaterAnswer(Family::V4) => write_words(b"it came with the A answer", text),
+    match event.kind {
+        EventKind::Paused(end) => end.saturating_sub(event.tick) < LEAST_PAUSE,
+        _ => false,
     }
 }
 
-fn held_text(held: bool) -> &'static [u8]
-    ensures { result.now ≡ held_text held }
+// Whether it is such a pause up to this tick.
+fn is_short_to(until: u64, event: &Event) -> bool
+    ensures { result ≡ is_short_to until event.now.tick event.now.kind }
 {
-    if held {
-        b", late because of a pause"
-    } else {
-        b""
+    match event.kind {
+        EventKind::Paused(end) => end.saturating_sub(event.tick) < LEAST_PAUSE && end == until,
+        _ => false,
     }
 }
 
-// Which address it is that comes next in the list.
-fn turn_text(turn: Turn, family: Family) -> &'static [u8]
-    ensures { result.now ≡ turn_text turn family }
+// The pauses that are too short for a line. They are few, and each line asks for them.
+fn short_pauses<A: Allocator>(alloc: A, events: &[Event]) -> Result<Vec<Event, A>, AllocError>
+    ensures { IfOk result (λ pauses. pauses.items ≡ short_pauses events.now) }
 {
-    match (turn, family) {
-        (Turn::Leads, Family::V6) => b", IPv6 first",
-        (Turn::Leads, Family::V4) => b", IPv4 first",
-        (Turn::InTurn, _) => b", IPv6 and IPv4 in turn",
-        (Turn::RunOut, Family::V6) => b", IPv6 alone is left",
-        (Turn::RunOut, Family::V4) => b", IPv4 alone is left",
-    }
+    events
+        .iter()
+        .copied()
+        .filter(|event| is_short(event))
+        .collect(alloc)
 }
 
-// The place of an attempt's address in the list of those that are known.
-fn write_listed<A: Allocator + Copy>(
-    listed: Listed,
-    family: Family,
-    text: &mut Vec<u8, A>,
-) -> Result<(), Memory>
-    ensures { OnOk result (text.new.items ≡ text.old.items ++ listed_text listed family) }
+// How long the client slept up to a tick, where that is too short for a line.
+fn late_at(pauses: &[Event], until: u64) -> Option<u64>
+    ensures { result ≡ late_at pauses.now until }
 {
-    if listed.count == 1 {
-        return write_words(b"; the only address known", text);
-    }
-    write_parts(
-        &[
-            LinePart::Words(b"; number "),
-            LinePart::Place(listed.place),
-            LinePart::Words(b" of "),
-            LinePart::Number(listed.count as u64),
-            LinePart::Words(b" known"),
-            LinePart::Words(turn_text(listed.turn, family)),
-        ],
-        text,
-    )
-}
-
-// attempt PLACE to ADDRESS: CAUSE; LISTED
-fn write_start<A: Allocator + Copy>(start: Start, text: &mut Vec<u8, A>) -> Result<(), Memory>
-    ensures { OnOk result (text.new.items ≡ text.old.items ++ start_text start) }
-{
-    write_parts(
-        &[
-            LinePart::Words(b"attempt "),
-            LinePart::Place(start.place),
-            LinePart::Words(b" to "),
-            LinePart::Address(start.ip),
-            LinePart::Words(b": "),
-        ],
-        text,
-    )?;
-    write_cause(start.cause, text)?;
-    write_words(held_text(start.held), text)?;
-    write_listed(start.listed, start.ip.family(), text)
+    let pause = pauses.iter().find(|pause| is_short_to(until, pause))?;
+    Some(until.saturating_sub(pause.tick))
 }
 
 // The time from the start of an attempt to a tick.
@@ -129,46 +66,6 @@ fn taken(lines: &[Line], place: usize, tick: u64) -> u64
     }
 }
 
-// What became of an attempt, and after which time.
-fn write_became<A: Allocator + Copy>(
-    lines: &[Line],
-    tick: u64,
-    place: usize,
-    what: &[u8],
-    text: &mut Vec<u8, A>,
-) -> Result<(), Memory>
-    ensures { OnOk result (text.new.items ≡ text.old.items ++ became_text lines.now tick place what.now) }
-{
-    write_parts(
-        &[
-            LinePart::Words(b"attempt "),
-            LinePart::Place(place),
-            LinePart::Words(what),
-            LinePart::Number(taken(lines, place, tick)),
-            LinePart::Words(b" ms"),
-        ],
-        text,
-    )
-}
-
-fn is_seen_by<A: Allocator>(timeline: &Timeline<A>, family: Family, tick: u64) -> bool
-    ensures { result ≡ is_seen_by timeline.now tick (reply_of timeline.now family) }
-{
-    match timeline.answer(family) {
-        Some((answer, _)) => timeline.seen(answer) <= tick,
-        None => false,
-    }
-}
-
-fn answer_of(family: Family) -> &'static [u8]
-    ensures { result.now ≡ answer_of family }
-{
-    match family {
-        Family::V6 => b"AAAA answer: ",
-        Family::V4 => b"A answer: ",
-    }
-}
-
 fn other_of(family: Family) -> Family
     ensures { result ≡ other_of family }
 {
@@ -178,168 +75,209 @@ fn other_of(family: Family) -> Family
     }
 }
 
-// The answer of the other family is still to come.
-fn still_missing(family: Family) -> &'static [u8]
-    ensures { result.now ≡ still_missing family }
+fn is_seen_by(seen: Option<Seen>, tick: u64) -> bool
+    ensures { result ≡ is_seen_by tick seen }
 {
-    match family {
-        Family::V6 => b"; the A answer is not there yet",
-        Family::V4 => b"; the AAAA answer is not there yet",
+    match seen {
+        Some(seen) => seen.tick <= tick,
+        None => false,
     }
 }
 
-fn write_name<A: Allocator + Copy>(family: Family, text: &mut Vec<u8, A>) -> Result<(), Memory>
-    ensures { OnOk result (text.new.items ≡ text.old.items ++ answer_of family) }
-{
-    write_words(answer_of(family), text)
-}
-
-// Whether the answer of the other family is still to come at the tick.
-fn write_other<A: Allocator + Copy, B: Allocator>(
-    timeline: &Timeline<B>,
-    tick: u64,
-    family: Family,
-    text: &mut Vec<u8, A>,
-) -> Result<(), Memory>
-    ensures { OnOk result (text.new.items ≡ text.old.items ++ other_text timeline.now tick family) }
-{
-    let is_seen = is_seen_by(timeline, other_of(family), tick);
-    write_words(unless(is_seen, still_missing(family)), text)
-}
-
-// An answer with so many addresses, and whether the other one is still to come.
-fn write_answered<A: Allocator + Copy, B: Allocator>(
-    timeline: &Timeline<B>,
-    tick: u64,
-    family: Family,
-    count: usize,
-    text: &mut Vec<u8, A>,
-) -> Result<(), Memory>
-    ensures { OnOk result (text.new.items ≡ text.old.items ++ answered_text timeline.now tick family count) }
-{
-    write_name(family, text)?;
-    write_counted(count, b" address to try", b" addresses to try", text)?;
-    write_other(timeline, tick, family, text)
-}
-
-fn write_kind<A: Allocator + Copy, B: Allocator>(
-    timeline: &Timeline<B>,
-    lines: &[Line],
-    event: Event,
-    text: &mut Vec<u8, A>,
-) -> Result<(), Memory>
-    ensures { OnOk result (text.new.items ≡ text.old.items ++ kind_text timeline.now lines.now event.tick event.kind) }
-{
-    let tick = event.tick;
-    match event.kind {
-        EventKind::Paused(end) => write_until(
-            b"pause: the client sees and starts nothing until ",
-            end,
-            b" ms",
-            text,
-        ),
-        EventKind::Answered(family, count) => write_answered(timeline, tick, family, count, text),
-        EventKind::Waits(end) => write_until(
-            b"wait for the AAAA answer until ",
-            end,
-            b" ms (Resolution Delay)",
-            text,
-        ),
-        EventKind::DelayOver => write_words(b"the wait is over, without the AAAA answer", text),
-        EventKind::Failed(place) => write_became(lines, tick, place, b" failed after ", text),
-        EventKind::Started(start) => write_start(start, text),
-        EventKind::Won(place) => write_became(lines, tick, place, b" connected after ", text),
-        EventKind::Exhausted => write_words(b"nothing is left to try", text),
-        EventKind::Limit => write_words(b"the limit: the race is given up", text),
-        EventKind::Cancelled(place) => write_became(lines, tick, place, b" cancelled after ", text),
+impl<A: Allocator> Story<A> {
+    fn tell_late(&mut self, late: Option<u64>) -> Result<(), Memory>
+        ensures { OnOk result (told self.new ≡ told self.old ++ late_facts late) }
+    {
+        match late {
+            Some(late) => self.tell(Said::Late, &[Part::Number(late)]),
+            None => Ok(()),
+        }
     }
-}
 
-fn write_until<'t, A: Allocator + Copy>(
-    before: &'t [u8],
-    end: u64,
-    behind: &'t [u8],
-    text: &mut Vec<u8, A>,
-) -> Result<(), Memory>
-    ensures { OnOk result (text.new.items ≡ text.old.items ++ concat (before.now ∷ decimal end ∷ behind.now ∷ [])) }
-{
-    write_parts(
-        &[
-            LinePart::Words(before),
-            LinePart::Number(end),
-            LinePart::Words(behind),
-        ],
-        text,
-    )
-}
-
-// TICK ms  EVENT
-fn write_event<A: Allocator + Copy, B: Allocator>(
-    timeline: &Timeline<B>,
-    lines: &[Line],
-    width: usize,
-    event: Event,
-    text: &mut Vec<u8, A>,
-) -> Result<(), Memory>
-    ensures { OnOk result (text.new.items ≡ text.old.items ++ event_line timeline.now lines.now width event) }
-{
-    write_aligned(width, event.tick, text)?;
-    write_words(b" ms  ", text)?;
-    write_kind(timeline, lines, event, text)?;
-    write_words(b"\n", text)
-}
-
-fn write_events<A: Allocator + Copy, B: Allocator>(
-    timeline: &Timeline<B>,
-    lines: &[Line],
-    width: usize,
-    events: &[&Event],
-    text: &mut Vec<u8, A>,
-) -> Result<(), Memory>
-    ensures { OnOk result (text.new.items ≡ text.old.items ++ flat_map (event_line timeline.now lines.now width) (map
-        (λ event. event.now) events.now)) }
-{
-    for event in events {
-        write_event(timeline, lines, width, **event, text)?;
+    // Why an attempt starts now.
+    fn tell_cause(&mut self, cause: Cause) -> Result<(), Memory>
+        ensures { OnOk result (told self.new ≡ told self.old ++ cause_facts cause) }
+    {
+        match cause {
+            Cause::AaaaAnswer => self.tell(Said::AaaaThere, &[]),
+            Cause::BothAnswers => self.tell(Said::BothThere, &[]),
+            Cause::ResolutionDelay => self.tell(Said::WaitIsOver, &[]),
+            Cause::AttemptDelay(place, delay) => {
+                self.tell(Said::AfterStart, &[Part::Number(delay), Part::Place(place)])
+            }
+            Cause::Floor(place, floor) => {
+                let parts = [Part::Number(floor), Part::Place(place)];
+                self.tell(Said::FloorIsOver, &parts)
+            }
+            Cause::LastFailure(_) => self.tell(Said::AllFailed, &[]),
+            Cause::LaterAnswer(family) => {
+                self.tell(Said::CameWith(family), &[Part::Words(name_of(family))])
+            }
+        }
     }
-    Ok(())
-}
 
-// How wide the ticks of the events are.
-fn tick_width<A: Allocator>(transcript: &Transcript<A>) -> usize
-    ensures { result ≡ tick_width transcript.now }
-{
-    width_of(end_tick(transcript.result())) + 2
-}
+    // Whether a pause held the attempt back, and for how long where that pause has no line.
+    fn tell_held(&mut self, held: bool, late: Option<u64>) -> Result<(), Memory>
+        ensures { OnOk result (told self.new ≡ told self.old ++ held_facts held late) }
+    {
+        if !held {
+            return Ok(());
+        }
+        match late {
+            Some(_) => self.tell_late(late),
+            None => self.tell(Said::HeldBack, &[]),
+        }
+    }
 
-// The events of a race in order of ticks; its sorted addresses are given.
-#[tactic(auto, unfolding(crate::specs::Happening::events_text))]
-fn write_course<A: Allocator + Copy, B: Allocator, C: Allocator>(
-    alloc: A,
-    timeline: &Timeline<B>,
-    sorted: &[DestinationAttributes],
-    transcript: &Transcript<C>,
-    text: &mut Vec<u8, A>,
-) -> Result<(), Memory>
-    requires { sorted.now ≡ all_attributes_of timeline.now }
-    ensures { OnOk result (text.new.items ≡ text.old.items ++ events_text timeline.now transcript.now) }
-{
-    let width = tick_width(transcript);
-    let events = collect_events(alloc, timeline, sorted, transcript)?;
-    let by_tick = sort_events(alloc, &events, end_tick(transcript.result()))?;
-    write_events(timeline, transcript.attempts(), width, &by_tick, text)
-}
+    // The place of an attempt's address in the list of those that are known.
+    fn tell_listed(&mut self, listed: Listed, family: Family) -> Result<(), Memory>
+        ensures { OnOk result (told self.new ≡ told self.old ++ listed_facts listed) }
+    {
+        if listed.count == 1 {
+            return self.tell(Said::OnlyOne, &[]);
+        }
+        let (place, count) = (Part::Place(listed.place), Part::Number(listed.count as u64));
+        let turn = Part::Words(turn_words(listed.turn, family));
+        self.tell(Said::Turn(listed.turn), &[place, count, turn])
+    }
 
-pub(crate) fn write_happening<A: Allocator + Copy, B: Allocator, C: Allocator>(
-    alloc: A,
-    timeline: &Timeline<B>,
-    sorted: &[DestinationAttributes],
-    transcript: &Transcript<C>,
-    text: &mut Vec<u8, A>,
-) -> Result<(), Memory>
-    requires { sorted.now ≡ all_attributes_of timeline.now }
-    ensures { OnOk result (text.new.items ≡ text.old.items ++ happening_text timeline.now transcript.now) }
-{
-    write_words(b"what happened:\n", text)?;
-    write_course(alloc, timeline, sorted, transcript, text)
+    fn tell_start(&mut self, start: Start, late: Option<u64>) -> Result<(), Memory>
+        ensures { OnOk result (told self.new ≡ told self.old ++ start_facts start late) }
+    {
+        let (place, ip) = (Part::Place(start.place), Part::Ip(start.ip));
+        self.tell(Said::Starts, &[place, ip])?;
+        self.tell_cause(start.cause)?;
+        self.tell_held(start.held, late)?;
+        self.tell_listed(start.listed, start.ip.family())
+    }
+
+    // What became of an attempt, and after which time.
+    fn tell_became(
+        &mut self,
+        said: Said,
+        place: usize,
+        taken: u64,
+        late: Option<u64>,
+    ) -> Result<(), Memory>
+        ensures { OnOk result (told self.new ≡ told self.old ++ became_facts said place taken late) }
+    {
+        self.tell(said, &[Part::Place(place), Part::Number(taken)])?;
+        self.tell_late(late)
+    }
+
+    // The answer of the family, where it is still to come.
+    fn tell_other(&mut self, family: Family, is_seen: bool) -> Result<(), Memory>
+        ensures { OnOk result (told self.new ≡ told self.old ++ other_facts family is_seen) }
+    {
+        if is_seen {
+            return Ok(());
+        }
+        self.tell(Said::StillMissing(family), &[Part::Words(name_of(family))])
+    }
+
+    // What the client meets: its pauses, the answers, and the wait for the AAAA answer.
+    fn tell_met<B: Allocator>(
+        &mut self,
+        course: &Course<B>,
+        event: Event,
+        late: Option<u64>,
+    ) -> Result<(), Memory>
+        ensures { OnOk result (told self.new ≡ told self.old ++ met_facts course.now event.tick late event.kind) }
+    {
+        match event.kind {
+            EventKind::Paused(end) => self.tell(Said::Paused, &[Part::Number(end)]),
+            EventKind::Answered(family, count) => {
+                let other = other_of(family);
+                let noun = Part::Words(noun(count, b"address", b"addresses"));
+                self.tell(Said::Answered(family), &[Part::Words(name_of(family))])?;
+                self.tell_late(late)?;
+                self.tell(Said::ToTry, &[Part::Number(count as u64), noun])?;
+                self.tell_other(other, is_seen_by(course.answer(other), event.tick))
+            }
+            EventKind::Waits(end) => self.tell(Said::Waits, &[Part::Number(end)]),
+            EventKind::DelayOver => {
+                self.tell(Said::DelayOver, &[])?;
+                self.tell_late(late)
+            }
+            _ => Ok(()),
+        }
+    }
+
+    fn tell_kind<B: Allocator>(
+        &mut self,
+        course: &Course<B>,
+        event: Event,
+        late: Option<u64>,
+    ) -> Result<(), Memory>
+        ensures { OnOk result (told self.new ≡ told self.old ++ kind_facts course.now event.tick late event.kind) }
+    {
+        let lines = course.transcript.attempts();
+        match event.kind {
+            EventKind::Started(start) => self.tell_start(start, late),
+            EventKind::Failed(place) => {
+                let taken = taken(lines, place, event.tick);
+                self.tell_became(Said::Failed, place, taken, late)
+            }
+            EventKind::Won(place) => {
+                let taken = taken(lines, place, event.tick);
+                self.tell_became(Said::Won, place, taken, late)
+            }
+            EventKind::Cancelled(place) => {
+                let taken = taken(lines, place, event.tick);
+                self.tell_became(Said::Cancelled, place, taken, None)
+            }
+            EventKind::Exhausted => self.tell(Said::Exhausted, &[]),
+            EventKind::Limit => self.tell(Said::Limit, &[]),
+            EventKind::Paused(_)
+            | EventKind::Answered(_, _)
+            | EventKind::Waits(_)
+            | EventKind::DelayOver => self.tell_met(course, event, late),
+        }
+    }
+
+    // The pauses are the short ones of the course.
+    fn tell_event<B: Allocator>(
+        &mut self,
+        course: &Course<B>,
+        pauses: &[Event],
+        width: usize,
+        event: Event,
+    ) -> Result<(), Memory>
+        requires { pauses.now ≡ short_pauses course.now.events.items }
+        ensures { OnOk result (told self.new ≡ told self.old ++ event_facts course.now event) }
+    {
+        if is_short(&event) {
+            return Ok(());
+        }
+        self.tell(Said::At, &[Part::Aligned(width, event.tick)])?;
+        self.tell_kind(course, event, late_at(pauses, event.tick))
+    }
+
+    pub(crate) fn tell_events<B: Allocator>(
+        &mut self,
+        alloc: A,
+        course: &Course<B>,
+    ) -> Result<(), Memory>
+        ensures { OnOk result (told self.new ≡ told self.old ++ happening_facts course.now) }
+    {
+        let pauses = short_pauses(alloc, &course.events)?;
+        self.tell(Said::Course, &[])?;
+        self.tell_each(course, &pauses, width_of(course.end()))
+    }
+
+    fn tell_each<B: Allocator>(
+        &mut self,
+        course: &Course<B>,
+        pauses: &[Event],
+        width: usize,
+    ) -> Result<(), Memory>
+        requires { pauses.now ≡ short_pauses course.now.events.items }
+        ensures { OnOk result (told self.new ≡ told self.old ++ flat_map (event_facts course.now)
+            course.now.events.items) }
+    {
+        for event in &course.events {
+            self.tell_event(course, pauses, width, *event)?;
+        }
+        Ok(())
+    }
 }

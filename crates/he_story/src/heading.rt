@@ -1,111 +1,80 @@
-// The first line of a story: which race it is, and how it ended.
+// The first line of a story: which race it is, how it ended, and what it lost.
 
-ghost use Rattle.std.specs.Prelude.{◌≡◌, ◌++◌, option_map, OnOk};
-ghost use Rattle.he_story.specs.Heading.{ending_text, heading_text, not_connected_text, won_text};
+ghost use Rattle.std.specs.Prelude.{◌≡◌, ◌++◌, IfOk, OnOk};
+ghost use Rattle.std.specs.List.{flat_map};
+ghost use Rattle.he_print.specs.Parts.{fact_of};
+ghost use Rattle.he_story.specs.Lines.{told};
+ghost use Rattle.he_story.specs.Story.{ending_facts, heading_facts, race_facts};
 
-use crate::parts::{LinePart, unless, write_counted, write_parts, write_words};
+use crate::said::Said;
+use crate::story::Story;
+use crate::words::noun;
 use he_addr::Memory;
-use he_plan::{Line, Outcome3, Transcript};
+use he_course::{Course, Ended};
+use he_plan::Outcome3;
+use he_print::Part;
 use std::alloc::Allocator;
 
-fn write_won<A: Allocator + Copy>(
-    tick: u64,
-    count: usize,
-    winner: Option<&Line>,
-    text: &mut Vec<u8, A>,
-) -> Result<(), Memory>
-    ensures { OnOk result (text.new.items ≡ text.old.items ++ won_text tick count (option_map
-        (λ line. line.now) winner.entry)) }
-{
-    let Some(line) = winner else {
-        return Ok(());
-    };
-    write_parts(
-        &[
-            LinePart::Words(b"connected to "),
-            LinePart::Address(line.ip),
-            LinePart::Words(b" after "),
-            LinePart::Number(tick),
-            LinePart::Words(b" ms, by attempt "),
-            LinePart::Place(line.place),
-            LinePart::Words(b" of "),
-            LinePart::Number(count as u64),
-        ],
-        text,
-    )
-}
-
-// How the race ended without a connection, at a tick, and after how many attempts.
-fn write_not_connected<'t, A: Allocator + Copy>(
-    how: &'t [u8],
-    tick: u64,
-    between: &'t [u8],
-    count: usize,
-    text: &mut Vec<u8, A>,
-) -> Result<(), Memory>
-    ensures { OnOk result (text.new.items ≡ text.old.items ++ not_connected_text how.now tick between.now count) }
-{
-    let parts = [
-        LinePart::Words(how),
-        LinePart::Number(tick),
-        LinePart::Words(between),
-    ];
-    write_parts(&parts, text)?;
-    write_counted(count, b" attempt", b" attempts", text)
-}
-
-fn write_ending<A: Allocator + Copy>(
-    lines: &[Line],
-    ending: Outcome3,
-    text: &mut Vec<u8, A>,
-) -> Result<(), Memory>
-    ensures { OnOk result (text.new.items ≡ text.old.items ++ ending_text lines.now ending) }
-{
-    let count = lines.len();
-    match ending {
-        Outcome3::Won(place, tick) => write_won(tick, count, lines.get(place), text),
-        Outcome3::Exhausted(tick) => {
-            let how = b"not connected: nothing is left to try after ";
-            write_not_connected(how, tick, b" ms and ", count, text)
+impl<A: Allocator> Story<A> {
+    pub(crate) fn tell_ending(&mut self, ended: Ended) -> Result<(), Memory>
+        ensures { OnOk result (told self.new ≡ told self.old ++ ending_facts ended) }
+    {
+        let attempts = Part::Number(ended.attempts as u64);
+        let noun = Part::Words(noun(ended.attempts, b"attempt", b"attempts"));
+        match ended.result {
+            Outcome3::Won(_, tick) => match ended.winner {
+                Some(line) => self.tell(Said::Connected, &[Part::Ip(line.ip), Part::Number(tick)]),
+                None => Ok(()),
+            },
+            Outcome3::Exhausted(tick) => {
+                self.tell(Said::NothingLeft, &[Part::Number(tick), attempts, noun])
+            }
+            Outcome3::Limit(tick) => {
+                self.tell(Said::LimitReached, &[Part::Number(tick), attempts, noun])
+            }
         }
-        Outcome3::Limit(tick) => {
-            let how = b"not connected by the limit of ";
-            write_not_connected(how, tick, b" ms, after ", count, text)
-        }
+    }
+
+    // Which race it is, after a gap, and how it ended.
+    fn tell_race<B: Allocator>(
+        &mut self,
+        gap: &'static [u8],
+        course: &Course<B>,
+    ) -> Result<(), Memory>
+        ensures { OnOk result (told self.new ≡ told self.old ++ race_facts course.now) }
+    {
+        let number = Part::Number(course.number as u64);
+        self.tell(
+            Said::Race,
+            &[Part::Words(gap), number, Part::Number(course.line)],
+        )?;
+        self.tell_ending(course.ended)
+    }
+
+    // After a blank line where it is not the first race.
+    pub(crate) fn tell_heading<B: Allocator>(&mut self, course: &Course<B>) -> Result<(), Memory>
+        ensures { OnOk result (told self.new ≡ told self.old ++ heading_facts course.now) }
+    {
+        self.tell_race(noun(course.number, b"", b"\n"), course)?;
+        self.tell_verdict(course)
     }
 }
 
-// How the race of the transcript ended.
-pub(crate) fn write_ending_of<A: Allocator + Copy, B: Allocator>(
-    transcript: &Transcript<B>,
-    text: &mut Vec<u8, A>,
-) -> Result<(), Memory>
-    ensures { OnOk result (text.new.items ≡ text.old.items ++ ending_text transcript.now.lines transcript.now.result) }
+/// Which race it is and how it ended, in the words of a story, for other printers.
+///
+/// # Errors
+///
+/// `Memory` where an allocation was refused.
+pub fn heading_parts<A: Allocator, B: Allocator>(
+    alloc: A,
+    course: &Course<B>,
+) -> Result<Vec<Part<Said>, A>, Memory>
+    ensures { IfOk result (λ parts. flat_map fact_of parts.items ≡ race_facts course.now) }
 {
-    write_ending(transcript.attempts(), transcript.result(), text)
-}
-
-// race NUMBER, line LINE: ENDING, behind a blank line where it is not the first race.
-pub(crate) fn write_heading<A: Allocator + Copy, B: Allocator>(
-    number: usize,
-    line: u64,
-    transcript: &Transcript<B>,
-    text: &mut Vec<u8, A>,
-) -> Result<(), Memory>
-    ensures { OnOk result (text.new.items ≡ text.old.items ++ heading_text number line transcript.now) }
-{
-    let gap = unless(number == 1, b"\n");
-    write_parts(
-        &[
-            LinePart::Words(gap),
-            LinePart::Words(b"race "),
-            LinePart::Number(number as u64),
-            LinePart::Words(b", line "),
-            LinePart::Number(line),
-            LinePart::Words(b": "),
-        ],
-        text,
-    )?;
-    write_ending_of(transcript, text)?;
-    write_words(b"\n", text)
+    let mut story = Story {
+        parts: Vec::new(alloc),
+    };
+    story.tell_race(b"", course)?;
+    let Story { parts } = story;
+    Ok(parts)
 }

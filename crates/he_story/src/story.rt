@@ -1,84 +1,79 @@
 // The story of a race, for a person to read.
 
-ghost use Rattle.std.specs.Prelude.{◌≡◌, ◌++◌, [], IfOk, OnOk, OnErr};
-ghost use Rattle.he_explain.specs.Reasons.{all_attributes_of};
-ghost use Rattle.he_story.specs.Story.{IsStory, Tells, story_text};
+ghost use Rattle.std.specs.Prelude.{◌≡◌, ◌++◌, ◌∷◌, OnOk, OnErr};
+ghost use Rattle.std.specs.List.{flat_map};
+ghost use Rattle.he_print.specs.Parts.{fact_of};
+ghost use Rattle.he_print.specs.declared.part.Fact.TheVariants as facts;
+ghost use Rattle.he_story.specs.Lines.{told};
+ghost use Rattle.he_story.specs.Story.{Tells, story_facts};
 
-use crate::closing::write_closing;
-use crate::floor::{floored_transcript, is_floored, write_floor};
-use crate::happening::write_happening;
-use crate::heading::write_heading;
-use crate::preferred::write_preferred;
+use crate::said::Said;
+use crate::words::{cut, words_of};
 use he_addr::Memory;
-use he_plan::{Transcript, sorted_attributes, transcript_of};
-use he_timeline::Timeline;
+use he_course::Course;
+use he_print::{Part, push_parts, write_parts};
 use std::alloc::Allocator;
 
-#[tactic(auto, unfolding(he_explain::specs::Reasons::all_attributes_of))]
-fn write_told<A: Allocator + Copy, B: Allocator, C: Allocator>(
-    alloc: A,
-    timeline: &Timeline<B>,
-    number: usize,
-    line: u64,
-    transcript: &Transcript<C>,
-    with_floor: &Transcript<C>,
-    text: &mut Vec<u8, A>,
-) -> Result<(), Memory>
-    ensures { OnOk result (text.new.items ≡ text.old.items ++ story_text number line timeline.now transcript.now
-        with_floor.now) }
-{
-    let sorted = sorted_attributes(alloc, timeline)?;
-    write_heading(number, line, transcript, text)?;
-    write_preferred(timeline, &sorted, text)?;
-    write_happening(alloc, timeline, &sorted, transcript, text)?;
-    write_closing(timeline, transcript, text)?;
-    write_floor(timeline, transcript, with_floor, text)
+// Room for the parts of most stories: those of a line, and those of the other lines.
+const PARTS_PER_LINE: usize = 24;
+
+const OTHER_PARTS: usize = 64;
+
+// What is told so far.
+#[derive(Drop)]
+pub(crate) struct Story<A: Allocator> {
+    pub(crate) parts: Vec<Part<Said>, A>,
 }
 
-// The story in a text of its own, so that nothing is appended of one that memory does not suffice for.
-fn story<A: Allocator + Copy, B: Allocator>(
-    alloc: A,
-    timeline: &Timeline<B>,
-    number: usize,
-    line: u64,
-) -> Result<Vec<u8, A>, Memory>
-    ensures { IfOk result (λ text. IsStory number line text.items timeline.now) }
-{
-    let transcript = transcript_of(alloc, timeline)?;
-    let mut text = Vec::new(alloc);
-    if is_floored(timeline, &transcript) {
-        let told = &transcript;
-        write_told(alloc, timeline, number, line, told, told, &mut text)?;
-        return Ok(text);
+impl<A: Allocator> Story<A> {
+    // Tells something, with the parts that stand in its words.
+    pub(crate) fn tell(&mut self, said: Said, parts: &[Part<Said>]) -> Result<(), Memory>
+        ensures { OnOk result (told self.new ≡ told self.old ++ (facts.Said said ∷ flat_map fact_of parts.now)) }
+    {
+        let (first, mut rest) = cut(words_of(said));
+        push_parts(&[Part::Says(said, first)], &mut self.parts)?;
+        for part in parts {
+            let (words, more) = cut(rest);
+            push_parts(&[*part, Part::Words(words)], &mut self.parts)?;
+            rest = more;
+        }
+        Ok(())
     }
-    let with_floor = floored_transcript(alloc, timeline)?;
-    write_told(
-        alloc,
-        timeline,
-        number,
-        line,
-        &transcript,
-        &with_floor,
-        &mut text,
-    )?;
-    Ok(text)
+
+    fn tell_all<B: Allocator>(&mut self, alloc: A, course: &Course<B>) -> Result<(), Memory>
+        ensures { OnOk result (told self.new ≡ told self.old ++ story_facts course.now) }
+    {
+        self.tell_heading(course)?;
+        self.tell_preferred(&course.addresses)?;
+        self.tell_events(alloc, course)?;
+        self.tell_answers(course)?;
+        self.tell_sooner(course.sooner)?;
+        self.tell(Said::End, &[])
+    }
 }
 
-/// Appends the story of the race: a line on how it ended; its usable addresses in order of preference, each with its
-/// source and what puts it behind the one before; its events in order of ticks, each behind its tick in milliseconds;
-/// then the answers that did not come, or came after the end, how long an answer waited for the first attempt at one
-/// of its addresses, and how the race would have ended with a floor, if earlier. `number` is the race's number in its
-/// input, counted from 1, and `line` the line at which it begins. After `Memory` the vector holds what it held.
+/// Appends the story of a course to `out`: a line on how the race ended and what it lost; its usable addresses in
+/// order of preference, each with its source and what puts it after the one before; its events in order of ticks,
+/// each after its tick in milliseconds; then the answers that did not come, or came after the end, how long an answer
+/// waited for the first attempt at one of its addresses, and how the race would have ended with a floor, if earlier.
+///
+/// # Errors
+///
+/// `Memory` where an allocation was refused. The vector is as it was then.
 pub fn write_story<A: Allocator + Copy, B: Allocator>(
     alloc: A,
-    timeline: &Timeline<B>,
-    number: usize,
-    line: u64,
+    course: &Course<B>,
     out: &mut Vec<u8, A>,
 ) -> Result<(), Memory>
-    ensures ok { OnOk result (Tells number line timeline.now out.old.items out.new.items) }
+    ensures ok { OnOk result (Tells course.now out.old.items out.new.items) }
     ensures err { OnErr result (out.new.items ≡ out.old.items) }
 {
-    let text = story(alloc, timeline, number, line)?;
+    let lines = course.addresses.len().saturating_add(course.events.len());
+    let room = lines.saturating_mul(PARTS_PER_LINE);
+    let parts = Vec::with_capacity(alloc, room.saturating_add(OTHER_PARTS))?;
+    let mut story = Story { parts };
+    story.tell_all(alloc, course)?;
+    let mut text = Vec::new(alloc);
+    write_parts(&story.parts, &mut text)?;
     out.extend_from_slice(&text).map_err(|_| Memory)
 }

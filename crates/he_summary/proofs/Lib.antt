@@ -1,6 +1,6 @@
-pub mod Counted
-pub mod Filling
+pub mod Loops
+pub mod Lost
 pub mod Percentiles
 pub mod Tallied
+pub mod Told
 pub mod Walked
-pub mod Written

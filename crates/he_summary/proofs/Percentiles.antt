@@ -11,6 +11,7 @@ use Rattle.std.proofs.lemmas.List.{get_or-drop, get_or-take, length-take-le, len
 use Rattle.std.proofs.lemmas.List.Sorted.{length_permutation, sum_by-IsPermutation}
 use Rattle.std.proofs.lemmas.List.Sums.{count_by-le-length, sum_by-cons, sum_by-take-drop, sum_by-take-le}
 use Rattle.he_summary.specs.Times.{IsPercentile, IsSpread}
+use Rattle.he_summary.specs.Tries.{saturated}
 use Rattle.he_summary.specs.declared.times.Spread.{Spread}
 
 all_pass : (p : ℕ → Bool) (xs : List ℕ) → ((k : ℕ) → k < length xs → p (get_or xs k 0) ≡ true) → count_by p xs ≡ length xs
@@ -94,6 +95,8 @@ spread_moved xs ys None permutation none = none_left xs (sym (length_permutation
     none_left [] e = refl
     none_left (x ∷ xs) e = absurd (omega arith)
 spread_moved xs ys (Some spread) permutation are = record {
+  count = are.count ∙ length_permutation xs ys permutation;
+  total = are.total ∙ ap saturated (sum_by-IsPermutation (λ (n : ℕ). n) xs ys permutation);
   median = moved xs ys 50 _ permutation are.median;
   p90 = moved xs ys 90 _ permutation are.p90;
   p99 = moved xs ys 99 _ permutation are.p99;

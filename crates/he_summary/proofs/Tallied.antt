@@ -1,5 +1,5 @@
 -- The tallies with one attempt more.
-use Rattle.std.proofs.Common.{ℕ, ◌≡◌, ◌+◌, ◌<◌, ◌&&◌, ◌++◌, Bool, true, false, cond, List, [], ◌∷◌, length, map, take, get_or, Option, Some, None, refl, sym, ◌∙◌, ap, subst, add-zero, append_assoc}
+use Rattle.std.proofs.Common.{ℕ, ◌≡◌, ◌+◌, ◌<◌, ◌&&◌, ◌++◌, Bool, true, false, cond, List, [], ◌∷◌, length, map, take, get_or, Option, Some, None, refl, sym, ◌∙◌, ap, subst, add-zero, append_assoc, arith}
 use Rattle.std.specs.List.{IsDistinct, count_by}
 use Rattle.std.specs.Map.{keys_of, lookup}
 use Rattle.std.specs.Option.{unwrap_or}
@@ -13,14 +13,17 @@ use Rattle.he_plan.proofs.Distinct.{same_ip-is}
 use Rattle.he_timeline.proofs.Ranges.{same_ip-sym}
 use Rattle.he_timeline.specs.Race.{Race}
 use Rattle.he_plan.specs.declared.transcript.Line.{Line}
-use Rattle.he_summary.specs.Counting.{tried}
-use Rattle.he_summary.specs.Tries.{AreTallies, Try, is_failed, is_silent, loss_of, tally_at, tally_of, try_of}
-use Rattle.he_summary.specs.declared.tallies.Loss.{Loss}
-use Rattle.he_summary.specs.declared.tallies.Loss.TheVariants as losses
+use Rattle.he_summary.specs.Kept.{is_loss, loss_of}
+use Rattle.he_summary.specs.Tries.{AreTallies, Try, saturated, tally_at, tally_of, tried, try_of}
+use Rattle.he_summary.specs.declared.kept.Loss.{Loss}
+use Rattle.he_summary.specs.declared.kept.Loss.TheVariants as losses
 use Rattle.he_summary.specs.declared.tallies.Tally.{Tally}
 
 abbrev tally_with : ℕ → ℕ → ℕ → Tally
 tally_with failed silent attempts = record { failed = failed; silent = silent; attempts = attempts }
+
+abbrev counted : ℕ → ℕ → ℕ → Tally
+counted failed silent attempts = tally_with (saturated failed) (saturated silent) (saturated attempts)
 
 -- the equality of addresses is that of the code
 pub same_eq : eq-value.it ≡ same_ip
@@ -32,21 +35,25 @@ no_tallies tallies none once = record {
   each = λ ip. ap (λ (t : List (Ip × Tally)). tally_at t ip) none;
 }
 
+-- one more is counted, up to the greatest number
+more : (n : ℕ) → saturated (n + 1) ≡ saturated (saturated n + 1)
+more n = omega arith
+
 -- of one address: the attempts with one more
 one_try : (tries : List Try) (one : Try) (ip : Ip) → tally_of (tries ++ one ∷ []) ip ≡ cond (same_ip ip one.ip) (tried (tally_of tries ip) one.loss) (tally_of tries ip)
 one_try tries one ip =
     (λ i. record {
-      failed = sum_by_push (λ (x : Try). cond (same_ip ip x.ip && is_failed x.loss) 1 0) tries one i;
-      silent = sum_by_push (λ (x : Try). cond (same_ip ip x.ip && is_silent x.loss) 1 0) tries one i;
-      attempts = sum_by_push (λ (x : Try). cond (same_ip ip x.ip) 1 0) tries one i;
+      failed = saturated (sum_by_push (λ (x : Try). cond (same_ip ip x.ip && is_loss losses.Failed x.loss) 1 0) tries one i);
+      silent = saturated (sum_by_push (λ (x : Try). cond (same_ip ip x.ip && is_loss losses.Silent x.loss) 1 0) tries one i);
+      attempts = saturated (sum_by_push (λ (x : Try). cond (same_ip ip x.ip) 1 0) tries one i);
     })
-    ∙ by (same_ip ip one.ip) one.loss (count_by (λ x. same_ip ip x.ip && is_failed x.loss) tries) (count_by (λ x. same_ip ip x.ip && is_silent x.loss) tries) (count_by (λ x. same_ip ip x.ip) tries)
+    ∙ by (same_ip ip one.ip) one.loss (count_by (λ x. same_ip ip x.ip && is_loss losses.Failed x.loss) tries) (count_by (λ x. same_ip ip x.ip && is_loss losses.Silent x.loss) tries) (count_by (λ x. same_ip ip x.ip) tries)
   where
-    by : (same : Bool) (loss : Option Loss) (f s a : ℕ) → tally_with (f + cond (same && is_failed loss) 1 0) (s + cond (same && is_silent loss) 1 0) (a + cond same 1 0) ≡ cond same (tried (tally_with f s a) loss) (tally_with f s a)
-    by true (Some losses.Failed) f s a = ap (λ (n : ℕ). tally_with (f + 1) n (a + 1)) (add-zero s)
-    by true (Some losses.Silent) f s a = ap (λ (n : ℕ). tally_with n (s + 1) (a + 1)) (add-zero f)
-    by true None f s a = (λ i. tally_with (add-zero f i) (add-zero s i) (a + 1))
-    by false loss f s a = (λ i. tally_with (add-zero f i) (add-zero s i) (add-zero a i))
+    by : (same : Bool) (loss : Option Loss) (f s a : ℕ) → counted (f + cond (same && is_loss losses.Failed loss) 1 0) (s + cond (same && is_loss losses.Silent loss) 1 0) (a + cond same 1 0) ≡ cond same (tried (counted f s a) loss) (counted f s a)
+    by true (Some losses.Failed) f s a = λ i. tally_with (more f i) (saturated (add-zero s i)) (more a i)
+    by true (Some losses.Silent) f s a = λ i. tally_with (saturated (add-zero f i)) (more s i) (more a i)
+    by true None f s a = λ i. tally_with (saturated (add-zero f i)) (saturated (add-zero s i)) (more a i)
+    by false loss f s a = λ i. counted (add-zero f i) (add-zero s i) (add-zero a i)
 
 -- what is known of each address where one is written
 at_each : (old new : List (Ip × Tally)) (ip q : Ip) (loss : Option Loss) (tries : List Try)

@@ -1,10 +1,13 @@
 -- One race more of an input is summed, and how its reading ends.
-use Rattle.std.proofs.Common.{ℕ, ◌≡◌, ◌+◌, ◌-◌, ◌<◌, Bool, true, false, List, [], ◌∷◌, ◌++◌, length, Option, Some, None, Result, Ok, Err, OnOk, IsErr, IsErrAnd, refl, sym, subst, append_assoc, length-append, arith}
-use Rattle.std.specs.List.{AllZip}
-use Rattle.std.proofs.lemmas.List.{append-nil}
-use Rattle.he_timeline.specs.Changes.{ChangeValues, changed}
+use Rattle.std.proofs.Common.{ℕ, ◌≡◌, ◌+◌, ◌-◌, ◌≤◌, ◌<◌, Bool, true, false, List, [], ◌∷◌, ◌++◌, length, drop, take, Option, Some, None, Result, Ok, Err, IsErr, IsErrAnd, refl, sym, ◌∙◌, ap, subst, append_assoc, arith}
+use Rattle.std.specs.List.{slice_range}
+use Rattle.std.proofs.Math.Seq.{take-add}
+use Rattle.std.proofs.lemmas.Grind.{flat_map-append}
+use Rattle.std.proofs.lemmas.List.{append-nil, map-append, take-append-drop}
+use Rattle.he_timeline.specs.Changes.{ChangeValues}
 use Rattle.he_timeline.specs.Race.{Race}
-use Rattle.he_plan.specs.Transcript.{IsTranscript, Report}
+use Rattle.he_reading.specs.Text.{IsRaceText}
+use Rattle.he_inputs.specs.Inputs.{HasRaces, line_count}
 use Rattle.he_inputs.specs.StreamFaults.{fault_of_reader}
 use Rattle.he_inputs.specs.RaceReading.{IsReaderFault, IsWithin, ending_of}
 use Rattle.he_inputs.specs.declared.input_fault.InputFault.{InputFault}
@@ -12,120 +15,151 @@ use Rattle.he_inputs.specs.declared.input_fault.InputFault.TheVariants as inputs
 use Rattle.he_inputs.specs.declared.race_reader.RaceReader.{RaceReader}
 use Rattle.he_inputs.specs.declared.race_reader.RaceReaderFault.{RaceReaderFault}
 use Rattle.he_inputs.specs.declared.race_reader.RaceReaderFault.TheVariants as readers
-use Rattle.he_inputs.proofs.RaceReadingLaws.{has_fault, has_none, none_passed, passes_on}
-use Rattle.he_summary.specs.Courses.{Raced}
-use Rattle.he_summary.specs.Steps.{AreSummed, EndsReading, HasEnded, HasRead, MaySum, SumsNext, SumsRace}
-use Rattle.he_summary.specs.Summed.{Adds, HasAdded, HasSummed, IsRaced, MayAdd, Sums}
+use Rattle.he_inputs.proofs.RaceReadingLaws.{has_fault, has_none, line_count-append, none_passed, passes_on}
+use Rattle.he_summary.specs.Kept.{Run, kept_of}
+use Rattle.he_summary.specs.Steps.{AddsNext, AddsRuns, EndsReading, HasRead}
+use Rattle.he_summary.specs.Summed.{Adds, AreRows, AreRuns, HasAdded, HasSummed, IsRow, Sums, all_tries}
+use Rattle.he_summary.specs.Tries.{AreTallies, Try, tries_of}
+use Rattle.he_summary.specs.declared.kept.Kept.{Kept}
+use Rattle.he_summary.specs.declared.kept.Place.{Place}
 
--- one more behind the others
-are_on : (changes : ChangeValues) (races : List Race) (added : List Raced) (race : Race) (raced : Raced) → AllZip (IsRaced changes) races added → IsRaced changes race raced
-    → AllZip (IsRaced changes) (races ++ race ∷ []) (added ++ raced ∷ [])
-are_on changes [] [] race raced are is = (is, tt)
-are_on changes (one ∷ races) (first ∷ added) race raced are is = (are.0, are_on changes races added race raced are.1 is)
-are_on changes [] (first ∷ added) race raced are is = absurd are
-are_on changes (one ∷ races) [] race raced are is = absurd are
+-- one row more behind the others
+pub rows_on : (race : Race) (place : Place) (row : ℕ) (settings : List ChangeValues) (runs : List Run) (changes : ChangeValues) (run : Run) → AreRows race place row settings runs
+    → IsRow race place (row + length settings) changes run → AreRows race place row (settings ++ changes ∷ []) (runs ++ run ∷ [])
+rows_on race place row [] runs changes run none is =
+    subst (λ (rest : List Run). AreRows race place row (changes ∷ []) (rest ++ run ∷ [])) (sym none) (record { row_is = let at = is.row_is in omega arith; place_is = is.place_is; race_is = is.race_is; transcript = is.transcript }, refl)
+rows_on race place row (one ∷ settings) [] changes run none is = absurd none
+rows_on race place row (one ∷ settings) (first ∷ runs) changes run are is =
+    (are.0, rows_on race place (row + 1) settings runs changes run are.1 (record { row_is = let at = is.row_is in omega arith; place_is = is.place_is; race_is = is.race_is; transcript = is.transcript }))
 
-as_many : (changes : ChangeValues) (races : List Race) (added : List Raced) → AllZip (IsRaced changes) races added → length added ≡ length races
-as_many changes [] [] are = refl
-as_many changes (one ∷ races) (first ∷ added) are = let rest = as_many changes races added are.1 in omega arith
-as_many changes [] (first ∷ added) are = absurd are
-as_many changes (one ∷ races) [] are = absurd are
+-- the rows of one race more behind those of the others
+runs_on : (settings : List ChangeValues) (file before lines : ℕ) (races : List Race) (text : List ℕ) (runs : List Run) → AreRuns settings file before lines races text runs
+    → (race : Race) (last : List ℕ) → IsRaceText last race → (number line : ℕ) (rows : List Run) → number ≡ before + length races + 1 → line ≡ lines + line_count text + 1
+    → AreRows race (record { file = file; number = number; line = line }) 0 settings rows → AreRuns settings file before lines (races ++ race ∷ []) (text ++ last) (runs ++ rows)
+runs_on settings file before lines [] text runs (none, nothing) race last is number line rows numbered lined are =
+    let here : line ≡ lines + 1 = let no_line : line_count text ≡ 0 = ap line_count none in omega arith in
+    let first : number ≡ before + 1 = omega arith in (
+      last,
+      [],
+      rows,
+      [],
+      ap (λ (t : List ℕ). t ++ last) none ∙ sym (append-nil last),
+      ap (λ (r : List Run). r ++ rows) nothing ∙ sym (append-nil rows),
+      is,
+      subst (λ (p : Place). AreRows race p 0 settings rows) (λ i. record { file = file; number = first i; line = here i }) are,
+      (refl, refl),
+    )
+runs_on settings file before lines (one ∷ races) text runs (first, more, front, later, split, ones, read, at, rest) race last is number line rows numbered lined are =
+    let sum : line_count text ≡ line_count first + line_count more = ap line_count split ∙ line_count-append first more in
+    let behind : line ≡ lines + line_count first + line_count more + 1 = omega arith in
+    let next : number ≡ before + 1 + length races + 1 = omega arith in (
+      first,
+      more ++ last,
+      front,
+      later ++ rows,
+      ap (λ (t : List ℕ). t ++ last) split ∙ append_assoc first more last,
+      ap (λ (r : List Run). r ++ rows) ones ∙ append_assoc front later rows,
+      read,
+      at,
+      runs_on settings file (before + 1) (lines + line_count first) races more later rest race last is number line rows next behind are,
+    )
 
-pub none_walked : (changes : ChangeValues) (input : List ℕ) (sums : Sums) → IsWithin input (record { end = 0; races = 0; lines = 0 })
-    → HasRead changes input (record { end = 0; races = 0; lines = 0 }) sums sums
-none_walked changes input sums within = record {
-  races = [];
-  passed = none_passed input 0 0;
-  within = within;
-  summed = record { added = []; are = tt; sums = λ before has. subst (HasSummed sums) (sym (append-nil before)) has };
+-- up to the end of a range: up to its start, and the range
+take_to : (input : List ℕ) (from end : ℕ) → from ≤ end → take end input ≡ take from input ++ slice_range input from end
+take_to input from end le =
+    let sum : end ≡ from + (end - from) = omega arith in
+    ap (λ (n : ℕ). take n input) sum ∙ take-add from (end - from) input
+
+-- one run more
+pub summed_on : (old new : Sums) (run : Run) (kept : Kept) (before : List Run) → new.kept ≡ old.kept ++ kept ∷ [] → kept ≡ kept_of run
+    → ((tries : List Try) → AreTallies tries old.tallies → AreTallies (tries ++ tries_of run) new.tallies) → HasSummed old before → HasSummed new (before ++ run ∷ [])
+summed_on old new run kept before pushed is tallied had =
+    let tries : all_tries (before ++ run ∷ []) ≡ all_tries before ++ tries_of run =
+    flat_map-append tries_of before (run ∷ []) ∙ ap (λ (t : List Try). all_tries before ++ t) (append-nil (tries_of run)) in
+    record {
+      kept = pushed ∙ (λ i. had.kept i ++ is i ∷ []) ∙ sym (map-append kept_of before (run ∷ []));
+      tallies = subst (λ (t : List Try). AreTallies t new.tallies) (sym tries) (tallied (all_tries before) had.tallies);
+    }
+
+pub nothing_added : (sums : Sums) → AddsRuns [] sums sums
+nothing_added sums = record { settings = refl; sums = λ before has. subst (HasSummed sums) (sym (append-nil before)) has }
+
+pub adds_on : (front back : List Run) (first old new : Sums) → AddsRuns front first old → AddsRuns back old new → AddsRuns (front ++ back) first new
+adds_on front back first old new some more = record {
+  settings = more.settings ∙ some.settings;
+  sums = λ before has. subst (HasSummed new) (append_assoc before front back) (more.sums (before ++ front) (some.sums before has));
 }
 
--- one more can be summed
-pub may_sum : (changes : ChangeValues) (input : List ℕ) (reader : RaceReader) (old new : Sums) → HasRead changes input reader old new → MayAdd old → MaySum new
-may_sum changes input reader old new walked (races, has, few) =
-    let added = walked.summed.added in
-    let many : length added ≡ length walked.races = as_many changes walked.races added walked.summed.are in
-    let passed = walked.passed.counted in
-    let most = walked.within.few in
-    let all : length (races ++ added) ≡ length races + length added = length-append races added in
-    (races ++ added, walked.summed.sums races has, omega arith)
+pub none_walked : (file : ℕ) (input : List ℕ) (sums : Sums) → IsWithin input (record { end = 0; races = 0; lines = 0 })
+    → HasRead file input (record { end = 0; races = 0; lines = 0 }) sums sums
+none_walked file input sums within = record { races = []; added = []; passed = none_passed input 0 0; within = within; are = (refl, refl); adds = nothing_added sums }
 
-pub one_more : (changes : ChangeValues) (input : List ℕ) (is_broken : Bool) (before after : RaceReader) (first old new : Sums) → HasRead changes input before first old
-    → SumsNext changes input is_broken before after old new (Ok true) → HasRead changes input after first new × (length input - after.end < length input - before.end)
-one_more changes input is_broken before after first old new walked (race, passes, within, (report, told, sums)) =
-    let raced : Raced = record { race = changed changes race; report = report } in
+pub one_more : (file : ℕ) (input : List ℕ) (is_broken : Bool) (before after : RaceReader) (first old new : Sums) → HasRead file input before first old
+    → AddsNext file input is_broken before after old new (Ok true) → HasRead file input after first new × (length input - after.end < length input - before.end)
+one_more file input is_broken before after first old new walked (race, passes, within, (rows, are, adds)) =
     let past = passes.past in
-    let place = passes.within in (
+    let place = passes.within in
+    let counted = walked.passed.counted in
+    let lined = walked.passed.lined in
+    let number = passes.counted in
+    let split : take after.end input ≡ take before.end input ++ slice_range input before.end after.end = take_to input before.end after.end (omega arith) in
+    let rows_are = subst (λ (settings : List ChangeValues). AreRows race (record { file = file; number = after.races; line = before.lines + 1 }) 0 settings rows) walked.adds.settings are in
+    let all = runs_on first.settings file 0 0 walked.races (take before.end input) walked.added walked.are race (slice_range input before.end after.end) passes.read after.races (before.lines + 1) rows (omega arith) (omega arith) rows_are in (
       record {
         races = walked.races ++ race ∷ [];
+        added = walked.added ++ rows;
         passed = passes_on input 0 0 walked.races before after race walked.passed passes;
         within = within;
-        summed = record {
-          added = walked.summed.added ++ raced ∷ [];
-          are = are_on changes walked.races walked.summed.added race raced walked.summed.are (record { race_is = refl; transcript = told });
-          sums = λ earlier has. subst (HasSummed new) (append_assoc earlier walked.summed.added (raced ∷ [])) (sums (earlier ++ walked.summed.added) (walked.summed.sums earlier has));
-        };
+        are = subst (λ (text : List ℕ). AreRuns first.settings file 0 0 (walked.races ++ race ∷ []) text (walked.added ++ rows)) (sym split) all;
+        adds = adds_on walked.added rows first old new walked.adds adds;
       },
       omega arith,
     )
 
-unchanged : (changes : ChangeValues) (races : List Race) (first old new : Sums) → new ≡ old → AreSummed changes races first old → AreSummed changes races first new
-unchanged changes races first old new same summed = subst (AreSummed changes races first) (sym same) summed
+-- what was read up to here is added
+ended : (file : ℕ) (input : List ℕ) (is_broken : Bool) (reader : RaceReader) (first old new : Sums) (fault : Option InputFault) → (walked : HasRead file input reader first old) → new ≡ old
+    → HasRaces input is_broken walked.races fault → HasAdded file input is_broken first new fault
+ended file input is_broken reader first old new fault walked same has =
+    let adds = subst (AddsRuns walked.added first) (sym same) walked.adds in
+    record {
+      races = walked.races;
+      has = has;
+      front = take reader.end input;
+      rest = drop reader.end input;
+      parts = sym (take-append-drop reader.end input);
+      added = walked.added;
+      are = walked.are;
+      settings = adds.settings;
+      sums = adds.sums;
+    }
 
-pub ends : (changes : ChangeValues) (input : List ℕ) (is_broken : Bool) (before after : RaceReader) (first old new : Sums) → HasRead changes input before first old
-    → SumsNext changes input is_broken before after old new (Ok false) → EndsReading changes input is_broken first new (Ok (record {}))
-ends changes input is_broken before after first old new walked (same, end) = record {
-  races = walked.races;
-  has = has_none input is_broken walked.races before walked.passed walked.within.few end;
-  summed = unchanged changes walked.races first old new same walked.summed;
-}
+pub ends : (file : ℕ) (input : List ℕ) (is_broken : Bool) (before after : RaceReader) (first old new : Sums) → HasRead file input before first old
+    → AddsNext file input is_broken before after old new (Ok false) → EndsReading file input is_broken first new (Ok (record {}))
+ends file input is_broken before after first old new walked (same, end) =
+    ended file input is_broken before first old new None walked same (has_none input is_broken walked.races before walked.passed walked.within.few end)
 
-pub fails : (changes : ChangeValues) (input : List ℕ) (is_broken : Bool) (before after : RaceReader) (first old new : Sums) (fault : RaceReaderFault) → HasRead changes input before first old
-    → SumsNext changes input is_broken before after old new (Err fault) → EndsReading changes input is_broken first new (Err fault)
-fails changes input is_broken before after first old new (readers.Input fault) walked (same, is) = record {
-  races = walked.races;
-  has = has_fault input is_broken walked.races before fault walked.passed walked.within.few is;
-  summed = unchanged changes walked.races first old new same walked.summed;
-}
-fails changes input is_broken before after first old new readers.Memory walked is = tt
+pub fails : (file : ℕ) (input : List ℕ) (is_broken : Bool) (before after : RaceReader) (first old new : Sums) (fault : RaceReaderFault) → HasRead file input before first old
+    → AddsNext file input is_broken before after old new (Err fault) → EndsReading file input is_broken first new (Err fault)
+fails file input is_broken before after first old new (readers.Input fault) walked (same, is) =
+    ended file input is_broken before first old new (Some fault) walked same (has_fault input is_broken walked.races before fault walked.passed walked.within.few is)
+fails file input is_broken before after first old new readers.Memory walked is = tt
 
-pub stops : (changes : ChangeValues) (input : List ℕ) (is_broken : Bool) (before after : RaceReader) (sums : Sums) (fault : RaceReaderFault) → IsReaderFault input (ending_of is_broken) before fault
-    → SumsNext changes input is_broken before after sums sums (Err fault)
-stops changes input is_broken before after sums (readers.Input fault) is = (refl, is)
-stops changes input is_broken before after sums readers.Memory is = tt
+pub stops : (file : ℕ) (input : List ℕ) (is_broken : Bool) (before after : RaceReader) (sums : Sums) (fault : RaceReaderFault) → IsReaderFault input (ending_of is_broken) before fault
+    → AddsNext file input is_broken before after sums sums (Err fault)
+stops file input is_broken before after sums (readers.Input fault) is = (refl, is)
+stops file input is_broken before after sums readers.Memory is = tt
 
--- what is added
-added : (changes : ChangeValues) (Given : List ℕ → Bool → Type 0) (input : List ℕ) (is_broken : Bool) (old new : Sums) (fault : Option InputFault) → Given input is_broken
-    → HasEnded changes input is_broken fault old new → HasAdded changes Given old new fault
-added changes Given input is_broken old new fault given has = record {
-  input = input;
-  is_broken = is_broken;
-  given = given;
-  races = has.races;
-  has = has.has;
-  added = has.summed.added;
-  are = has.summed.are;
-  few = let many = as_many changes has.races has.summed.added has.summed.are in let most = has.has.few in omega arith;
-  sums = has.summed.sums;
-}
+pub adds : (file : ℕ) (Given : List ℕ → Bool → Type 0) (input : List ℕ) (is_broken : Bool) (old new : Sums) → Given input is_broken
+    → EndsReading file input is_broken old new (Ok (record {})) → Adds file Given old new (Ok (record {}))
+adds file Given input is_broken old new given has = (input, is_broken, given, has)
 
-pub adds : (changes : ChangeValues) (Given : List ℕ → Bool → Type 0) (input : List ℕ) (is_broken : Bool) (old new : Sums) → Given input is_broken
-    → EndsReading changes input is_broken old new (Ok (record {})) → Adds changes Given old new (Ok (record {}))
-adds changes Given input is_broken old new given has = added changes Given input is_broken old new None given has
-
-pub adds_to : (changes : ChangeValues) (Given : List ℕ → Bool → Type 0) (input : List ℕ) (is_broken : Bool) (old new : Sums) (fault : RaceReaderFault) → Given input is_broken
-    → EndsReading changes input is_broken old new (Err fault) → Adds changes Given old new (Err (fault_of_reader fault))
-adds_to changes Given input is_broken old new (readers.Input (inputs.Text fault)) given has = added changes Given input is_broken old new (Some (inputs.Text fault)) given has
-adds_to changes Given input is_broken old new (readers.Input inputs.Read) given has = added changes Given input is_broken old new (Some inputs.Read) given has
-adds_to changes Given input is_broken old new readers.Memory given has = tt
+pub adds_to : (file : ℕ) (Given : List ℕ → Bool → Type 0) (input : List ℕ) (is_broken : Bool) (old new : Sums) (fault : RaceReaderFault) → Given input is_broken
+    → EndsReading file input is_broken old new (Err fault) → Adds file Given old new (Err (fault_of_reader fault))
+adds_to file Given input is_broken old new (readers.Input (inputs.Text fault)) given has = (input, is_broken, given, has)
+adds_to file Given input is_broken old new (readers.Input inputs.Read) given has = (input, is_broken, given, has)
+adds_to file Given input is_broken old new readers.Memory given has = tt
 
 -- a fault that `?` hands on
 pub handed : {A E : Type 0} (r : Result A E) (fault : E) (Tells : Result A E → Type 0) → IsErr r × IsErrAnd r (λ k. k ≡ fault) → Tells (Err fault) → Tells r
 handed (Ok x) fault Tells told tells = absurd told.1
 handed {A} {E} (Err k) fault Tells told tells = subst (λ (f : E). Tells (Err f)) (sym told.1) tells
-
--- what is told of a race that is summed
-pub sums_race : {E : Type 0} (r : Result (Unit {0}) E) (race : Race) (report : Report) (old new : Sums) → IsTranscript race report
-    → ((before : List Raced) → HasSummed old before → OnOk r (HasSummed new (before ++ record { race = race; report = report } ∷ []))) → OnOk r (SumsRace race old new)
-sums_race (Ok done) race report old new told sums = (report, told, sums)
-sums_race (Err fault) race report old new told sums = tt

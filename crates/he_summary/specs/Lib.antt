@@ -1,9 +1,8 @@
-pub mod Counting
-pub mod Courses
-pub mod Filled
-pub mod Json
+pub mod Figures
+pub mod Kept
 pub mod Steps
 pub mod Summed
-pub mod Texts
 pub mod Times
+pub mod Totals
 pub mod Tries
+pub mod Written

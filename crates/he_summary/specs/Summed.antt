@@ -1,85 +1,81 @@
--- What a summary knows of the races of its inputs, and what is written of them.
-use Rattle.std.specs.Prelude.{ℕ, ◌≡◌, ◌≤◌, ◌*◌, ◌^◌, ◌++◌, ⊤, Bool, List, map, length, IsPermutation, Option, Some, None, Result, Ok, Err}
-use Rattle.std.specs.List.{filter_map, flat_map, AllZip}
+-- The races that are summed.
+use Rattle.std.specs.Prelude.{ℕ, ◌≡◌, ◌+◌, ◌++◌, ⊤, Bool, List, [], ◌∷◌, map, Option, Some, None, Result, Ok, Err}
+use Rattle.std.specs.List.{flat_map}
 use Rattle.he_addr.specs.declared.ip.Ip.{Ip}
 use Rattle.he_timeline.specs.Changes.{ChangeValues, changed}
 use Rattle.he_timeline.specs.Race.{Race}
 use Rattle.he_plan.specs.Transcript.{IsTranscript}
-use Rattle.he_timeline.specs.declared.limits.TheConstants.{MAX_ATTEMPTS}
-use Rattle.he_inputs.specs.Inputs.{HasRaces}
-use Rattle.he_words.specs.Ranges.{most_races}
+use Rattle.he_inputs.specs.Inputs.{HasRaces, line_count}
+use Rattle.he_reading.specs.Text.{IsRaceText}
 use Rattle.he_inputs.specs.declared.input_fault.InputFault.{InputFault}
 use Rattle.he_inputs.specs.declared.input_fault.InputFault.TheVariants as inputs
 use Rattle.he_inputs.specs.declared.stream_fault.StreamFault.{StreamFault}
 use Rattle.he_inputs.specs.declared.stream_fault.StreamFault.TheVariants.{Text, Read, Write, Memory}
-use Rattle.he_summary.specs.Courses.{Raced, counts_of, course_of, time_of}
-use Rattle.he_summary.specs.Json.{summary_json}
-use Rattle.he_summary.specs.Texts.{summary_text}
-use Rattle.he_summary.specs.Times.{IsSpread}
-use Rattle.he_summary.specs.Tries.{AreFailing, AreTallies, Try, tries_of}
-use Rattle.he_summary.specs.declared.counts.Counts.{Counts}
-use Rattle.he_summary.specs.declared.summary.Form.{Form}
-use Rattle.he_summary.specs.declared.summary.Form.TheVariants as forms
+use Rattle.he_summary.specs.Kept.{Run, kept_of}
+use Rattle.he_summary.specs.Tries.{AreTallies, Try, tries_of}
+use Rattle.he_summary.specs.declared.kept.Kept.{Kept}
+use Rattle.he_summary.specs.declared.kept.Place.{Place}
 use Rattle.he_summary.specs.declared.tallies.Tally.{Tally}
-use Rattle.he_summary.specs.declared.times.Spread.{Spread}
 
--- what a summary keeps
+-- what is kept of races, each with the settings of each row
 pub record Sums : Type 0 where
-  pub counts : Counts
-  pub times : List ℕ
+  pub settings : List ChangeValues
+  pub kept : List Kept
   pub tallies : List (Ip × Tally)
 
--- the times to connect of the races that are won, and all attempts
-abbrev pub times_of : List Raced → List ℕ
-times_of races = filter_map time_of (map (λ raced. (course_of raced).ending) races)
-
-abbrev pub all_tries : List Raced → List Try
-all_tries races = flat_map tries_of races
+-- all attempts of races
+abbrev pub all_tries : List Run → List Try
+all_tries runs = flat_map tries_of runs
 
 -- of these races
-pub record HasSummed (sums : Sums) (races : List Raced) : Type 0 where
-  pub counts : sums.counts ≡ counts_of (map course_of races)
-  pub times : IsPermutation (times_of races) sums.times
-  pub tallies : AreTallies (all_tries races) sums.tallies
-  pub few : sums.counts.attempts ≤ MAX_ATTEMPTS * length races
+pub record HasSummed (sums : Sums) (runs : List Run) : Type 0 where
+  pub kept : sums.kept ≡ map kept_of runs
+  pub tallies : AreTallies (all_tries runs) sums.tallies
 
--- the races of one input more can be counted
-abbrev pub MayAdd : Sums → Type 0
-MayAdd sums = (races : List Raced) × HasSummed sums races × (length races ≤ 2 ^ 50)
+-- a race with the changes of its settings that a row has, and its transcript
+pub record IsRow (race : Race) (place : Place) (row : ℕ) (changes : ChangeValues) (run : Run) : Type 0 where
+  pub row_is : run.row ≡ row
+  pub place_is : run.place ≡ place
+  pub race_is : run.race ≡ changed changes race
+  pub transcript : IsTranscript run.race run.report
 
--- a race of an input, with the changes of its settings, and its transcript
-pub record IsRaced (changes : ChangeValues) (race : Race) (raced : Raced) : Type 0 where
-  pub race_is : raced.race ≡ changed changes race
-  pub transcript : IsTranscript raced.race raced.report
+-- one for each of these rows, from this one on
+abbrev pub AreRows : Race → Place → ℕ → List ChangeValues → List Run → Type 0
+AreRows race place row [] runs = runs ≡ []
+AreRows race place row (changes ∷ settings) [] = ⊥
+AreRows race place row (changes ∷ settings) (run ∷ runs) =
+    IsRow race place row changes run × AreRows race place (row + 1) settings runs
 
--- the races of an input up to its first fault are summed behind those that were summed before
-pub record HasAdded (changes : ChangeValues) (Given : List ℕ → Bool → Type 0) (old new : Sums)
+-- after so many races and lines of a file the text is, one after the other, a text of each race, whose rows these are
+abbrev pub AreRuns : List ChangeValues → ℕ → ℕ → ℕ → List Race → List ℕ → List Run → Type 0
+AreRuns settings file before lines [] text runs = (text ≡ []) × (runs ≡ [])
+AreRuns settings file before lines (race ∷ races) text runs =
+    (first more : List ℕ) × (rows later : List Run) × (text ≡ first ++ more) × (runs ≡ rows ++ later)
+    × IsRaceText first race
+    × AreRows race (record { file = file; number = before + 1; line = lines + 1 }) 0 settings rows
+    × AreRuns settings file (before + 1) (lines + line_count first) races more later
+
+-- the races of the input up to its first fault are summed after those that were summed before
+pub record HasAdded (file : ℕ) (input : List ℕ) (is_broken : Bool) (old new : Sums)
     (fault : Option InputFault) : Type 0 where
-  pub input : List ℕ
-  pub is_broken : Bool
-  pub given : Given input is_broken
   pub races : List Race
   pub has : HasRaces input is_broken races fault
-  pub added : List Raced
-  pub are : AllZip (IsRaced changes) races added
-  pub few : length added ≤ most_races
-  pub sums : (before : List Raced) → HasSummed old before → HasSummed new (before ++ added)
+  pub front : List ℕ
+  pub rest : List ℕ
+  pub parts : input ≡ front ++ rest
+  pub added : List Run
+  pub are : AreRuns old.settings file 0 0 races front added
+  pub settings : new.settings ≡ old.settings
+  pub sums : (before : List Run) → HasSummed old before → HasSummed new (before ++ added)
 
 -- Given: what the input gave, and whether it broke off after that
-abbrev pub Adds : ChangeValues → (List ℕ → Bool → Type 0) → Sums → Sums → Result (Unit {0}) StreamFault → Type 0
-Adds changes Given old new (Ok done) = HasAdded changes Given old new None
-Adds changes Given old new (Err (Text fault)) = HasAdded changes Given old new (Some (inputs.Text fault))
-Adds changes Given old new (Err Read) = HasAdded changes Given old new (Some inputs.Read)
-Adds changes Given old new (Err Write) = ⊥
-Adds changes Given old new (Err Memory) = ⊤
+abbrev pub AddsAll : ℕ → (List ℕ → Bool → Type 0) → Sums → Sums → Option InputFault → Type 0
+AddsAll file Given old new fault =
+    (input : List ℕ) × (is_broken : Bool) × Given input is_broken × HasAdded file input is_broken old new fault
 
-abbrev pub summary_in : Form → Counts → Option Spread → List (Ip × Tally) → List ℕ
-summary_in forms.Text = summary_text
-summary_in forms.Json = summary_json
-
--- the summary of these races in this form has been appended
-abbrev pub IsWritten : Form → List Raced → List ℕ → List ℕ → Type 0
-IsWritten form races old new =
-    (spread : Option Spread) × (failing : List (Ip × Tally)) × IsSpread (times_of races) spread
-    × AreFailing (all_tries races) failing
-    × (new ≡ old ++ summary_in form (counts_of (map course_of races)) spread failing)
+abbrev pub Adds : ℕ → (List ℕ → Bool → Type 0) → Sums → Sums → Result (Unit {0}) StreamFault → Type 0
+Adds file Given old new (Ok done) = AddsAll file Given old new None
+Adds file Given old new (Err (Text fault)) = AddsAll file Given old new (Some (inputs.Text fault))
+Adds file Given old new (Err Read) = AddsAll file Given old new (Some inputs.Read)
+Adds file Given old new (Err Write) = ⊥
+Adds file Given old new (Err Memory) = ⊤

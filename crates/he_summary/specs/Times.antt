@@ -1,19 +1,27 @@
--- The times to connect of races.
+-- Numbers of races, as their times to connect, at a glance.
 use Rattle.std.specs.Prelude.{ℕ, ◌≡◌, ◌≤◌, ◌*◌, List, [], length, count_by, nat_le, Option, Some, None}
+use Rattle.std.specs.List.{sum_by}
 use Rattle.he_timeline.specs.Seen.{IsLeast}
+use Rattle.he_summary.specs.Tries.{saturated}
 use Rattle.he_summary.specs.declared.times.Spread.{Spread}
 
--- the least time within which at least so many of 100 of the times lie
+-- the least number within which at least so many of 100 of them lie
 abbrev pub IsPercentile : List ℕ → ℕ → ℕ → Type 0
-IsPercentile times percent = IsLeast (λ t. length times * percent ≤ 100 * count_by (λ time. nat_le time t) times)
+IsPercentile numbers percent =
+    IsLeast (λ n. length numbers * percent ≤ 100 * count_by (λ other. nat_le other n) numbers)
 
-pub record AreWithin (times : List ℕ) (spread : Spread) : Type 0 where
-  pub median : IsPercentile times 50 spread.median
-  pub p90 : IsPercentile times 90 spread.p90
-  pub p99 : IsPercentile times 99 spread.p99
-  pub greatest : IsPercentile times 100 spread.greatest
+abbrev pub total : List ℕ → ℕ
+total numbers = saturated (sum_by (λ n. n) numbers)
 
--- what is told of the times, where there are some
+pub record AreWithin (numbers : List ℕ) (spread : Spread) : Type 0 where
+  pub count : spread.count ≡ length numbers
+  pub total : spread.total ≡ total numbers
+  pub median : IsPercentile numbers 50 spread.median
+  pub p90 : IsPercentile numbers 90 spread.p90
+  pub p99 : IsPercentile numbers 99 spread.p99
+  pub greatest : IsPercentile numbers 100 spread.greatest
+
+-- where there are some
 abbrev pub IsSpread : List ℕ → Option Spread → Type 0
-IsSpread times None = times ≡ []
-IsSpread times (Some spread) = AreWithin times spread
+IsSpread numbers None = numbers ≡ []
+IsSpread numbers (Some spread) = AreWithin numbers spread

@@ -1,5 +1,5 @@
 -- The attempts of races by their addresses, and how many of them failed and were silent.
-use Rattle.std.specs.Prelude.{ℕ, ◌≡◌, ◌+◌, ◌&&◌, if◌then◌else◌, Bool, true, false, List, map, filter, take, count_by, nat_le, nat_lt, is_none, IsPermutation, Option, Some, None}
+use Rattle.std.specs.Prelude.{ℕ, ◌≡◌, ◌+◌, ◌-◌, ◌^◌, ◌&&◌, Bool, List, map, filter, min, take, count_by, nat_lt, IsPermutation, Option, Some, None}
 use Rattle.std.specs.List.{IsDistinct}
 use Rattle.std.specs.List.Sorted.{IsSortedByKey}
 use Rattle.std.specs.Map.{keys_of, lookup}
@@ -8,14 +8,11 @@ use Rattle.std.specs.Ordering.{nat_cmp, ordering_then}
 use Rattle.std.specs.declared.cmp.Ordering.{Ordering}
 use Rattle.he_addr.specs.Ip.{mapped_of, same_ip}
 use Rattle.he_addr.specs.declared.ip.Ip.{Ip}
-use Rattle.he_timeline.specs.Race.{outcome_of, Race}
-use Rattle.he_timeline.specs.declared.outcome.Outcome.{Outcome}
+use Rattle.he_timeline.specs.Race.{Race}
 use Rattle.he_plan.specs.declared.transcript.Line.{Line}
-use Rattle.he_plan.specs.declared.transcript.Mark.{Mark}
-use Rattle.he_plan.specs.declared.transcript.Mark.TheVariants.{Won, Failed, Cancelled}
-use Rattle.he_summary.specs.Courses.{Raced}
-use Rattle.he_summary.specs.declared.tallies.Loss.{Loss}
-use Rattle.he_summary.specs.declared.tallies.Loss.TheVariants as losses
+use Rattle.he_summary.specs.Kept.{Run, is_loss, loss_of}
+use Rattle.he_summary.specs.declared.kept.Loss.{Loss}
+use Rattle.he_summary.specs.declared.kept.Loss.TheVariants as losses
 use Rattle.he_summary.specs.declared.tallies.Tally.{Tally}
 
 -- an attempt to an address, and whether it failed or was silent
@@ -23,38 +20,31 @@ pub record Try : Type 0 where
   pub ip : Ip
   pub loss : Option Loss
 
--- an attempt that starts here failed; or it was silent: at the end of the race it was under way for the Connection
--- Attempt Delay or longer, and its address does nothing when it is tried. One that was cancelled sooner is neither
-abbrev pub loss_by : ℕ → ℕ → Option Outcome → Mark → Option Loss
-loss_by delay start outcome (Won tick) = None
-loss_by delay start outcome (Failed tick) = Some losses.Failed
-loss_by delay start outcome (Cancelled tick) =
-    if is_none outcome && nat_le (start + delay) tick then Some losses.Silent else None
-
-abbrev pub loss_of : Race → Line → Option Loss
-loss_of race line = loss_by race.settings.attempt line.tick (outcome_of race line.ip) line.mark
-
 abbrev pub try_of : Race → Line → Try
 try_of race line = record { ip = line.ip; loss = loss_of race line }
 
-abbrev pub tries_of : Raced → List Try
-tries_of raced = map (try_of raced.race) raced.report.lines
+abbrev pub tries_of : Run → List Try
+tries_of run = map (try_of run.race) run.report.lines
 
-abbrev pub is_failed : Option Loss → Bool
-is_failed (Some losses.Failed) = true
-is_failed _ = false
+-- a number, or the greatest that is counted
+abbrev pub saturated : ℕ → ℕ
+saturated n = min n (2 ^ 64 - 1)
 
-abbrev pub is_silent : Option Loss → Bool
-is_silent (Some losses.Silent) = true
-is_silent _ = false
+-- a tally with one attempt more
+abbrev pub tried : Tally → Option Loss → Tally
+tried tally None = record tally { attempts = saturated (tally.attempts + 1) }
+tried tally (Some losses.Failed) =
+    record tally { failed = saturated (tally.failed + 1); attempts = saturated (tally.attempts + 1) }
+tried tally (Some losses.Silent) =
+    record tally { silent = saturated (tally.silent + 1); attempts = saturated (tally.attempts + 1) }
 
 -- of the attempts to this address: how many failed, how many were silent, and how many there are
 abbrev pub tally_of : List Try → Ip → Tally
 tally_of tries ip =
     record {
-      failed = count_by (λ x. same_ip ip x.ip && is_failed x.loss) tries;
-      silent = count_by (λ x. same_ip ip x.ip && is_silent x.loss) tries;
-      attempts = count_by (λ x. same_ip ip x.ip) tries;
+      failed = saturated (count_by (λ x. same_ip ip x.ip && is_loss losses.Failed x.loss) tries);
+      silent = saturated (count_by (λ x. same_ip ip x.ip && is_loss losses.Silent x.loss) tries);
+      attempts = saturated (count_by (λ x. same_ip ip x.ip) tries);
     }
 
 -- what the tallies say of this address

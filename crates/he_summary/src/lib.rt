@@ -1,34 +1,46 @@
 //! Many races at a glance.
 //!
-//! A [`Summary`] reads inputs of timelines, one after the other, and tells of all their races, with the changes of
-//! their settings ([`Changes`](he_timeline::Changes)), in few lines or in one JSON object:
+//! [`Races`] reads inputs of timelines, one after the other, and keeps a small record of each race ([`Kept`]) for
+//! each row of settings ([`Changes`](he_timeline::Changes)): a summary has one row, a comparison (he_compare) several.
+//! What is told is counted over these records ([`Totals`]), in few lines, in one JSON object or as metrics:
 //!
 //! ```text
-//! 2000 races: 1890 won (1500 by IPv6, 390 by IPv4), 90 exhausted, 20 at the limit
+//! 2000 races: 1890 won (94.5 %), 1500 by IPv6 (75.0 %), 390 by IPv4 (19.5 %), 90 exhausted (4.5 %), 20 at the ..
 //! time to connect: median 45 ms, 90 of 100 within 300 ms, 99 of 100 within 1250 ms, greatest 2950 ms
+//! lost to addresses that failed: in 20 races (1.1 %), 1200 ms in all, median 60 ms, greatest 250 ms
+//! lost to silent addresses: in 100 races (5.3 %), 24000 ms in all, median 247 ms, greatest 500 ms
 //! attempts: 2610, at most 6 in a race
-//! the Resolution Delay was waited out in 17 races
+//! the Resolution Delay was waited out in 17 races (0.9 %)
 //! failed or silent most often:
 //!   20 failed, 100 silent of 340 attempts to 2001:db8:1::1
-//!   9 failed, 0 silent of 9 attempts to 198.51.100.1
+//! slowest:
+//!   office.timeline:12 race 2: 2950 ms to 198.51.100.5, 500 ms lost
 //! ```
 //!
-//! Proved, whatever the inputs: what is written tells of the transcripts of all races of the inputs, each input up to
-//! its first fault, which is the result (`specs/Summed`). The counts are of these transcripts (`specs/Courses`). A
-//! time to connect is the least one within which so many of 100 of the races that are won connect (`specs/Times`). The
-//! addresses are the ten to which most attempts failed or were silent, each with the number of those that failed, of
-//! those that were silent and of all attempts to it (`specs/Tries`). The texts are exact (`specs/Texts`, `specs/Json`).
+//! Proved, whatever the inputs: what is kept is that of the courses of all races of the inputs with the settings of
+//! each row, each input up to its first fault, which is the result (`specs/Kept`, `specs/Summed`). A percentile is the
+//! least number within which so many of 100 lie (`specs/Times`), each count one over what is kept (`specs/Totals`).
+//! The addresses are the ten to which most attempts failed or were silent (`specs/Tries`), the slowest races the first
+//! of the won ones by time (`specs/Written`). The text states these numbers, each with what it says, in this order
+//! (`specs/Figures`). The words between are free.
 //!
 //! Not proved: that a call succeeds where memory is granted.
 #![tactic(auto)]
 
-mod counts;
-mod course;
-mod filled;
-mod json;
-pub mod summary;
-mod tallies;
-mod text;
-mod times;
+mod adding;
+pub mod figures;
+pub mod kept;
+pub mod races;
+pub mod tallies;
+pub mod times;
+pub mod totals;
+mod words;
+mod writing;
 
-pub use summary::{Form, Summary};
+pub use figures::{Form, Said};
+pub use kept::{Ending, Kept, Loss, Place};
+pub use races::Races;
+pub use tallies::Tally;
+pub use times::Spread;
+pub use totals::{Counts, Totals};
+pub use writing::{name_of, place_parts, write_name};

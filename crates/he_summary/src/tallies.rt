@@ -1,11 +1,11 @@
 // How many attempts were made to each address, and how many of these failed and were silent.
-ghost use Rattle.std.specs.Prelude.{◌≡◌, ◌+◌, ◌^◌, ◌<◌, ◌++◌, [], ◌∷◌, List, length, map, IfOk, IsPermutation, OnOk, filter};
+ghost use Rattle.std.specs.Prelude.{◌≡◌, ◌++◌, [], ◌∷◌, List, map, IfOk, IsPermutation, OnOk, filter};
 ghost use Rattle.std.specs.List.Sorted.{IsSortedByKey};
-ghost use Rattle.he_summary.specs.Tries.{AreRanked, AreTallies, Try, has_lost, loss_of, lost_of, most_first, rank_of, tally_at, try_of};
-ghost use Rattle.he_summary.specs.Counting.{MayTally, tried};
+ghost use Rattle.he_summary.specs.Tries.{AreRanked, AreTallies, Try, has_lost, lost_of, most_first, rank_of, tally_at, tried, try_of};
 
+use crate::kept::{Loss, loss_of};
 use he_addr::{Ip, Memory};
-use he_plan::{Line, Mark, Transcript};
+use he_plan::Transcript;
 use he_timeline::Timeline;
 use indexmap::IndexMap;
 use std::alloc::Allocator;
@@ -16,20 +16,13 @@ use std::marker::Model;
 // The most addresses that are told.
 const MOST_TOLD: usize = 10;
 
-// How an attempt was lost.
-#[derive(Clone, Copy)]
-pub(crate) enum Loss {
-    Failed,
-    // It had no end for the Connection Attempt Delay or longer.
-    Silent,
-}
-
-// How many attempts to an address there were, and how many of these failed and were silent.
-#[derive(Clone, Copy)]
-pub(crate) struct Tally {
-    pub(crate) failed: u64,
-    pub(crate) silent: u64,
-    pub(crate) attempts: u64,
+/// How many attempts to an address there were, and how many of these failed and were silent. Each counts up to
+/// 2^64 - 1.
+#[derive(Clone, Copy, Debug, PartialEq, Eq)]
+pub struct Tally {
+    pub failed: u64,
+    pub silent: u64,
+    pub attempts: u64,
 }
 
 impl Tally {
@@ -41,19 +34,18 @@ impl Tally {
 
     // With one attempt more.
     fn with(self, loss: Option<Loss>) -> Tally
-        requires { (self.failed + 1 < 2 ^ 64) × (self.silent + 1 < 2 ^ 64) × (self.attempts + 1 < 2 ^ 64) }
         ensures { result ≡ tried self loss }
     {
-        let attempts = self.attempts + 1;
+        let attempts = self.attempts.saturating_add(1);
         match loss {
             None => Tally { attempts, ..self },
             Some(Loss::Failed) => Tally {
-                failed: self.failed + 1,
+                failed: self.failed.saturating_add(1),
                 attempts,
                 ..self
             },
             Some(Loss::Silent) => Tally {
-                silent: self.silent + 1,
+                silent: self.silent.saturating_add(1),
                 attempts,
                 ..self
             },
@@ -99,7 +91,6 @@ impl<A: Allocator + Copy> Tallies<A> {
         race: &Timeline<B>,
         transcript: &Transcript<C>,
     ) -> Result<(), Memory>
-        requires { MayTally self.old (length transcript.now.lines) }
         ensures { (tries : List Try) → AreTallies tries self.old
             → OnOk result (AreTallies (tries ++ map (try_of race.now) transcript.now.lines) self.new) }
     {
@@ -110,7 +101,6 @@ impl<A: Allocator + Copy> Tallies<A> {
     }
 
     fn add_try(&mut self, ip: Ip, loss: Option<Loss>) -> Result<(), Memory>
-        requires { MayTally self.old 1 }
         ensures { (tries : List Try) → AreTallies tries self.old
             → OnOk result (AreTallies (tries ++ record { ip = ip; loss = loss } ∷ []) self.new) }
     {
@@ -155,23 +145,4 @@ fn rank<A: Allocator>(tallies: &mut Vec<(Ip, Tally), A>)
     ensures sorted { IsSortedByKey rank_of most_first tallies.new.items }
 {
     tallies.sort_unstable_by_key(|tallied| (Reverse(tallied.1.lost()), tallied.0.mapped()));
-}
-
-// Whether an attempt failed or was silent: it had no end for the Connection Attempt Delay or longer, and its address
-// does nothing.
-fn loss_of<A: Allocator>(race: &Timeline<A>, line: &Line) -> Option<Loss>
-    ensures { result ≡ loss_of race.now line.now }
-{
-    match line.mark {
-        Mark::Won(_) => None,
-        Mark::Failed(_) => Some(Loss::Failed),
-        Mark::Cancelled(end) => {
-            let is_long = line.tick as u128 + race.settings().attempt() as u128 <= end as u128;
-            if race.outcome(line.ip).is_none() && is_long {
-                Some(Loss::Silent)
-            } else {
-                None
-            }
-        }
-    }
 }

@@ -1,19 +1,31 @@
-// The times to connect.
+//! Numbers of races, as their times to connect, at a glance.
 ghost use Rattle.std.specs.Prelude.{◌≡◌, ◌<◌, ◌≤◌, length, IsSorted};
 ghost use Rattle.std.specs.Ordering.{nat_cmp};
-ghost use Rattle.he_summary.specs.Times.{IsPercentile, IsSpread};
+ghost use Rattle.he_summary.specs.Times.{IsPercentile, IsSpread, total};
 
-// Times within which so many of 100 races are won, in milliseconds.
-#[derive(Clone, Copy)]
-pub(crate) struct Spread {
-    pub(crate) median: u64,
-    pub(crate) p90: u64,
-    pub(crate) p99: u64,
-    pub(crate) greatest: u64,
+use std::alloc::Allocator;
+
+/// Numbers at a glance: how many they are, their sum (at most 2^64 - 1), and the least within which so many of 100 of
+/// them lie.
+#[derive(Clone, Copy, Debug, PartialEq, Eq)]
+pub struct Spread {
+    pub count: u64,
+    pub total: u64,
+    pub median: u64,
+    pub p90: u64,
+    pub p99: u64,
+    pub greatest: u64,
 }
 
-// Of the times in order: None where there is none.
-pub(crate) fn spread_of(sorted: &[u32]) -> Option<Spread>
+/// Of these numbers: None where there is none. They are sorted then.
+pub fn spread_of<A: Allocator>(numbers: &mut Vec<u64, A>) -> Option<Spread>
+    ensures { IsSpread numbers.old.items result }
+{
+    numbers.sort_unstable();
+    spread_of_sorted(numbers.as_slice())
+}
+
+fn spread_of_sorted(sorted: &[u64]) -> Option<Spread>
     requires { IsSorted nat_cmp sorted.now }
     ensures { IsSpread sorted.now result }
 {
@@ -21,6 +33,8 @@ pub(crate) fn spread_of(sorted: &[u32]) -> Option<Spread>
         return None;
     }
     Some(Spread {
+        count: sorted.len() as u64,
+        total: total(sorted),
         median: percentile(sorted, 50),
         p90: percentile(sorted, 90),
         p99: percentile(sorted, 99),
@@ -28,8 +42,18 @@ pub(crate) fn spread_of(sorted: &[u32]) -> Option<Spread>
     })
 }
 
-// The least time within which at least so many of 100 of these times lie: by the nearest rank.
-fn percentile(sorted: &[u32], percent: u8) -> u64
+fn total(numbers: &[u64]) -> u64
+    ensures { result ≡ total numbers.now }
+{
+    let mut sum = 0u64;
+    for number in numbers {
+        sum = sum.saturating_add(*number);
+    }
+    sum
+}
+
+// The least number within which at least so many of 100 of these lie: by the nearest rank.
+fn percentile(sorted: &[u64], percent: u8) -> u64
     requires sorted { IsSorted nat_cmp sorted.now }
     requires some { 0 < length sorted.now }
     requires least { 0 < percent }
@@ -37,5 +61,5 @@ fn percentile(sorted: &[u32], percent: u8) -> u64
     ensures { IsPercentile sorted.now percent result }
 {
     let rank = (sorted.len() as u128 * percent as u128).div_ceil(100);
-    sorted[(rank - 1) as usize] as u64
+    sorted[(rank - 1) as usize]
 }

@@ -1,12 +1,11 @@
 -- Files, one after the other.
-use Rattle.std.proofs.Common.{◌≡◌, ◌≢◌, ◌≤◌, ◌⊎◌, ◌++◌, ◌∙◌, ℕ, zero, suc, Bool, true, false, List, [], ◌∷◌, Some, inl, inr, refl, sym, subst, ap, arith, codes, drop, get_or, length, take}
+use Rattle.std.proofs.Common.{◌≡◌, ◌≢◌, ◌≤◌, ◌⊎◌, ◌++◌, ◌∙◌, ℕ, zero, suc, Bool, true, false, List, [], ◌∷◌, Some, inl, inr, refl, sym, subst, arith, codes, drop, get_or, length, take}
 use Rattle.std.proofs.lemmas.List.{take-append-drop}
 use Rattle.std.specs.Borrow.{Bor}
 use Rattle.he_stream.specs.declared.stream.InputStream as inputs
 use Rattle.he_request.specs.Shown.{shown}
 use Rattle.he_tasks.specs.Status.{first_fault}
 use Rattle.he_tasks.specs.Texts.{OfText, RunsFile, RunsFiles}
-use Rattle.he_tasks.specs.declared.reports.TheConstants.{DONE}
 
 pub first_of_three : (one two three : ℕ) → first_fault (first_fault one two) three ≡ first_fault one (first_fault two three)
 first_of_three zero two three = refl
@@ -106,6 +105,7 @@ half_short false Runs names front back half first last before after one is_front
 
 -- a file that was opened, whose text is shown by its name
 pub of_file : {I F S : Type 0} (Runs : OfText S) (input : inputs.Ghosts I) (file : inputs.Ghosts F) (name : Bor (List ℕ)) (text : List ℕ) (first : I) (opened closed : F) (before after : S) (status : ℕ)
-    → text ≡ shown name.now → name.now ≢ codes "-" → Runs (Some text) F file opened closed before after status → RunsFile Runs input file name first first before after status
+    → text ≡ shown name.now → name.now ≢ codes "-" → Runs (Some (record { path = name.now; shown = text })) F file opened closed before after status
+    → RunsFile Runs input file name first first before after status
 of_file {I} {F} Runs input file name text first opened closed before after status same other runs =
-    inr (other, refl, inl (opened, closed, subst (λ t. Runs (Some t) F file opened closed before after status) same runs))
+    inr (other, refl, inl (opened, closed, subst (λ t. Runs (Some (record { path = name.now; shown = t })) F file opened closed before after status) same runs))

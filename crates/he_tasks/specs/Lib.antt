@@ -1,3 +1,4 @@
+pub mod Pages
 pub mod Status
 pub mod Streams
 pub mod Summaries

@@ -1,49 +1,93 @@
--- One summary of the texts that a line names.
-use Rattle.std.specs.Prelude.{◌≡◌, ◌≢◌, ◌⊎◌, ◌≤◌, ◌+◌, ◌*◌, ◌^◌, ℕ, Bool, List, [], Option, Some, None, Result, Err, if◌then◌else◌, length}
+-- One summary, or one comparison, of the texts that a line names.
+use Rattle.std.specs.Prelude.{◌≡◌, ◌≢◌, ◌⊎◌, ℕ, Bool, true, false, List, [], ◌∷◌, length, map, Option, Some, None, Result, Err, if◌then◌else◌}
 use Rattle.he_timeline.specs.Changes.{ChangeValues}
 use Rattle.he_stream.specs.declared.stream.InputStream as inputs
 use Rattle.he_stream.specs.declared.stream.OutputStream as outputs
-use Rattle.he_summary.specs.Courses.{Raced}
-use Rattle.he_summary.specs.Summed.{Adds, HasSummed, IsWritten, Sums}
-use Rattle.he_summary.specs.declared.summary.Form.{Form}
-use Rattle.he_summary.specs.declared.summary.Form.TheVariants as forms
-use Rattle.he_words.specs.Ranges.{most_races}
+use Rattle.he_compare.specs.Lines.{AreLines}
+use Rattle.he_compare.specs.Table.{IsTable}
+use Rattle.he_summary.specs.Kept.{Run, kept_of}
+use Rattle.he_summary.specs.Summed.{Adds, HasSummed, Sums}
+use Rattle.he_summary.specs.Written.{IsWritten}
+use Rattle.he_summary.specs.declared.figures.Form.{Form}
+use Rattle.he_summary.specs.declared.figures.Form.TheVariants as forms
+use Rattle.he_summary.specs.declared.kept.Kept.{Kept}
 use Rattle.he_inputs.specs.declared.stream_fault.StreamFault.{StreamFault}
 use Rattle.he_inputs.specs.declared.stream_fault.StreamFault.TheVariants.{Memory}
 use Rattle.he_request.specs.declared.texts.Task.{Task}
-use Rattle.he_request.specs.declared.texts.Task.TheVariants.{Summarize}
+use Rattle.he_request.specs.declared.texts.Task.TheVariants.{Compare, Summarize, Write}
+use Rattle.he_request.specs.declared.texts.Content.TheVariants.{Section}
+use Rattle.he_request.specs.declared.texts.Texts.{Texts}
+use Rattle.he_tasks.specs.Pages.{PutsTail}
 use Rattle.he_tasks.specs.Streams.{Gave, PutsText}
 use Rattle.he_tasks.specs.declared.reports.TheConstants.{DONE, FAULT}
 
--- so many inputs more can be summed; without sums, for which there was no memory, any number
-abbrev pub MayAddAll : Option Sums → ℕ → Type 0
-MayAddAll None inputs = Unit {0}
-MayAddAll (Some sums) inputs =
-    (races : List Raced) × HasSummed sums races × (length races + most_races * inputs ≤ 2 ^ 50)
+-- whether races are kept, for what ends the output: a comparison, a summary, or the totals of a page
+abbrev pub keeps : Task → Bool
+keeps (Compare json races) = true
+keeps (Summarize json metrics slowest) = true
+keeps (Write Section workers) = true
+keeps _ = false
 
--- the races of a text were added, up to its first fault; or there was no memory for them, and there are no sums from
--- here on
-abbrev pub AddsSums : {I : Type 0} → inputs.Ghosts I → ChangeValues → I → I → Option Sums → Option Sums
+-- the settings of each race, row by row: those of a comparison, or those of a summary
+abbrev pub rows_by : Task → Texts → List ChangeValues
+rows_by (Compare json races) texts = texts.rows.items
+rows_by (Summarize json metrics slowest) texts = texts.changes ∷ []
+rows_by (Write Section workers) texts = texts.changes ∷ []
+rows_by _ texts = []
+
+abbrev pub rows_of : Texts → List ChangeValues
+rows_of texts = rows_by texts.task texts
+
+-- the races of a text were added, as those of some place, up to its first fault; or there was no memory for them, and
+-- there are no sums from here on
+abbrev pub AddsSums : {I : Type 0} → inputs.Ghosts I → I → I → Option Sums → Option Sums
     → Result (Unit {0}) StreamFault → Type 0
-AddsSums input changes first last (Some old) (Some new) result =
-    Adds changes (Gave input first last) old new result × (result ≢ Err Memory)
-AddsSums input changes first last None (Some new) result = ⊥
-AddsSums input changes first last old None result = result ≡ Err Memory
+AddsSums input first last (Some old) (Some new) result =
+    (place : ℕ) × Adds place (Gave input first last) old new result × (result ≢ Err Memory)
+AddsSums input first last None (Some new) result = ⊥
+AddsSums input first last old None result = result ≡ Err Memory
 
-abbrev pub form_of : Bool → Form
-form_of json = if json then forms.Json else forms.Text
+abbrev pub form_of : Bool → Bool → Form
+form_of json metrics = if metrics then forms.Metrics else if json then forms.Json else forms.Text
 
--- the summary of these races, or a first part of it, was put into the output; or there was no memory for it
-abbrev pub PutsSummary : {O : Type 0} → outputs.Ghosts O → Form → Sums → O → O → ℕ → Type 0
-PutsSummary output form sums before after status =
+-- the lines of races, where they are told
+abbrev pub AreLinesOf : Bool → Form → List Kept → List ℕ → List ℕ → Type 0
+AreLinesOf true form kept old new = AreLines form None kept old new
+AreLinesOf false form kept old new = new ≡ old
+
+-- a table of so many rows, below the lines
+abbrev pub IsCompared : Bool → Form → List Kept → ℕ → List ℕ → List ℕ → Type 0
+IsCompared races form kept rows old new =
+    (between : List ℕ) × AreLinesOf races form kept old between × IsTable form kept 0 rows between new
+
+-- a summary of these races, or a comparison of so many rows
+abbrev pub IsTold : Task → List Run → ℕ → List ℕ → List ℕ → Type 0
+IsTold (Summarize json metrics slowest) runs rows old new = IsWritten (form_of json metrics) runs slowest old new
+IsTold (Compare json races) runs rows old new =
+    IsCompared races (form_of json false) (map kept_of runs) rows old new
+IsTold _ runs rows old new = Unit {0}
+
+-- that, or a first part of it, was put into the output; or there was no memory for it
+abbrev pub PutsSums : {O : Type 0} → outputs.Ghosts O → Texts → Sums → O → O → ℕ → Type 0
+PutsSums output texts sums before after status =
     ((status ≡ FAULT) × (after ≡ before))
-    ⊎ ((text : List ℕ) × ((races : List Raced) → HasSummed sums races → IsWritten form races [] text)
+    ⊎ ((text : List ℕ)
+    × ((runs : List Run) → HasSummed sums runs → IsTold texts.task runs (length texts.labels.items) [] text)
     × PutsText output text before after status)
 
--- what ends the output of a task: the summary of these sums, where it sums up; nothing, where there are none for want
+-- what ends the output of a task: what is told of these sums, where it sums up; nothing, where there are none for want
 -- of memory
-abbrev pub EndsTexts : {O : Type 0} → outputs.Ghosts O → Task → Option Sums → O → O → ℕ → Type 0
-EndsTexts output (Summarize json) (Some sums) before after status =
-    PutsSummary output (form_of json) sums before after status
-EndsTexts output (Summarize json) None before after status = (after ≡ before) × (status ≡ FAULT)
-EndsTexts output task sums before after status = (after ≡ before) × (status ≡ DONE)
+abbrev pub EndsTask : {O : Type 0} → outputs.Ghosts O → Texts → Task → Option Sums → O → O → ℕ → Type 0
+EndsTask output texts (Summarize json metrics slowest) (Some sums) before after status =
+    PutsSums output texts sums before after status
+EndsTask output texts (Compare json races) (Some sums) before after status =
+    PutsSums output texts sums before after status
+EndsTask output texts (Write Section workers) (Some sums) before after status =
+    PutsTail output sums before after status
+EndsTask output texts (Write Section workers) None before after status = (after ≡ before) × (status ≡ FAULT)
+EndsTask output texts (Summarize json metrics slowest) None before after status = (after ≡ before) × (status ≡ FAULT)
+EndsTask output texts (Compare json races) None before after status = (after ≡ before) × (status ≡ FAULT)
+EndsTask output texts task sums before after status = (after ≡ before) × (status ≡ DONE)
+
+abbrev pub EndsTexts : {O : Type 0} → outputs.Ghosts O → Texts → Option Sums → O → O → ℕ → Type 0
+EndsTexts output texts = EndsTask output texts texts.task

@@ -2,13 +2,13 @@
 use Rattle.std.specs.Prelude.{◌≡◌, ◌≢◌, ◌⊎◌, ◌++◌, ℕ, Bool, true, false, List, [], ◌∷◌, Option, Some, None, Result, Err, codes, if◌then◌else◌, option_map}
 use Rattle.std.specs.Borrow.{Bor}
 use Rattle.he_check.specs.Stream.{Checks}
-use Rattle.he_compare.specs.Stream.{Compares}
-use Rattle.he_page.specs.Page.{name_text}
 use Rattle.he_timeline.specs.Changes.{ChangeValues}
+use Rattle.he_draw.specs.Page.{HasName}
 use Rattle.he_draw.specs.declared.look.Look.TheVariants as looks
 use Rattle.he_replay.specs.Stream.{Replays}
 use Rattle.he_replay.specs.declared.race_texts.Content.{Content}
 use Rattle.he_replay.specs.declared.race_texts.Content.TheVariants as contents
+use Rattle.he_replay.specs.declared.race_texts.Printer.TheVariants as printers
 use Rattle.he_stream.specs.declared.stream.InputStream as inputs
 use Rattle.he_stream.specs.declared.stream.OutputStream as outputs
 use Rattle.he_inputs.specs.declared.stream_fault.StreamFault.{StreamFault}
@@ -19,52 +19,73 @@ use Rattle.he_request.specs.declared.texts.Content.{Content as Asked}
 use Rattle.he_request.specs.declared.texts.Task.{Task}
 use Rattle.he_request.specs.declared.texts.Task.TheVariants.{Write, Compare, Check, Summarize}
 use Rattle.he_request.specs.declared.texts.Texts.{Texts}
+use Rattle.he_tasks.specs.Pages.{PutsSections}
 use Rattle.he_tasks.specs.Status.{first_fault, status_of}
 use Rattle.he_tasks.specs.Streams.{Gave, GaveSoFar, TookAll, TookPart, TookRounds, TookRoundsPart, TookToTheEnd}
 use Rattle.he_tasks.specs.Summaries.{AddsSums}
 use Rattle.he_tasks.specs.declared.name.Name.{Name}
 use Rattle.he_tasks.specs.declared.reports.TheConstants.{DONE, FAULT}
 
--- what he_replay writes of a race where this is asked for
-abbrev pub content_of : Asked → Content
-content_of (asked.Transcript json) = if json then contents.TranscriptJson else contents.Transcript
-content_of (asked.Order json) = if json then contents.OrderJson else contents.Order
-content_of (asked.Explanation json) = if json then contents.ExplanationJson else contents.Explanation
-content_of asked.Story = contents.Story
-content_of (asked.Picture ascii width) = contents.Picture (if ascii then looks.Ascii else looks.Unicode) width
-content_of asked.Image = contents.Image
-content_of asked.Section = contents.Section
+-- what he_replay writes of a race where this is asked for, of the text of this place
+abbrev pub content_of : ℕ → Asked → Content
+content_of place (asked.Transcript json) = if json then contents.TranscriptJson else contents.Transcript
+content_of place (asked.Order json) = if json then contents.OrderJson else contents.Order
+content_of place asked.ExplanationJson = contents.Course printers.Json
+content_of place asked.Story = contents.Course printers.Story
+content_of place (asked.Picture ascii width) =
+    contents.Course (printers.Picture (if ascii then looks.Ascii else looks.Unicode) width)
+content_of place asked.Image = contents.Course printers.Image
+content_of place asked.Section = contents.Course (printers.Section place)
 
--- What comes of a text, each of whose races has these changes of its settings, where its input went from the first to
--- the last state, and the output and the sums from before to after. That a check tells all faults, or the first, is no
--- part of it.
-abbrev pub RunsTask : {I O : Type 0} → inputs.Ghosts I → outputs.Ghosts O → Task → ChangeValues → I → I
-    → O × Option Sums → O × Option Sums → Result (Unit {0}) StreamFault → Type 0
-RunsTask input output (Write content workers) changes first last before after =
-    Replays (content_of content) changes (Gave input first last) (GaveSoFar input first last)
-    (TookToTheEnd output before.0 after.0) (TookRoundsPart output before.0 after.0)
-    (TookRounds output before.0 after.0)
-RunsTask input output Compare changes first last before after =
-    Compares changes (Gave input first last) (TookAll output before.0 after.0) (TookPart output before.0 after.0)
-    (after.0 ≡ before.0)
-RunsTask input output (Check is_all) changes first last before after =
+abbrev pub is_section : Asked → Bool
+is_section asked.Section = true
+is_section _ = false
+
+-- the name of a text, as the system takes it and as it is shown
+pub record Naming : Type 0 where
+  pub path : List ℕ
+  pub shown : List ℕ
+
+abbrev pub naming : Option Name → Option Naming
+naming name = option_map (λ n. record { path = n.path.now; shown = n.shown.now }) name
+
+abbrev pub file_of : Option Naming → Option (List ℕ)
+file_of name = option_map (λ n. n.path) name
+
+-- What comes of a text from a file of this name, if it has one, each of whose races has these changes of its settings,
+-- where its input went from the first to the last state, and the output and the sums from before to after. That a
+-- check tells all faults, or the first, is no part of it.
+abbrev pub RunsTask : {I O : Type 0} → inputs.Ghosts I → outputs.Ghosts O → Task → ChangeValues → Option (List ℕ) → I
+    → I → O × Option Sums → O × Option Sums → Result (Unit {0}) StreamFault → Type 0
+RunsTask input output (Write content workers) changes file first last before after =
+    λ result. ((is_section content ≡ true) × PutsSections input output changes first last before after result)
+    ⊎ ((is_section content ≡ false) × (place : ℕ) × Replays (content_of place content) changes file (Gave input first last)
+    (GaveSoFar input first last) (TookToTheEnd output before.0 after.0) (TookRoundsPart output before.0 after.0)
+    (TookRounds output before.0 after.0) result)
+RunsTask input output (Compare json races) changes file first last before after =
+    λ result. (after.0 ≡ before.0) × AddsSums input first last before.1 after.1 result
+RunsTask input output (Check is_all) changes file first last before after =
     Checks (Gave input first last) (GaveSoFar input first last) (TookAll output before.0 after.0)
     (TookPart output before.0 after.0) (after.0 ≡ before.0)
-RunsTask input output (Summarize json) changes first last before after =
-    λ result. (after.0 ≡ before.0) × AddsSums input changes first last before.1 after.1 result
+RunsTask input output (Summarize json metrics slowest) changes file first last before after =
+    λ result. (after.0 ≡ before.0) × AddsSums input first last before.1 after.1 result
 
 -- a line as head(1) and tail(1) write it above each of several files
 abbrev pub name_line : List ℕ → List ℕ
 name_line name = codes "==> " ++ name ++ codes " <==\n"
 
--- the heading of a text of this name above what is written of its races, where that has their places in the text, as
+-- the name of a text stands above what is written of its races, where that has their places in the text, as
 -- `race 1, line 1`, and does not stand for itself alone
 abbrev pub heading_of : List ℕ → Task → Option (List ℕ)
-heading_of name (Write asked.Story workers) = Some (name_line name)
-heading_of name (Write (asked.Picture ascii width) workers) = Some (name_line name)
-heading_of name (Write asked.Section workers) = Some (name_text name)
-heading_of name Compare = Some (name_line name)
+heading_of name (Write asked.Story workers) = Some name
+heading_of name (Write (asked.Picture ascii width) workers) = Some name
+heading_of name (Write asked.Section workers) = Some name
 heading_of name _ = None
+
+-- how it stands there
+abbrev pub IsHeading : Task → List ℕ → List ℕ → Type 0
+IsHeading (Write asked.Section workers) name text = HasName name text
+IsHeading task name text = text ≡ name_line name
 
 -- whether there are several, so that they have headings
 abbrev pub has_headings : {N : Type 0} → List N → Bool
@@ -72,53 +93,53 @@ has_headings [] = false
 has_headings (one ∷ []) = false
 has_headings (one ∷ two ∷ more) = true
 
--- the name of a text, as it is shown
-abbrev pub shown_name : Option Name → Option (List ℕ)
-shown_name name = option_map (λ n. n.shown.now) name
-
--- the heading of a text that is shown by this name, if it has one
-abbrev pub heading : Task → Bool → Option (List ℕ) → Option (List ℕ)
-heading task true (Some name) = heading_of name task
+-- the name that heads a text of this name, if one does
+abbrev pub heading : Task → Bool → Option Naming → Option (List ℕ)
+heading task true (Some name) = heading_of name.shown task
 heading task headed name = None
 
 -- the heading, where there is one, was put
-abbrev pub HasHeading : {O : Type 0} → outputs.Ghosts O → Option (List ℕ) → O → O → Type 0
-HasHeading output None before after = after ≡ before
-HasHeading output (Some text) before after = TookAll output before after text
+abbrev pub HasHeading : {O : Type 0} → outputs.Ghosts O → Task → Option (List ℕ) → O → O → Type 0
+HasHeading output task None before after = after ≡ before
+HasHeading output task (Some name) before after =
+    (text : List ℕ) × IsHeading task name text × TookAll output before after text
 
 -- a first part of it was put until that failed, or nothing for want of memory
-abbrev pub LacksHeading : {O : Type 0} → outputs.Ghosts O → Option (List ℕ) → O → O → Type 0
-LacksHeading output None before after = ⊥
-LacksHeading output (Some text) before after = TookPart output before after text ⊎ (after ≡ before)
+abbrev pub LacksHeading : {O : Type 0} → outputs.Ghosts O → Task → Option (List ℕ) → O → O → Type 0
+LacksHeading output task None before after = ⊥
+LacksHeading output task (Some name) before after =
+    ((text : List ℕ) × IsHeading task name text × TookPart output before after text) ⊎ (after ≡ before)
 
 -- the task was done below the heading; or there was a fault in that, and nothing was read
-abbrev pub RunsHeaded : {I O : Type 0} → inputs.Ghosts I → outputs.Ghosts O → Task → ChangeValues → Option (List ℕ) → I
-    → I → O × Option Sums → O × Option Sums → Result (Unit {0}) StreamFault → Type 0
-RunsHeaded {I} {O} input output task changes text first last before after result =
-    ((between : O) × HasHeading output text before.0 between
-    × RunsTask input output task changes first last (between, before.1) after result)
-    ⊎ ((fault : StreamFault) × (result ≡ Err fault) × (last ≡ first) × LacksHeading output text before.0 after.0)
+abbrev pub RunsHeaded : {I O : Type 0} → inputs.Ghosts I → outputs.Ghosts O → Task → ChangeValues → Bool
+    → Option Naming → I → I → O × Option Sums → O × Option Sums → Result (Unit {0}) StreamFault → Type 0
+RunsHeaded {I} {O} input output task changes headed name first last before after result =
+    ((between : O) × HasHeading output task (heading task headed name) before.0 between
+    × RunsTask input output task changes (file_of name) first last (between, before.1) after result)
+    ⊎ ((fault : StreamFault) × (result ≡ Err fault) × (last ≡ first)
+    × LacksHeading output task (heading task headed name) before.0 after.0)
 
--- what comes of a text that is shown by this name, if it has one, by the states of its input and of what it is worked
--- into, and by the status
+-- what comes of a text of this name, if it has one, by the states of its input and of what it is worked into, and by
+-- the status
 abbrev pub OfText : Type 0 → Type 1
-OfText S = Option (List ℕ) → (I : Type 0) → inputs.Ghosts I → I → I → S → S → ℕ → Type 0
+OfText S = Option Naming → (I : Type 0) → inputs.Ghosts I → I → I → S → S → ℕ → Type 0
 
 -- one of these texts: the task was done below its heading, and the status tells how that ended
 abbrev pub RunsOne : {O : Type 0} → outputs.Ghosts O → Texts → OfText (O × Option Sums)
 RunsOne output texts name I input first last before after status =
     (result : Result (Unit {0}) StreamFault)
-    × RunsHeaded input output texts.task texts.changes (heading texts.task (has_headings texts.files.items) name) first
-    last before after result
+    × RunsHeaded input output texts.task texts.changes (has_headings texts.files.items) name first last before after
+    result
     × (status ≡ status_of result)
 
 -- what comes of a name: `-` is the input; another is a file, which gave a text, or which can't be opened
 abbrev pub RunsFile : {I F S : Type 0} → OfText S → inputs.Ghosts I → inputs.Ghosts F → Bor (List ℕ) → I → I → S → S
     → ℕ → Type 0
 RunsFile {I} {F} Runs input file name first last before after status =
-    ((name.now ≡ codes "-") × Runs (Some name.now) I input first last before after status)
+    ((name.now ≡ codes "-") × Runs (Some (record { path = name.now; shown = name.now })) I input first last before after status)
     ⊎ ((name.now ≢ codes "-") × (last ≡ first)
-    × (((opened : F) × (closed : F) × Runs (Some (shown name.now)) F file opened closed before after status)
+    × (((opened : F) × (closed : F)
+    × Runs (Some (record { path = name.now; shown = shown name.now })) F file opened closed before after status)
     ⊎ ((after ≡ before) × (status ≡ FAULT))))
 
 -- What comes of files, one after the other: those after one that has a fault are left out, or not. The status is that

@@ -1,6 +1,5 @@
 -- What is written of all the texts that a line names, to the output or to a file.
-use Rattle.std.specs.Prelude.{◌≡◌, ◌⊎◌, ℕ, [], List, Option, Some, None, MatchOption}
-use Rattle.he_page.specs.Page.{head_text}
+use Rattle.std.specs.Prelude.{◌≡◌, ◌⊎◌, ℕ, Bool, true, false, [], List, Option, Some, MatchOption}
 use Rattle.he_request.specs.declared.texts.Content.TheVariants.{Section}
 use Rattle.he_request.specs.declared.texts.Task.{Task}
 use Rattle.he_request.specs.declared.texts.Task.TheVariants.{Write}
@@ -9,26 +8,40 @@ use Rattle.he_stream.specs.declared.stream.InputStream as inputs
 use Rattle.he_stream.specs.declared.stream.OutputStream as outputs
 use Rattle.he_summary.specs.Summed.{HasSummed, Sums}
 use Rattle.he_tasks.specs.Status.{first_fault}
-use Rattle.he_tasks.specs.Summaries.{EndsTexts}
-use Rattle.he_tasks.specs.Texts.{HasHeading, LacksHeading, RunsAll, RunsOne}
+use Rattle.he_tasks.specs.Streams.{TookAll, TookPart}
+use Rattle.he_tasks.specs.Summaries.{EndsTexts, keeps, rows_of}
+use Rattle.he_tasks.specs.Texts.{RunsAll, RunsOne}
 use Rattle.he_tasks.specs.declared.reports.TheConstants.{DONE, FAULT}
 
--- a page begins with its head
-abbrev pub head_of : Task → Option (List ℕ)
-head_of (Write Section workers) = Some head_text
-head_of _ = None
+-- a page begins with a head, whose words are free
+abbrev pub is_page : Task → Bool
+is_page (Write Section workers) = true
+is_page _ = false
+
+-- the head of a page was put
+abbrev pub HasHead : {O : Type 0} → outputs.Ghosts O → Bool → O → O → Type 0
+HasHead output false before after = after ≡ before
+HasHead output true before after = (head : List ℕ) × TookAll output before after head
+
+-- a first part of it was put until that failed; or there was no memory for it, or for the races that are kept, and
+-- nothing was put
+abbrev pub LacksStart : {O : Type 0} → outputs.Ghosts O → Task → O → O → Type 0
+LacksStart output task before after =
+    ((is_page task ≡ true) × (head : List ℕ) × TookPart output before after head)
+    ⊎ ((keeps task ≡ true) × (after ≡ before))
 
 -- The head was put, then what comes of the texts, one after the other, with the sums of no race to begin with, then
--- what ends it; or there was a fault in putting the head, and nothing was read.
+-- what ends it; or there was a fault before that, and nothing was read.
 abbrev pub WritesTexts : {I F O : Type 0} → inputs.Ghosts I → inputs.Ghosts F → outputs.Ghosts O → Texts → I → I → O
     → O → ℕ → Type 0
 WritesTexts {I} {F} {O} input file output texts first last before after status =
     ((none : Sums) × (headed told : O) × (sums : Option Sums) × (own end : ℕ) × HasSummed none []
-    × HasHeading output (head_of texts.task) before headed
+    × (none.settings ≡ rows_of texts)
+    × HasHead output (is_page texts.task) before headed
     × RunsAll texts.goes_on (RunsOne output texts) input file texts.files.items first last (headed, Some none)
     (told, sums) own
-    × EndsTexts output texts.task sums told after end × (status ≡ first_fault own end))
-    ⊎ ((status ≡ FAULT) × (last ≡ first) × LacksHeading output (head_of texts.task) before after)
+    × EndsTexts output texts sums told after end × (status ≡ first_fault own end))
+    ⊎ ((status ≡ FAULT) × (last ≡ first) × LacksStart output texts.task before after)
 
 -- that was done in a file that was made for it
 abbrev pub FillsFile : {I F P : Type 0} → inputs.Ghosts I → inputs.Ghosts F → outputs.Ghosts P → Texts → I → I → ℕ

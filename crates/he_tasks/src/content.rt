@@ -4,27 +4,26 @@ ghost use Rattle.he_draw.specs.declared.look.Look.TheVariants.{Ascii, Unicode};
 ghost use Rattle.he_tasks.specs.Texts.{content_of};
 
 use he_draw::Look;
-use he_replay::Content;
+use he_replay::{Content, Printer};
 use he_request::texts::Content as Asked;
 
-// What `he_replay` writes where this is asked for.
-pub(crate) fn content_of(asked: Asked) -> Content
-    ensures { result ≡ content_of asked }
+// What `he_replay` writes where this is asked for, of the text of this place.
+pub(crate) fn content_of(place: usize, asked: Asked) -> Content
+    ensures { result ≡ content_of place asked }
 {
     match asked {
         Asked::Transcript { is_json: false } => Content::Transcript,
         Asked::Transcript { is_json: true } => Content::TranscriptJson,
         Asked::Order { is_json: false } => Content::Order,
         Asked::Order { is_json: true } => Content::OrderJson,
-        Asked::Explanation { is_json: false } => Content::Explanation,
-        Asked::Explanation { is_json: true } => Content::ExplanationJson,
-        Asked::Story => Content::Story,
-        Asked::Picture { is_ascii, width } => Content::Picture {
+        Asked::ExplanationJson => Content::Course(Printer::Json),
+        Asked::Story => Content::Course(Printer::Story),
+        Asked::Picture { is_ascii, width } => Content::Course(Printer::Picture {
             look: look_of(is_ascii),
             width,
-        },
-        Asked::Image => Content::Image,
-        Asked::Section => Content::Section,
+        }),
+        Asked::Image => Content::Course(Printer::Image),
+        Asked::Section => Content::Course(Printer::Section { text: place }),
     }
 }
 

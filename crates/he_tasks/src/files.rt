@@ -1,6 +1,5 @@
 //! The texts that a line names, one after the other.
-ghost use Rattle.std.specs.Prelude.{◌≡◌, ◌+◌, ℕ, length};
-ghost use Rattle.he_tasks.specs.Summaries.{MayAddAll};
+ghost use Rattle.std.specs.Prelude.{◌≡◌};
 ghost use Rattle.he_request.specs.Requests.{HasTaskWorkers};
 ghost use Rattle.he_tasks.specs.Texts.{RunsAll, RunsFile, RunsFiles, RunsOne};
 
@@ -13,7 +12,7 @@ use he_inputs::StreamFault;
 use he_request::shown::shown;
 use he_request::{STANDARD, Task, Texts};
 use he_stream::{FromReader, InputStream, OutputStream};
-use he_summary::Summary;
+use he_summary::Races;
 use std::alloc::Global;
 use std::fs;
 use std::io::Write;
@@ -25,10 +24,9 @@ pub(crate) fn run_all<R: TaskSystem, I: InputStream, O: OutputStream, F: Write>(
     session: &mut Session<'_, '_, R, O, F>,
     texts: &Texts<'_>,
     input: &mut I,
-    sums: &mut Option<Summary<Global>>,
+    sums: &mut Option<Races<Global>>,
 ) -> u8
-    requires task { HasTaskWorkers texts.now.task }
-    requires may { MayAddAll sums.old (length texts.now.files.items + 1) }
+    requires { HasTaskWorkers texts.now.task }
     ensures { RunsAll texts.now.goes_on (RunsOne O.OutputStream texts.now)
         I.InputStream ⟦<FromReader<R::File> as InputStream>⟧ texts.now.files.items input.old input.new
         (session.old.output, sums.old) (session.new.output, sums.new) result }
@@ -48,17 +46,16 @@ fn run_files<R: TaskSystem, I: InputStream, O: OutputStream, F: Write>(
     texts: &Texts<'_>,
     names: &[&str],
     input: &mut I,
-    sums: &mut Option<Summary<Global>>,
+    sums: &mut Option<Races<Global>>,
 ) -> u8
-    requires task { HasTaskWorkers texts.now.task }
-    requires may { MayAddAll sums.old (length names.now + 1) }
-    ensures done { RunsFiles texts.now.goes_on (RunsFile (RunsOne O.OutputStream texts.now)
+    requires { HasTaskWorkers texts.now.task }
+    ensures { RunsFiles texts.now.goes_on (RunsFile (RunsOne O.OutputStream texts.now)
         I.InputStream ⟦<FromReader<R::File> as InputStream>⟧) names.now input.old input.new
         (session.old.output, sums.old) (session.new.output, sums.new) result }
-    ensures more { (more : ℕ) → MayAddAll sums.old (length names.now + more) → MayAddAll sums.new more }
 {
     if let [name] = names {
         let status = run_name(session, texts, name, input, sums);
+        session.place = session.place.saturating_add(1);
         session.unread = session.unread.saturating_add(usize::from(status != DONE));
         return status;
     }
@@ -74,11 +71,14 @@ fn run_files<R: TaskSystem, I: InputStream, O: OutputStream, F: Write>(
     first_fault(first, run_files(session, texts, back, input, sums))
 }
 
-// Says how many files are not in a summary, or only in part.
+// Says how many files are not in a summary or a comparison, or only in part.
 fn tell_unread<F: Write>(task: Task, unread: usize, faults: &mut F) {
     let _ = match (task, unread) {
-        (Task::Summarize { .. }, 1) => writeln!(faults, "he: 1 file not read to its end"),
-        (Task::Summarize { .. }, 2..) => writeln!(
+        (Task::Compare { .. } | Task::Summarize { .. }, 1) => writeln!(
+            faults,
+            "he: 1 file not read to its end"
+        ),
+        (Task::Compare { .. } | Task::Summarize { .. }, 2..) => writeln!(
             faults,
             "he: {unread} files not read to their end"
         ),
@@ -92,14 +92,12 @@ fn run_name<R: TaskSystem, I: InputStream, O: OutputStream, F: Write>(
     texts: &Texts<'_>,
     path: &str,
     input: &mut I,
-    sums: &mut Option<Summary<Global>>,
+    sums: &mut Option<Races<Global>>,
 ) -> u8
-    requires task { HasTaskWorkers texts.now.task }
-    requires may { (more : ℕ) × MayAddAll sums.old (more + 1) }
-    ensures done { RunsFile (RunsOne O.OutputStream texts.now)
+    requires { HasTaskWorkers texts.now.task }
+    ensures { RunsFile (RunsOne O.OutputStream texts.now)
         I.InputStream ⟦<FromReader<R::File> as InputStream>⟧ path.entry input.old input.new
         (session.old.output, sums.old) (session.new.output, sums.new) result }
-    ensures more { (more : ℕ) → MayAddAll sums.old (more + 1) → MayAddAll sums.new more }
 {
     if path == STANDARD {
         let name = Some(Name { path, shown: path });

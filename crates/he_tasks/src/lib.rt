@@ -5,16 +5,16 @@
 //!
 //! Proved (`run_texts`):
 //!
-//! - Each text is replayed, compared, checked or summed up as the crate of that says, with the settings of the line,
+//! - Each text is replayed, checked or summed up as the crate of that says, with the settings of the line,
 //!   and the status tells how it ended (`specs/Texts`, `specs/Status`).
 //! - Files are read one after the other, `-` among them the input, up to the first that can't be opened or has a
 //!   fault, or all of them by --keep-going and `check --all`; the status is that of the first fault. Where there are
-//!   several, what `explain`, `draw` and `compare` write of each stands below its heading, whose name has no character
-//!   that controls a terminal, but not lines, JSON or SVG (`specs/Texts`).
+//!   several, what `explain` and `draw` write of each stands below its heading, whose name has no character that
+//!   controls a terminal, but not JSON or SVG (`specs/Texts`).
 //! - A page begins with its head. One that goes to a file leaves the output alone, and is written to a file that was
 //!   made for it (`specs/Whole`).
-//! - `he summary` writes one summary of the races of all texts, each up to its first fault, or nothing where memory
-//!   was refused (`specs/Summaries`).
+//! - `he summary` writes one summary of the races of all texts, each up to its first fault, and `he compare` one table
+//!   of them, or nothing where memory was refused (`specs/Summaries`).
 //!
 //! Only tested: which files are opened and when they take their names, and what faults and their explanations say.
 #![tactic(auto)]
@@ -22,9 +22,10 @@
 mod content;
 mod files;
 pub mod name;
+mod page;
 pub mod reports;
 pub mod session;
-mod summary;
+mod sums;
 pub mod system;
 mod text;
 pub mod whole;

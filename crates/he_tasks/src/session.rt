@@ -1,5 +1,6 @@
 //! What a run of the program is handed.
-ghost use Rattle.std.specs.Prelude.{◌≡◌, OnErr, OnOk};
+ghost use Rattle.std.specs.Prelude.{◌≡◌, IfErr, OnErr, OnOk};
+ghost use Rattle.he_inputs.specs.declared.stream_fault.StreamFault.TheVariants as faults;
 ghost use Rattle.he_tasks.specs.Streams.{PutsText, TookAll, TookPart};
 
 use crate::name::Name;
@@ -21,6 +22,8 @@ pub struct Session<'r, 'n, R, O, F> {
     pub faults: F,
     /// The file that the output is; None for standard output.
     pub file: Option<Name<'n>>,
+    /// The place of the file that is read next, among all.
+    pub place: usize,
     /// How many files were not read to their end.
     pub unread: usize,
 }
@@ -29,6 +32,7 @@ pub struct Session<'r, 'n, R, O, F> {
 pub(crate) fn put_text<O: OutputStream>(text: &[u8], output: &mut O) -> Result<(), StreamFault>
     ensures ok { OnOk result (TookAll O.OutputStream output.old output.new text.now) }
     ensures err { OnErr result (TookPart O.OutputStream output.old output.new text.now) }
+    ensures fault { IfErr result (λ fault. fault ≡ faults.Write) }
 {
     write_whole(output, text).map_err(|_| StreamFault::Write)
 }

@@ -1,27 +1,27 @@
 //! What is written of one text of races, or told of it.
-ghost use Rattle.std.specs.Prelude.{◌≡◌, ◌+◌, ℕ, IfOk, OnErr, OnOk, true};
-ghost use Rattle.he_page.specs.Page.{name_text};
+ghost use Rattle.std.specs.Prelude.{◌≡◌, IfOk, OnErr, OnOk, true};
+ghost use Rattle.he_draw.specs.Page.{HasName};
+ghost use Rattle.he_json.specs.Documents.{name_of};
 ghost use Rattle.he_tasks.specs.Status.{status_of};
-ghost use Rattle.he_tasks.specs.Summaries.{AddsSums, MayAddAll};
+ghost use Rattle.he_tasks.specs.Summaries.{AddsSums};
 ghost use Rattle.he_request.specs.Requests.{HasTaskWorkers};
-ghost use Rattle.he_tasks.specs.Texts.{HasHeading, LacksHeading, RunsHeaded, RunsOne, RunsTask};
-ghost use Rattle.he_tasks.specs.Texts.{has_headings, heading, name_line, shown_name};
+ghost use Rattle.he_tasks.specs.Texts.{HasHeading, LacksHeading, RunsHeaded, RunsOne, RunsTask, is_section};
+ghost use Rattle.he_tasks.specs.Texts.{file_of, has_headings, heading, name_line, naming};
 
 use crate::content::content_of;
 use crate::name::Name;
+use crate::page::put_sections;
 use crate::reports::{DONE, FAULT, explain_in, report_in, tell_lines, tell_reason};
 use crate::session::{Session, put_text, report_unwritten};
 use crate::system::TaskSystem;
 use he_addr::Memory;
 use he_check::check;
-use he_compare::compare;
+use he_draw::write_name;
 use he_inputs::StreamFault;
-use he_page::write_name;
 use he_replay::{TextRequest, replay};
 use he_request::{Content, Task, Texts};
 use he_stream::{InputStream, OutputStream};
-use he_summary::Summary;
-use he_timeline::Changes;
+use he_summary::Races;
 use std::alloc::{AllocError, Global};
 use std::io::Write;
 use std::mem::drop;
@@ -38,13 +38,11 @@ pub(crate) fn run_text<R: TaskSystem, I: InputStream, O: OutputStream, F: Write>
     session: &mut Session<'_, '_, R, O, F>,
     text: Text<'_>,
     input: &mut I,
-    sums: &mut Option<Summary<Global>>,
+    sums: &mut Option<Races<Global>>,
 ) -> u8
-    requires task { HasTaskWorkers text.texts.now.task }
-    requires may { (more : ℕ) × MayAddAll sums.old (more + 1) }
-    ensures done { RunsOne O.OutputStream text.entry.texts.now (shown_name text.entry.name) I I.InputStream
+    requires { HasTaskWorkers text.texts.now.task }
+    ensures { RunsOne O.OutputStream text.entry.texts.now (naming text.entry.name) I I.InputStream
         input.old input.new (session.old.output, sums.old) (session.new.output, sums.new) result }
-    ensures more { (more : ℕ) → MayAddAll sums.old (more + 1) → MayAddAll sums.new more }
 {
     let mut told = Vec::new(session.alloc);
     let end = run_headed(session, text, input, sums, &mut told);
@@ -58,21 +56,18 @@ fn run_headed<R: TaskSystem, I: InputStream, O: OutputStream, F>(
     session: &mut Session<'_, '_, R, O, F>,
     text: Text<'_>,
     input: &mut I,
-    sums: &mut Option<Summary<Global>>,
+    sums: &mut Option<Races<Global>>,
     told: &mut Vec<u8>,
 ) -> Result<(), StreamFault>
-    requires task { HasTaskWorkers text.texts.now.task }
-    requires may { (more : ℕ) × MayAddAll sums.old (more + 1) }
-    ensures done { RunsHeaded I.InputStream O.OutputStream text.entry.texts.now.task text.entry.texts.now.changes
-        (heading text.entry.texts.now.task (has_headings text.entry.texts.now.files.items)
-        (shown_name text.entry.name)) input.old input.new (session.old.output, sums.old)
-        (session.new.output, sums.new) result }
-    ensures more { (more : ℕ) → MayAddAll sums.old (more + 1) → MayAddAll sums.new more }
+    requires { HasTaskWorkers text.texts.now.task }
+    ensures { RunsHeaded I.InputStream O.OutputStream text.entry.texts.now.task text.entry.texts.now.changes
+        (has_headings text.entry.texts.now.files.items) (naming text.entry.name) input.old input.new
+        (session.old.output, sums.old) (session.new.output, sums.new) result }
 {
     if has_headings(text.texts) {
         put_heading(session.alloc, text, &mut session.output)?;
     }
-    run_task(session, text.texts, input, sums, told)
+    run_task(session, text, input, sums, told)
 }
 
 // Whether there are several texts, so that they have headings.
@@ -88,17 +83,16 @@ fn put_heading<O: OutputStream>(
     text: Text<'_>,
     output: &mut O,
 ) -> Result<(), StreamFault>
-    ensures ok { OnOk result (HasHeading O.OutputStream
-        (heading text.entry.texts.now.task true (shown_name text.entry.name)) output.old output.new) }
-    ensures err { OnErr result (LacksHeading O.OutputStream
-        (heading text.entry.texts.now.task true (shown_name text.entry.name)) output.old output.new) }
+    ensures ok { OnOk result (HasHeading O.OutputStream text.entry.texts.now.task
+        (heading text.entry.texts.now.task true (naming text.entry.name)) output.old output.new) }
+    ensures err { OnErr result (LacksHeading O.OutputStream text.entry.texts.now.task
+        (heading text.entry.texts.now.task true (naming text.entry.name)) output.old output.new) }
 {
     let Some(name) = text.name else {
         return Ok(());
     };
     match text.texts.task {
-        Task::Compare
-        | Task::Write {
+        Task::Write {
             content: Content::Story | Content::Picture { .. },
             ..
         } => put_text(&name_line(alloc, name.shown)?, output),
@@ -122,7 +116,7 @@ fn name_line(alloc: Global, name: &str) -> Result<Vec<u8>, AllocError>
 }
 
 fn name_in_page(alloc: Global, name: &str) -> Result<Vec<u8>, Memory>
-    ensures { IfOk result (λ line. line.items ≡ name_text name.now) }
+    ensures { IfOk result (λ line. HasName name.now line.items) }
 {
     let mut line = Vec::new(alloc);
     write_name(name, &mut line)?;
@@ -132,56 +126,67 @@ fn name_in_page(alloc: Global, name: &str) -> Result<Vec<u8>, Memory>
 // Does it with one text. What a check tells of it stands in `told` then.
 fn run_task<R: TaskSystem, I: InputStream, O: OutputStream, F>(
     session: &mut Session<'_, '_, R, O, F>,
-    texts: &Texts<'_>,
+    text: Text<'_>,
     input: &mut I,
-    sums: &mut Option<Summary<Global>>,
+    sums: &mut Option<Races<Global>>,
     told: &mut Vec<u8>,
 ) -> Result<(), StreamFault>
-    requires task { HasTaskWorkers texts.now.task }
-    requires may { (more : ℕ) × MayAddAll sums.old (more + 1) }
-    ensures done { RunsTask I.InputStream O.OutputStream texts.now.task texts.now.changes input.old input.new
-        (session.old.output, sums.old) (session.new.output, sums.new) result }
-    ensures more { (more : ℕ) → MayAddAll sums.old (more + 1) → MayAddAll sums.new more }
+    requires { HasTaskWorkers text.texts.now.task }
+    ensures { RunsTask I.InputStream O.OutputStream text.entry.texts.now.task text.entry.texts.now.changes
+        (file_of (naming text.entry.name)) input.old input.new (session.old.output, sums.old)
+        (session.new.output, sums.new) result }
 {
-    let (alloc, changes) = (session.alloc, texts.changes);
-    match texts.task {
+    let alloc = session.alloc;
+    match text.texts.task {
+        Task::Write { content, .. } if is_section(content) => {
+            put_sections(session, text.texts.changes, input, sums)
+        }
         Task::Write { content, workers } => {
             let asked = TextRequest {
-                content: content_of(content),
-                changes,
+                content: content_of(session.place, content),
+                changes: text.texts.changes,
+                file: file_of(text.name),
             };
-            replay(
-                session.system,
-                alloc,
-                asked,
-                workers,
-                input,
-                &mut session.output,
-            )
+            let output = &mut session.output;
+            replay(session.system, alloc, &asked, workers, input, output)
         }
-        Task::Compare => compare(alloc, changes, input, &mut session.output),
         Task::Check { is_all } => check(alloc, is_all, input, &mut session.output, told),
-        Task::Summarize { .. } => add_text(changes, input, sums),
+        Task::Compare { .. } | Task::Summarize { .. } => add_text(session.place, input, sums),
     }
 }
 
-// Adds the races of a text to the sums. There are no sums after one for which there was no memory.
-fn add_text<I: InputStream>(
-    changes: Changes,
-    input: &mut I,
-    sums: &mut Option<Summary<Global>>,
-) -> Result<(), StreamFault>
-    requires { (more : ℕ) × MayAddAll sums.old (more + 1) }
-    ensures done { AddsSums I.InputStream changes input.old input.new sums.old sums.new result }
-    ensures more { (more : ℕ) → MayAddAll sums.old (more + 1) → MayAddAll sums.new more }
+fn is_section(content: Content) -> bool
+    ensures { result ≡ is_section content }
 {
-    let Some(mut summary) = sums.take() else {
+    matches!(content, Content::Section)
+}
+
+// The name of the file, as JSON has it.
+fn file_of<'n>(name: Option<Name<'n>>) -> Option<&'n str>
+    ensures { name_of result ≡ file_of (naming name.entry) }
+{
+    match name {
+        Some(name) => Some(name.path),
+        None => None,
+    }
+}
+
+// Adds the races of a text, whose place is this, to the sums. There are no sums after one for which there was no
+// memory.
+fn add_text<I: InputStream>(
+    place: usize,
+    input: &mut I,
+    sums: &mut Option<Races<Global>>,
+) -> Result<(), StreamFault>
+    ensures { AddsSums I.InputStream input.old input.new sums.old sums.new result }
+{
+    let Some(mut races) = sums.take() else {
         return Err(StreamFault::Memory);
     };
-    let end = summary.add(changes, input);
+    let end = races.add(place, input);
     match end {
-        Err(StreamFault::Memory) => drop(summary),
-        _ => *sums = Some(summary),
+        Err(StreamFault::Memory) => drop(races),
+        _ => *sums = Some(races),
     }
     end
 }

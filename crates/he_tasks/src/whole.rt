@@ -1,23 +1,24 @@
 //! What is written of all the texts that a line names, to the output or to a file.
-ghost use Rattle.std.specs.Prelude.{◌≡◌, OnErr, OnOk};
+ghost use Rattle.std.specs.Prelude.{◌≡◌, IfOk, OnErr, OnOk, true};
 ghost use Rattle.he_request.specs.Requests.{IsTexts};
-ghost use Rattle.he_tasks.specs.Texts.{HasHeading, LacksHeading};
-ghost use Rattle.he_tasks.specs.Whole.{DoesTexts, FillsFile, WritesFile, WritesTexts, head_of};
+ghost use Rattle.he_tasks.specs.Summaries.{keeps, rows_of};
+ghost use Rattle.he_tasks.specs.Whole.{DoesTexts, FillsFile, HasHead, LacksStart, WritesFile, WritesTexts, is_page};
 
 use crate::files::run_all;
 use crate::name::Name;
+use crate::page::put_head;
 use crate::reports::{DONE, first_fault, report, report_path};
-use crate::session::{Session, put_text, report_unwritten};
-use crate::summary::end_texts;
+use crate::session::{Session, report_unwritten};
+use crate::sums::end_texts;
 use crate::system::TaskSystem;
 use he_files::create_beside;
 use he_inputs::StreamFault;
-use he_page::write_head;
 use he_request::shown::shown;
 use he_request::{Content, Task, Texts};
 use he_stream::{FromReader, InputStream, OutputStream, ToWriter};
-use he_summary::Summary;
-use std::alloc::Global;
+use he_summary::Races;
+use he_timeline::Changes;
+use std::alloc::{AllocError, Global};
 use std::io::Write;
 use std::mem::drop;
 
@@ -89,6 +90,7 @@ fn fill_file<R: TaskSystem, I: InputStream, O: OutputStream, F: Write>(
             path,
             shown: shown.as_ref().map_or("", |shown| shown.as_str()),
         }),
+        place: 0,
         unread: 0,
     };
     let status = write_texts(&mut page, texts, input);
@@ -106,8 +108,11 @@ fn write_texts<R: TaskSystem, I: InputStream, O: OutputStream, F: Write>(
     ensures { WritesTexts I.InputStream ⟦<FromReader<R::File> as InputStream>⟧ O.OutputStream texts.now
         input.old input.new session.old.output session.new.output result }
 {
-    let mut sums = Some(Summary::new(session.alloc));
-    match put_head(session.alloc, texts.task, &mut session.output) {
+    let Ok(rows) = rows_of(session.alloc, texts) else {
+        return report(StreamFault::Memory, &mut session.faults);
+    };
+    let mut sums = Some(Races::new(session.alloc, rows));
+    match begin(session.alloc, texts.task, &mut session.output) {
         Ok(()) => {
             let own = run_all(session, texts, input, &mut sums);
             let end = end_texts(session, texts, sums);
@@ -118,20 +123,34 @@ fn write_texts<R: TaskSystem, I: InputStream, O: OutputStream, F: Write>(
     }
 }
 
+// The settings of each race, row by row: those of a comparison, or those of a summary.
+fn rows_of(alloc: Global, texts: &Texts<'_>) -> Result<Vec<Changes>, AllocError>
+    ensures ok { IfOk result (λ rows. rows.items ≡ rows_of texts.now) }
+    ensures err { OnErr result (keeps texts.now.task ≡ true) }
+{
+    let mut rows = Vec::new(alloc);
+    match texts.task {
+        Task::Compare { .. } => rows.extend_from_slice(texts.rows.as_slice())?,
+        Task::Summarize { .. }
+        | Task::Write {
+            content: Content::Section,
+            ..
+        } => rows.push(texts.changes)?,
+        _ => {}
+    }
+    Ok(rows)
+}
+
 // Puts what begins a page, where it is one.
-fn put_head<O: OutputStream>(alloc: Global, task: Task, output: &mut O) -> Result<(), StreamFault>
-    ensures ok { OnOk result (HasHeading O.OutputStream (head_of task) output.old output.new) }
-    ensures err { OnErr result (LacksHeading O.OutputStream (head_of task) output.old output.new) }
+fn begin<O: OutputStream>(alloc: Global, task: Task, output: &mut O) -> Result<(), StreamFault>
+    ensures ok { OnOk result (HasHead O.OutputStream (is_page task) output.old output.new) }
+    ensures err { OnErr result (LacksStart O.OutputStream task output.old output.new) }
 {
     match task {
         Task::Write {
             content: Content::Section,
             ..
-        } => {
-            let mut head = Vec::new(alloc);
-            write_head(&mut head)?;
-            put_text(&head, output)
-        }
+        } => put_head(alloc, output),
         _ => Ok(()),
     }
 }

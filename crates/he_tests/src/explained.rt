@@ -3,18 +3,28 @@
 
 use crate::explanations::RACES;
 use he_addr::Memory;
-use he_explain::write_explanation;
+use he_course::Course;
+use he_json::write_explanation_json;
 use he_text::{TextKind, read_race};
 use he_timeline::Timeline;
 use refusing::{Refusing, refused_in_turn};
 
 // Whether what is written of this race is what is wanted; none where memory was refused.
 fn is_written<'h>(heap: &'h Refusing, race: &Timeline<&'h Refusing>, wanted: &str) -> Option<bool> {
-    let mut out = Vec::new(heap);
-    match write_explanation(heap, race, &mut out) {
-        Ok(()) => Some(out.as_slice() == wanted.as_bytes()),
+    match explained(heap, race) {
+        Ok(text) => Some(text.as_slice() == wanted.as_bytes()),
         Err(Memory) => None,
     }
+}
+
+fn explained<'h>(
+    heap: &'h Refusing,
+    race: &Timeline<&'h Refusing>,
+) -> Result<Vec<u8, &'h Refusing>, Memory> {
+    let course = Course::of(heap, race, 1, 1)?;
+    let mut out = Vec::new(heap);
+    write_explanation_json(heap, &course, None, &mut out)?;
+    Ok(out)
 }
 
 // The same of the race with which the text begins.

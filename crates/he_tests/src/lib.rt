@@ -1,5 +1,6 @@
-//! Tests that no file of races can hold: of `he_text` timelines written and texts that may go on, of `he_text` and
-//! `he_explain` want of memory. What is read, written and explained is tried by examples, `crates/cases/data`.
+//! Tests that no file of races can hold: of `he_text` timelines written and texts that may go on, of `he_text`,
+//! `he_course` and `he_json` want of memory. What is read, written and explained is tried by examples,
+//! `crates/cases/data`.
 #![tactic(auto)]
 
 #[cfg(test)]

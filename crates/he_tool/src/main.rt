@@ -65,6 +65,7 @@ where
         output: ToWriter::new(Waiting::output(rt.stdout())),
         faults: rt.stderr(),
         file: None,
+        place: 0,
         unread: 0,
     };
     let line = read_words(session.alloc, words, columns_of(system));

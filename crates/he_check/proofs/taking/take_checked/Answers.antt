@@ -5,7 +5,7 @@ use Rattle.std.specs.Io.KnownBytes.{Consumes, IsAtEnd}
 use Rattle.he_inputs.specs.declared.race_reader.Ending.TheVariants as endings
 use Rattle.he_inputs.specs.declared.stream_fault.StreamFault.TheVariants as checks
 use Rattle.he_inputs.proofs.RaceReadingLaws.{err_handed}
-use Rattle.he_stream.specs.declared.limits.TheConstants.{INPUT_ROOM}
+use Rattle.he_check.specs.declared.limits.TheConstants.{STEP_ROOM}
 use Rattle.he_stream.specs.Input.{Gives, GivesSoFar}
 use Rattle.he_stream.specs.Limits.{most_reads}
 use Rattle.he_stream.proofs.Chains.{one_step_more}
@@ -42,17 +42,17 @@ returns-in_err-count-clause-wrong g c =
 pub gain-requires-clause-within : goal.gain-requires-clause-within
 gain-requires-clause-within g c =
     let step = rw c.in-Bytes.is at c.in_ok-count.ensures.step in
-    let small : c.in-Bytes.count ≤ INPUT_ROOM = omega (arith, step.0.1, length-take {A = ℕ}) in
-    let room : c.loop-steps.held.filled + INPUT_ROOM ≤ vec_len c.take_piece.new.bytes = c.in_ok-count.ensures.room in
+    let small : c.in-Bytes.count ≤ STEP_ROOM = omega (arith, step.0.1, length-take {A = ℕ}) in
+    let room : c.loop-steps.held.filled + STEP_ROOM ≤ vec_len c.take_piece.new.bytes = c.in_ok-count.ensures.room in
     omega (arith, small, room)
 
 pub gain-requires-clause-lines : goal.gain-requires-clause-lines
 gain-requires-clause-lines g c =
     let inv = c.loop-steps.invariant in
     let step = rw c.in-Bytes.is at c.in_ok-count.ensures.step in
-    let small : c.in-Bytes.count ≤ INPUT_ROOM = omega (arith, step.0.1, length-take {A = ℕ}) in
+    let small : c.in-Bytes.count ≤ STEP_ROOM = omega (arith, step.0.1, length-take {A = ℕ}) in
     let lines = lines_few c.loop-steps.held.counted endings.Open inv.5 _ inv.0.front inv.6 in
-    let size : length inv.5 + c.loop-steps.held.filled ≤ INPUT_ROOM * c.loop-steps._steps = inv.8 in
+    let size : length inv.5 + c.loop-steps.held.filled ≤ STEP_ROOM * c.loop-steps._steps = inv.8 in
     let few : c.loop-steps._steps < most_reads = omega (arith, c.loop-steps-test.true) in
     omega (arith, lines, size, small, few)
 
@@ -68,10 +68,10 @@ returns-then-is_done-clause-wrong g c =
     let count = c.in-Bytes.count in
     let next = c.gain.new.self in
     let step = rw c.in-Bytes.is at c.in_ok-count.ensures.step in
-    let small : count ≤ INPUT_ROOM = omega (arith, step.0.1, length-take {A = ℕ}) in
+    let small : count ≤ STEP_ROOM = omega (arith, step.0.1, length-take {A = ℕ}) in
     let few : c.loop-steps._steps + 1 ≤ most_reads = omega (arith, c.loop-steps-test.true) in
     let on = one_step_more _ _ _ _ _ _ _ inv.4 tt step.1 in
-    let bytes = piece_taken _ _ _ inv.5 held.bytes.items items held.filled count INPUT_ROOM c.in_ok-count.ensures.front small inv.7 step.0.2 in
+    let bytes = piece_taken _ _ _ inv.5 held.bytes.items items held.filled count STEP_ROOM c.in_ok-count.ensures.front small inv.7 step.0.2 in
     let taken = gives_so_far g.I.InputStream.remaining g.I.InputStream.takes c.args.input.now c.take_piece.new.input c.take_piece.new.input (c.loop-steps._steps + 1) on few refl _ bytes in
     let holds = c.in_ok-gain-in-Bytes.ensures.on inv.5 (tried_same held.counted inv.5 held.bytes.items items held.tried held.filled inv.0.tried c.in_ok-count.ensures.front inv.6) in
     let Taken = GivesSoFar g.I.InputStream.remaining g.I.InputStream.takes c.args.input.now c.take_piece.new.input in
@@ -93,7 +93,7 @@ returns-in-End-clause-right g c =
     let items = c.take_piece.new.bytes.items in
     let step = rw c.in-End.is at c.in_ok-count.ensures.step in
     let few : c.loop-steps._steps < most_reads = omega (arith, c.loop-steps-test.true) in
-    let room : held.filled + INPUT_ROOM ≤ length items = search (rules, places) in
+    let room : held.filled + STEP_ROOM ≤ length items = search (rules, places) in
     let end : IsAtEnd (g.I.InputStream.remaining c.take_piece.new.input) = step.0.1 (omega (arith, room, length-take {A = ℕ}, length-drop {A = ℕ})) in
     let bytes = none_taken _ _ _ inv.5 held.bytes.items items held.filled c.in_ok-count.ensures.front inv.7 step.0.0 in
     let given = gives_whole g.I.InputStream.remaining g.I.InputStream.takes c.args.input.now c.loop-steps.input c.take_piece.new.input c.loop-steps._steps inv.4 few step.1 end _ bytes in
@@ -112,7 +112,7 @@ returns-in-End-clause-wrong g c =
     let items = c.take_piece.new.bytes.items in
     let step = rw c.in-End.is at c.in_ok-count.ensures.step in
     let few : c.loop-steps._steps < most_reads = omega (arith, c.loop-steps-test.true) in
-    let room : held.filled + INPUT_ROOM ≤ length items = search (rules, places) in
+    let room : held.filled + STEP_ROOM ≤ length items = search (rules, places) in
     let end : IsAtEnd (g.I.InputStream.remaining c.take_piece.new.input) = step.0.1 (omega (arith, room, length-take {A = ℕ}, length-drop {A = ℕ})) in
     let bytes = none_taken _ _ _ inv.5 held.bytes.items items held.filled c.in_ok-count.ensures.front inv.7 step.0.0 in
     let given = gives_whole g.I.InputStream.remaining g.I.InputStream.takes c.args.input.now c.loop-steps.input c.take_piece.new.input c.loop-steps._steps inv.4 few step.1 end _ bytes in
@@ -152,17 +152,17 @@ loop-steps-preserved g c =
     let items = c.take_piece.new.bytes.items in
     let front = c.in_ok-count.ensures.front in
     let at = tried_same held.counted inv.5 held.bytes.items items held.tried held.filled inv.0.tried front inv.6 in
-    let size : length inv.5 + held.filled ≤ INPUT_ROOM * c.loop-steps._steps = inv.8 in
+    let size : length inv.5 + held.filled ≤ STEP_ROOM * c.loop-steps._steps = inv.8 in
     elim c.match-branch-2.branch [
       | in-Bytes+in_ok-gain-in-Bytes+else-is_done w ↦
           let step = rw w.in-Bytes.is at c.in_ok-count.ensures.step in
           let count = w.in-Bytes.count in
-          let small : count ≤ INPUT_ROOM = omega (arith, step.0.1, length-take {A = ℕ}) in
+          let small : count ≤ STEP_ROOM = omega (arith, step.0.1, length-take {A = ℕ}) in
           let gained = w.in_ok-gain-in-Bytes.ensures in
           let next = w.gain.new.self in
           let holds = gained.on inv.5 at in
           let taken : List ℕ = take (held.filled + count) items in
-          let bytes = piece_taken _ _ _ inv.5 held.bytes.items items held.filled count INPUT_ROOM front small inv.7 step.0.2 in
+          let bytes = piece_taken _ _ _ inv.5 held.bytes.items items held.filled count STEP_ROOM front small inv.7 step.0.2 in
           let total : length inv.5 + length taken ≡ length holds.0 + length (held_bytes next) = sym (length-append inv.5 taken) ∙ ap length holds.1 ∙ length-append holds.0 (held_bytes next) in
           let whole : length (held_bytes next) ≡ next.filled = length-take-le next.filled next.bytes.items gained.held.within in
           rw w.held-is (

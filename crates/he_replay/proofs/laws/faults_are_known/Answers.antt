@@ -3,4 +3,4 @@ use Rattle.he_replay.proofs.Known.{known}
 use Rattle.he_replay.proofs.laws.faults_are_known.Goals as goal
 
 pub returns : goal.returns
-returns c = λ content changes. known c.faults_stand.ensures (IsTextWith content changes)
+returns c = λ content changes file. known c.faults_stand.ensures (IsTextWith content changes file)

@@ -1,4 +1,4 @@
-use Rattle.std.proofs.Common.{◌≡◌, ◌*◌, ◌+◌, ◌-◌, ◌≤◌, ◌∙◌, ℕ, List, Option, Some, None, ap, arith, drop, inl, inr, length, length-drop, min, refl, subst, sym, take}
+use Rattle.std.proofs.Common.{◌≡◌, ◌+◌, ◌-◌, ◌∙◌, ℕ, List, Option, Some, None, ap, arith, drop, inl, inr, length, length-drop, refl, subst, take}
 use Rattle.std.proofs.lemmas.List.{take_all}
 use Rattle.memchr.specs.Find.{FindsNeedle}
 use Rattle.he_replay.specs.Pieces.{front_of}

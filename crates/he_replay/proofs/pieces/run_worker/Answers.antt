@@ -1,8 +1,5 @@
-use Rattle.std.proofs.Common.{◌≡◌, ◌++◌, ◌∷◌, List, ℕ, [], refl, sym, subst}
+use Rattle.std.proofs.Common.{◌≡◌, ◌++◌, ◌∷◌, [], refl}
 use Rattle.he_board.specs.Passes.{notes}
-use Rattle.he_pool.proofs.Trying.{tried-none}
-use Rattle.he_replay.specs.declared.pieces.Piece.{Piece}
-use Rattle.he_replay.specs.Pieces.{HasWorked, numbers_of}
 use Rattle.he_replay.specs.Rounds.{IsAsked}
 use Rattle.he_replay.proofs.Workers.{one_known, one_told}
 use Rattle.he_replay.proofs.pieces.run_worker.Goals as goal

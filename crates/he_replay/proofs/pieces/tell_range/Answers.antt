@@ -1,4 +1,4 @@
-use Rattle.std.proofs.Common.{◌-◌, arith, drop, inl, refl}
+use Rattle.std.proofs.Common.{◌-◌, arith, drop, refl}
 use Rattle.he_replay.specs.Rounds.{IsAsked}
 use Rattle.he_replay.proofs.RoundEnd.{longer_told, none_told}
 use Rattle.he_replay.proofs.pieces.tell_range.Goals as goal

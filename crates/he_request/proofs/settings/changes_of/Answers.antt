@@ -1,10 +1,6 @@
-use Rattle.std.proofs.Common.{rules}
-use Rattle.he_request.proofs.Asked.{all_asked, of_changes}
+use Rattle.he_request.proofs.Asked.{by_line}
 use Rattle.he_request.proofs.settings.changes_of.Goals as goal
 
 pub returns : goal.returns
 returns c =
-    of_changes _ c.new.result c.map_err.result _ _ c.new.ensures c.map_err.ensures.cases
-    (all_asked _ _ c.texts_of-texts.result.now c.last_number.result c.last_number-2.result c.last_number-3.result c.or.result c.last_number-5.result c.timeout_of-timeout.result
-    c.texts_of-texts.ensures (c.are_settings.ensures (search rules))
-    c.last_number.ensures c.last_number-2.ensures c.last_number-3.ensures (search rules) c.last_number-5.ensures c.timeout_of-timeout.ensures)
+    by_line _ _ _ _ c.changes_in.result c.texts_of.ensures c.timeout_of.ensures c.changes_in.ensures

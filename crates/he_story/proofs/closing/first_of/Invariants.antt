@@ -1,5 +1,5 @@
 use Rattle.std.proofs.Common.{◌≡◌, drop}
-use Rattle.he_story.specs.Closing.{first_of}
+use Rattle.he_story.specs.Story.{first_of}
 use Rattle.he_story.proofs.closing.first_of.Given as goal
 
 abbrev pub invariant-loop-line : goal.invariant-loop-line

@@ -1,17 +1,18 @@
-use Rattle.std.proofs.Common.{inl}
+use Rattle.std.proofs.Common.{◌∙◌, inl}
 use Rattle.he_tasks.proofs.whole.write_texts.Goals as goal
 
-pub returns-in-Ok : goal.returns-in-Ok
-returns-in-Ok g c =
+pub returns-in-Ok-begin : goal.returns-in-Ok-begin
+returns-in-Ok-begin g c =
     inl (
       c.new.result,
-      c.put_head.new.output,
+      c.begin.new.output,
       c.run_all-own.new.session.output,
       c.run_all-own.new.sums,
       c.run_all-own.result,
       c.end_texts-end.result,
-      c.new.ensures,
-      c.in-Ok.ensures.ok,
+      c.new.ensures.none,
+      c.new.ensures.settings ∙ c.in-Ok.ensures.ok,
+      c.in-Ok-begin.ensures.ok,
       c.run_all-own.ensures,
       c.end_texts-end.ensures,
       c.first_fault.ensures,

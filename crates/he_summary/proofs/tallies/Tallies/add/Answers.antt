@@ -1,17 +1,9 @@
-use Rattle.std.proofs.Common.{◌≡◌, ◌+◌, ◌<◌, ◌^◌, ◌++◌, List, length, length-append, map, take, ◌∙◌, ap, subst, arith}
-use Rattle.std.proofs.lemmas.List.{length-map, length-take, take_all}
+use Rattle.std.proofs.Common.{◌≡◌, ◌++◌, List, map, take, ◌∙◌, subst}
+use Rattle.std.proofs.lemmas.List.{take_all}
 use Rattle.he_plan.specs.declared.transcript.Line.{Line}
 use Rattle.he_summary.specs.Tries.{AreTallies, Try, try_of}
 use Rattle.he_summary.proofs.Tallied.{tries_on}
 use Rattle.he_summary.proofs.tallies.Tallies.add.Goals as goal
-
-pub add_try-requires : goal.add_try-requires
-add_try-requires g c =
-    let (tries, are, fits) = c.requires in
-    let before = take c.loop-line.line-index c.attempts-line-items.result.now in
-    let same : length c.attempts-line-items.result.now ≡ length c.args.transcript.now.lines = ap length c.attempts-line-items.ensures in
-    let more : length (tries ++ map (try_of c.args.race.now) before) + 1 < 2 ^ 63 = simp (length-append, length-map, length-take) (omega arith) in
-    (tries ++ map (try_of c.args.race.now) before, c.loop-line.invariant tries are, more)
 
 pub loop-line-preserved : goal.loop-line-preserved
 loop-line-preserved g c = λ tries are.

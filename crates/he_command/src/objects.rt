@@ -1,0 +1,96 @@
+// Objects in place of lines: the lines are read as a race, and what that has is written as JSON.
+ghost use Rattle.std.specs.Prelude.{[], ◌∷◌, Result, None, false, IfOk};
+ghost use Rattle.he_course.specs.Course.{IsCourse};
+ghost use Rattle.he_inputs.specs.Inputs.{HasRaces};
+ghost use Rattle.he_command.specs.Objects.{IsRaceObject, ShowsMade};
+ghost use Rattle.he_tasks.specs.Streams.{Shows};
+
+use he_addr::Family;
+use he_course::Course;
+use he_inputs::{NotOneRace, StreamFault, read_one_race};
+use he_json::{write_explanation_json, write_machine_json, write_names_json};
+use he_stream::OutputStream;
+use he_tasks::Session;
+use he_tasks::reports::report;
+use he_tasks::session::put_all;
+use he_timeline::Timeline;
+use std::alloc::Global;
+use std::io::Write;
+
+// Puts an object into the output, or says why there is none, and answers the exit status.
+pub(crate) fn show_object<R, O: OutputStream, F: Write>(
+    session: &mut Session<'_, '_, R, O, F>,
+    made: Result<Vec<u8>, StreamFault>,
+) -> u8
+    ensures made { ShowsMade O.OutputStream made session.old.output session.new.output result }
+    ensures shows { Shows O.OutputStream session.old.output session.new.output result }
+{
+    match made {
+        Ok(object) => put_all(session, &object, false),
+        Err(fault) => report(fault, &mut session.faults),
+    }
+}
+
+// The object of a machine's lines.
+pub(crate) fn machine_object(alloc: Global, lines: &[u8]) -> Result<Vec<u8>, StreamFault> {
+    let race = race_with(alloc, lines)?;
+    let (sources, routes) = (race.host().sources(), race.host().routes());
+    let mut object = Vec::new(alloc);
+    write_machine_json(alloc, sources, routes, &mut object).map_err(|_| StreamFault::Memory)?;
+    Ok(object)
+}
+
+// The object of the answers of a host.
+pub(crate) fn names_object(
+    alloc: Global,
+    host: &str,
+    lines: &[u8],
+) -> Result<Vec<u8>, StreamFault> {
+    let race = race_with(alloc, lines)?;
+    let (aaaa, a) = (race.answer(Family::V6), race.answer(Family::V4));
+    let mut object = Vec::new(alloc);
+    write_names_json(alloc, host, aaaa, a, &mut object).map_err(|_| StreamFault::Memory)?;
+    Ok(object)
+}
+
+// The object of the course of a race, by the text of its record.
+pub(crate) fn race_object(alloc: Global, text: &[u8]) -> Result<Vec<u8>, StreamFault>
+    ensures { IfOk result (λ object. IsRaceObject text.now object.items) }
+{
+    let race = race_in(alloc, text)?;
+    let course = course_of(alloc, &race)?;
+    let mut object = Vec::new(alloc);
+    match write_explanation_json(alloc, &course, None, &mut object) {
+        Ok(()) => Ok(object),
+        Err(_) => Err(StreamFault::Memory),
+    }
+}
+
+fn course_of(alloc: Global, race: &Timeline) -> Result<Course<Global>, StreamFault>
+    ensures { IfOk result (IsCourse race.now 1 1) }
+{
+    Course::of(alloc, race, 1, 1).map_err(|_| StreamFault::Memory)
+}
+
+// The race of these lines alone.
+fn race_with(alloc: Global, lines: &[u8]) -> Result<Timeline, StreamFault> {
+    let mut text = Vec::from_slice(alloc, b"race 2\n")?;
+    text.extend_from_slice(lines)?;
+    text.extend_from_slice(b"end\n")?;
+    race_in(alloc, &text)
+}
+
+// The one race of a text.
+fn race_in(alloc: Global, text: &[u8]) -> Result<Timeline, StreamFault>
+    ensures { IfOk result (λ race. HasRaces text.now false (race ∷ []) None) }
+{
+    read_one_race(alloc, text, false).map_err(fault_of)
+}
+
+fn fault_of(fault: NotOneRace) -> StreamFault {
+    match fault {
+        NotOneRace::Fault(fault) => StreamFault::from(fault),
+        NotOneRace::Count => StreamFault::Read,
+        NotOneRace::Memory => StreamFault::Memory,
+    }
+}

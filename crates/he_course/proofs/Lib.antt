@@ -1,0 +1,16 @@
+mod CauseLaws
+mod Counted
+mod CourseLaws
+mod EventLaws
+mod FloorCauses
+mod FloorLaws
+mod InterlacedLaws
+mod LaterLaws
+mod LeastFloor
+mod LineEvents
+mod ListedLaws
+mod OneRule
+mod SoonerLaws
+mod SortLaws
+mod StartLaws
+mod WaitLaws

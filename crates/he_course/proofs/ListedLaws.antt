@@ -1,0 +1,45 @@
+-- An attempt's address is the first untried one of the interlaced list.
+use Rattle.std.proofs.Common.{◌≡◌, ℕ, suc, ◌+◌, ◌&&◌, Bool, true, false, not, cond, if◌then◌else◌, List, [], ◌∷◌, find, take, refl, sym, ◌∙◌, ap, subst, arith}
+use Rattle.std.specs.Prelude.{Some}
+use Rattle.std.specs.List.{list_all}
+use Rattle.he_addr.specs.declared.ip.Ip.{Ip}
+use Rattle.he_addr.specs.Ip.{same_ip}
+use Rattle.he_select.proofs.Equality.{ip_from, ip_self}
+use Rattle.he_plan.specs.declared.attempts.Attempt.{Attempt}
+use Rattle.he_plan.specs.Attempts.{is_tried, is_untried, order_at}
+use Rattle.he_timeline.proofs.Bools.{clash}
+use Rattle.he_course.specs.Laws.{IsFirstUntried, PlacesStand}
+use Rattle.he_course.specs.Listing.{place_in}
+use Rattle.he_course.proofs.LaterLaws.{found_passes}
+
+plus_one : (n : ℕ) → n + 1 ≡ suc n
+plus_one n = omega arith
+
+tried_if : (b : Bool) → not b ≡ false → b ≡ true
+tried_if true e = refl
+tried_if false e = sym e
+
+-- the address and those before it, in a list whose first address is not it
+after : (done : List Attempt) (first : Ip) (more : List Ip) (ip : Ip) → is_untried done first ≡ false → IsFirstUntried done more (place_in ip more) ip
+    → IsFirstUntried done (first ∷ more) (place_in ip more + 1) ip
+after done first more ip was rest =
+    subst (λ n. IsFirstUntried done (first ∷ more) n ip) (sym (plus_one (place_in ip more)))
+    (rest.0, ap (λ b. b && list_all (is_tried done) (take (place_in ip more) more)) (tried_if (is_tried done first) was) ∙ rest.1)
+
+pub first_untried : (done : List Attempt) (list : List Ip) (ip : Ip) → find (is_untried done) list ≡ Some ip → IsFirstUntried done list (place_in ip list) ip
+first_untried done [] ip h = cc
+first_untried done (first ∷ more) ip h =
+    at_head (is_untried done first) (same_ip first ip) refl refl h (found_passes (is_untried done) (first ∷ more) ip h) (first_untried done more ip)
+  where
+    at_head : (b same : Bool) → is_untried done first ≡ b → same_ip first ip ≡ same → cond b (Some first) (find (is_untried done) more) ≡ Some ip
+        → is_untried done ip ≡ true → (find (is_untried done) more ≡ Some ip → IsFirstUntried done more (place_in ip more) ip)
+        → IsFirstUntried done (first ∷ more) (if same then 0 else place_in ip more + 1) ip
+    at_head true true e is h it rest = (h, refl)
+    at_head true false e is h it rest =
+        let same : first ≡ ip = cc in
+        absurd (clash (same_ip first ip) (ap (λ x. same_ip x ip) same ∙ ip_self ip) is)
+    at_head false true e is h it rest = absurd (clash (is_untried done ip) it (ap (is_untried done) (sym (ip_from first ip is)) ∙ e))
+    at_head false false e is h it rest = after done first more ip e (rest h)
+
+pub places_stand : PlacesStand
+places_stand race done next is = first_untried done (order_at race next.tick) next.ip is.ip

@@ -1,0 +1,68 @@
+// A race's addresses in the order in which they are preferred.
+
+ghost use Rattle.std.specs.Prelude.{◌≡◌, ◌++◌, List, map, None, option_map, IfOk, OnOk};
+ghost use Rattle.he_select.specs.Attributes.{rule_between};
+ghost use Rattle.he_select.specs.Selection.{serves};
+ghost use Rattle.he_course.specs.Addresses.{is_routed, preferred_after, rule_after};
+
+use he_addr::{Family, Ip};
+use he_select::{DestinationAttributes, DestinationRule, Route};
+use std::alloc::{AllocError, Allocator};
+
+/// An address of a race, after those that are preferred to it (RFC 6724 section 6).
+#[derive(Clone, Copy)]
+pub struct Preferred {
+    /// What the rules look at.
+    pub attributes: DestinationAttributes,
+
+    /// The first rule that puts it after the address before it; none where it is the first.
+    pub rule: Option<DestinationRule>,
+
+    /// Whether a route of the host leads to it. Where none does, or it has no source, it can't be reached.
+    pub is_routed: bool,
+}
+
+/// Sorted addresses, each with the rule that puts it after the one before.
+pub(crate) fn prefer<A: Allocator>(
+    alloc: A,
+    routes: &[Route],
+    sorted: &[DestinationAttributes],
+) -> Result<Vec<Preferred, A>, AllocError>
+    ensures { IfOk result (λ addresses. addresses.items ≡ preferred_after routes.now None sorted.now) }
+{
+    let mut addresses = Vec::with_capacity(alloc, sorted.len())?;
+    let mut earlier = None;
+    for attributes in sorted {
+        addresses.push(Preferred {
+            attributes: *attributes,
+            rule: rule_after(earlier, attributes),
+            is_routed: is_routed(routes, attributes.ip),
+        })?;
+        earlier = Some(*attributes);
+    }
+    Ok(addresses)
+}
+
+fn rule_after(
+    earlier: Option<DestinationAttributes>,
+    later: &DestinationAttributes,
+) -> Option<DestinationRule>
+    ensures { result ≡ rule_after earlier later.now }
+{
+    match earlier {
+        Some(earlier) => Some(DestinationRule::between(&earlier, later)),
+        None => None,
+    }
+}
+
+fn is_routed(routes: &[Route], ip: Ip) -> bool
+    ensures { result ≡ is_routed routes.now ip }
+{
+    routes.iter().any(|route| serves(route, ip))
+}
+
+fn serves(route: &Route, ip: Ip) -> bool
+    ensures { result ≡ serves ip route.now }
+{
+    route.prefix.contains(ip) && route.prefix.is_v4() == (ip.family() == Family::V4)
+}

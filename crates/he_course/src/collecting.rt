@@ -1,0 +1,310 @@
+// The events of a race, by kind.
+
+ghost use Rattle.std.specs.Prelude.{◌≡◌, ◌++◌, ◌∷◌, [], None, Some, count_by, IfOk, OnOk};
+ghost use Rattle.std.specs.List.{flat_map};
+ghost use Rattle.he_addr.specs.Ip.{is_usable};
+ghost use Rattle.he_addr.specs.declared.ip.Family.TheVariants as families;
+ghost use Rattle.he_plan.specs.Attempts.{order_at};
+ghost use Rattle.he_timeline.specs.Race.{reply_of};
+ghost use Rattle.he_course.specs.Addresses.{all_attributes_of};
+ghost use Rattle.he_course.specs.Events.{answer_events, attempt_of, cancelled_by, end_event, event_at, events_of, failed_by, is_seen_by, met_events, over_events, pause_events, start_event, start_events, told_events, wait_events};
+
+use crate::cause::{cause_of, failure_of, has_usable, is_held, later_of};
+use crate::events::{Event, EventKind, Start};
+use crate::interlaced::{Interlaced, bring_to};
+use crate::listing::listed_in;
+use he_addr::{Family, Ip, Memory};
+use he_plan::{Attempt, Line, Mark, Outcome3, Transcript};
+use he_select::DestinationAttributes;
+use he_timeline::Timeline;
+use std::alloc::{AllocError, Allocator};
+
+// The two answers, the wait for the AAAA answer, the Resolution Delay's end, and the race's end.
+const OTHER_EVENTS: usize = 5;
+
+/// The events of the race with this transcript, by kind, also those after its end; its all_attributes are given
+/// sorted.
+pub(crate) fn collect_events<A: Allocator + Copy, B: Allocator, C: Allocator>(
+    alloc: A,
+    timeline: &Timeline<B>,
+    sorted: &[DestinationAttributes],
+    transcript: &Transcript<C>,
+) -> Result<Vec<Event, A>, Memory>
+    requires { sorted.now ≡ all_attributes_of timeline.now }
+    ensures { IfOk result (λ events. events.items ≡ events_of timeline.now transcript.now) }
+{
+    let most = most_events(timeline.pauses(), transcript.attempts());
+    let mut events = Vec::with_capacity(alloc, most)?;
+    push_met(&mut events, timeline)?;
+    push_told(alloc, &mut events, timeline, sorted, transcript)?;
+    Ok(events)
+}
+
+// No race with these pauses and attempts has more events: each attempt starts, and fails or is cancelled.
+fn most_events(pauses: &[(u64, u64)], lines: &[Line]) -> usize {
+    let of_attempts = lines.len().saturating_mul(2);
+    pauses
+        .len()
+        .saturating_add(of_attempts)
+        .saturating_add(OTHER_EVENTS)
+}
+
+/// The tick at which the race ends.
+pub fn end_tick(ending: Outcome3) -> u64
+    ensures { result ≡ (end_event ending).tick }
+{
+    match ending {
+        Outcome3::Won(_, tick) => tick,
+        Outcome3::Exhausted(tick) => tick,
+        Outcome3::Limit(tick) => tick,
+    }
+}
+
+fn push<A: Allocator>(
+    events: &mut Vec<Event, A>,
+    tick: u64,
+    kind: EventKind,
+) -> Result<(), AllocError>
+    ensures { OnOk result (events.new.items ≡ events.old.items ++ event_at tick kind ∷ []) }
+{
+    events.push(Event { tick, kind })?;
+    Ok(())
+}
+
+fn push_met<A: Allocator, B: Allocator>(
+    events: &mut Vec<Event, A>,
+    timeline: &Timeline<B>,
+) -> Result<(), AllocError>
+    ensures { OnOk result (events.new.items ≡ events.old.items ++ met_events timeline.now) }
+{
+    push_pauses(events, timeline.pauses())?;
+    push_answers(events, timeline)?;
+    push_wait(events, timeline)
+}
+
+fn push_pauses<A: Allocator>(
+    events: &mut Vec<Event, A>,
+    pauses: &[(u64, u64)],
+) -> Result<(), AllocError>
+    ensures { OnOk result (events.new.items ≡ events.old.items ++ pause_events pauses.now) }
+{
+    for pause in pauses {
+        push(events, pause.0, EventKind::Paused(pause.1))?;
+    }
+    Ok(())
+}
+
+fn push_answers<A: Allocator, B: Allocator>(
+    events: &mut Vec<Event, A>,
+    timeline: &Timeline<B>,
+) -> Result<(), AllocError>
+    ensures { OnOk result (events.new.items ≡ events.old.items ++
+        (answer_events timeline.now families.V6 timeline.now.aaaa ++ answer_events timeline.now families.V4
+        timeline.now.a)) }
+{
+    push_answer(events, timeline, Family::V6)?;
+    push_answer(events, timeline, Family::V4)
+}
+
+fn push_answer<A: Allocator, B: Allocator>(
+    events: &mut Vec<Event, A>,
+    timeline: &Timeline<B>,
+    family: Family,
+) -> Result<(), AllocError>
+    ensures { OnOk result (events.new.items ≡ events.old.items ++ answer_events timeline.now family
+        (reply_of timeline.now family)) }
+{
+    let Some((tick, ips)) = timeline.answer(family) else {
+        return Ok(());
+    };
+    let seen = timeline.seen(tick);
+    push(events, seen, EventKind::Answered(family, usable_count(ips)))
+}
+
+fn usable_count(ips: &[Ip]) -> usize
+    ensures { result ≡ count_by is_usable ips.now }
+{
+    ips.iter().filter(|ip| ip.is_usable()).count()
+}
+
+// The wait for the AAAA answer, from the A answer on, and the end of the Resolution Delay.
+fn push_wait<A: Allocator, B: Allocator>(
+    events: &mut Vec<Event, A>,
+    timeline: &Timeline<B>,
+) -> Result<(), AllocError>
+    ensures { OnOk result (events.new.items ≡ events.old.items ++ wait_events timeline.now timeline.now.a) }
+{
+    let Some((tick, ips)) = timeline.answer(Family::V4) else {
+        return Ok(());
+    };
+    let delay_end = tick + timeline.settings().resolution();
+    let seen = timeline.seen(tick);
+    if !has_usable(ips) || delay_end <= seen || is_aaaa_seen_by(timeline, seen) {
+        return Ok(());
+    }
+    push(events, seen, EventKind::Waits(delay_end))?;
+    push_delay_over(events, timeline, timeline.seen(delay_end))
+}
+
+// The Resolution Delay's end, where no AAAA answer was seen by then.
+fn push_delay_over<A: Allocator, B: Allocator>(
+    events: &mut Vec<Event, A>,
+    timeline: &Timeline<B>,
+    tick: u64,
+) -> Result<(), AllocError>
+    ensures { OnOk result (events.new.items ≡ events.old.items ++ over_events timeline.now tick) }
+{
+    if is_aaaa_seen_by(timeline, tick) {
+        return Ok(());
+    }
+    push(events, tick, EventKind::DelayOver)
+}
+
+fn is_aaaa_seen_by<A: Allocator>(timeline: &Timeline<A>, tick: u64) -> bool
+    ensures { result ≡ is_seen_by timeline.now tick timeline.now.aaaa }
+{
+    match timeline.answer(Family::V6) {
+        Some((answer, _)) => timeline.seen(answer) <= tick,
+        None => false,
+    }
+}
+
+fn push_told<A: Allocator + Copy, B: Allocator, C: Allocator>(
+    alloc: A,
+    events: &mut Vec<Event, A>,
+    timeline: &Timeline<B>,
+    sorted: &[DestinationAttributes],
+    transcript: &Transcript<C>,
+) -> Result<(), Memory>
+    requires { sorted.now ≡ all_attributes_of timeline.now }
+    ensures { OnOk result (events.new.items ≡ events.old.items ++ told_events timeline.now transcript.now) }
+{
+    push_attempts(alloc, events, timeline, sorted, transcript.attempts())?;
+    push_end(events, transcript.result(), transcript.attempts())?;
+    Ok(())
+}
+
+// The failures and the starts.
+fn push_attempts<A: Allocator + Copy, B: Allocator>(
+    alloc: A,
+    events: &mut Vec<Event, A>,
+    timeline: &Timeline<B>,
+    sorted: &[DestinationAttributes],
+    lines: &[Line],
+) -> Result<(), Memory>
+    requires { sorted.now ≡ all_attributes_of timeline.now }
+    ensures { OnOk result (events.new.items ≡ events.old.items ++ (flat_map
+        (λ line. failed_by line.place line.mark) lines.now ++ start_events timeline.now None (Some 0) lines.now)) }
+{
+    push_failures(events, lines)?;
+    push_starts(alloc, events, timeline, sorted, lines)
+}
+
+// The end of the race, and what it cancelled.
+fn push_end<A: Allocator>(
+    events: &mut Vec<Event, A>,
+    ending: Outcome3,
+    lines: &[Line],
+) -> Result<(), AllocError>
+    ensures { OnOk result (events.new.items ≡ events.old.items ++ (end_event ending ∷ flat_map
+        (λ line. cancelled_by line.place line.mark) lines.now)) }
+{
+    push_ending(events, ending)?;
+    push_cancelled(events, lines)
+}
+
+fn push_ending<A: Allocator>(events: &mut Vec<Event, A>, ending: Outcome3) -> Result<(), AllocError>
+    ensures { OnOk result (events.new.items ≡ events.old.items ++ end_event ending ∷ []) }
+{
+    match ending {
+        Outcome3::Won(place, tick) => push(events, tick, EventKind::Won(place)),
+        Outcome3::Exhausted(tick) => push(events, tick, EventKind::Exhausted),
+        Outcome3::Limit(tick) => push(events, tick, EventKind::Limit),
+    }
+}
+
+fn push_failures<A: Allocator>(events: &mut Vec<Event, A>, lines: &[Line]) -> Result<(), AllocError>
+    ensures { OnOk result (events.new.items ≡ events.old.items ++ flat_map
+        (λ line. failed_by line.place line.mark) lines.now) }
+{
+    for line in lines {
+        match line.mark {
+            Mark::Failed(tick) => push(events, tick, EventKind::Failed(line.place))?,
+            Mark::Won(_) | Mark::Cancelled(_) => {}
+        }
+    }
+    Ok(())
+}
+
+fn push_cancelled<A: Allocator>(
+    events: &mut Vec<Event, A>,
+    lines: &[Line],
+) -> Result<(), AllocError>
+    ensures { OnOk result (events.new.items ≡ events.old.items ++ flat_map
+        (λ line. cancelled_by line.place line.mark) lines.now) }
+{
+    for line in lines {
+        match line.mark {
+            Mark::Cancelled(tick) => push(events, tick, EventKind::Cancelled(line.place))?,
+            Mark::Won(_) | Mark::Failed(_) => {}
+        }
+    }
+    Ok(())
+}
+
+fn attempt(line: &Line) -> Attempt
+    ensures { result ≡ attempt_of line.now }
+{
+    Attempt {
+        place: line.place,
+        tick: line.tick,
+        ip: line.ip,
+    }
+}
+
+fn push_starts<A: Allocator + Copy, B: Allocator>(
+    alloc: A,
+    events: &mut Vec<Event, A>,
+    timeline: &Timeline<B>,
+    sorted: &[DestinationAttributes],
+    lines: &[Line],
+) -> Result<(), Memory>
+    requires { sorted.now ≡ all_attributes_of timeline.now }
+    ensures { OnOk result (events.new.items ≡ events.old.items ++ start_events timeline.now None (Some 0) lines.now) }
+{
+    let mut list = Interlaced::new(alloc);
+    let mut last = None;
+    let mut failed = Some(0);
+    for line in lines {
+        let next = attempt(line);
+        bring_to(alloc, timeline, sorted, next.tick, &mut list)?;
+        push_start(events, timeline, &list.ips, last, failed, next)?;
+        last = Some(next);
+        failed = later_of(failed, failure_of(timeline, next));
+    }
+    Ok(())
+}
+
+// The start of an attempt, whose address is taken from this list; `failed` is the last failure of those before it, if
+// all of them fail.
+fn push_start<A: Allocator, B: Allocator>(
+    events: &mut Vec<Event, A>,
+    timeline: &Timeline<B>,
+    ips: &[Ip],
+    last: Option<Attempt>,
+    failed: Option<u64>,
+    next: Attempt,
+) -> Result<(), AllocError>
+    requires { ips.now ≡ order_at timeline.now next.tick }
+    ensures { OnOk result (events.new.items ≡ events.old.items ++ start_event timeline.now last failed next ∷ []) }
+{
+    let cause = cause_of(timeline, last, failed, next);
+    let start = Start {
+        place: next.place,
+        ip: next.ip,
+        cause,
+        held: is_held(timeline, last, cause, next.tick),
+        listed: listed_in(ips, timeline.settings().count(), next.ip),
+    };
+    push(events, next.tick, EventKind::Started(start))
+}

@@ -1,0 +1,186 @@
+// The course of a race: all that is told of it, made once.
+
+ghost use Rattle.std.specs.Prelude.{◌≡◌, ◌++◌, [], count_by, filter, map, IfOk, OnOk};
+ghost use Rattle.he_addr.specs.Ip.{is_usable};
+ghost use Rattle.he_timeline.specs.Race.{reply_of};
+ghost use Rattle.he_plan.specs.Transcript.{IsTranscript};
+ghost use Rattle.he_course.specs.Addresses.{all_attributes_of};
+ghost use Rattle.he_course.specs.Course.{IsCourse, answer_of, before_winner, events_in, lost, put_events, seen_of};
+ghost use Rattle.he_course.specs.Events.{comes_by, end_event, events_of};
+
+use crate::addresses::{Preferred, prefer};
+use crate::collecting::{collect_events, end_tick};
+use crate::events::{Event, EventKind};
+use crate::floor::{Ended, end_with_floor};
+use he_addr::{Family, Memory};
+use he_plan::{Line, Transcript, sorted_attributes, transcript_of};
+use he_select::DestinationAttributes;
+use he_timeline::Timeline;
+use std::alloc::{AllocError, Allocator};
+
+/// An answer, as the client sees it.
+#[derive(Clone, Copy, Debug, PartialEq, Eq)]
+pub struct Seen {
+    /// The tick at which it is seen, which may lie after the race's end.
+    pub tick: u64,
+
+    /// How many of its addresses are usable.
+    pub usable: usize,
+}
+
+/// A race with all that is told of it. Stories, pictures, JSON texts and counts are made of this value alone.
+#[derive(Drop)]
+pub struct Course<A: Allocator> {
+    /// The number of the race in its input, counted from 1.
+    pub number: usize,
+
+    /// The line at which it begins.
+    pub line: u64,
+
+    /// The answers, where they come.
+    pub aaaa: Option<Seen>,
+    pub a: Option<Seen>,
+
+    /// The usable addresses of both answers, the preferred one first, and not interlaced.
+    pub addresses: Vec<Preferred, A>,
+
+    /// The attempts, each with what became of it, and the result.
+    pub transcript: Transcript<A>,
+
+    /// How the race ended.
+    pub ended: Ended,
+
+    /// How it would have ended with the least floor, where it has none and that is sooner.
+    pub sooner: Option<Ended>,
+
+    /// What happens up to the race's end, by tick.
+    pub events: Vec<Event, A>,
+}
+
+impl<A: Allocator + Copy> Course<A> {
+    /// The course of a race that has this number in its input, counted from 1, and begins at this line of it. Its
+    /// addresses are sorted once, and it has one transcript.
+    ///
+    /// # Errors
+    ///
+    /// `Memory` where an allocation was refused.
+    #[tactic(auto, unfolding(crate::specs::Addresses::all_attributes_of))]
+    pub fn of<B: Allocator>(
+        alloc: A,
+        timeline: &Timeline<B>,
+        number: usize,
+        line: u64,
+    ) -> Result<Course<A>, Memory>
+        ensures { IfOk result (IsCourse timeline.now number line) }
+    {
+        let transcript = transcript_of(alloc, timeline)?;
+        let sooner = end_with_floor(alloc, timeline, &transcript)?;
+        let sorted = sorted_attributes(alloc, timeline)?;
+        let events = events_in(alloc, timeline, &sorted, &transcript)?;
+        let addresses = prefer(alloc, timeline.host().routes(), &sorted)?;
+        Ok(Course {
+            number,
+            line,
+            aaaa: seen_of(timeline, Family::V6),
+            a: seen_of(timeline, Family::V4),
+            addresses,
+            ended: Ended::of(&transcript),
+            sooner,
+            transcript,
+            events,
+        })
+    }
+}
+
+impl<A: Allocator> Course<A> {
+    /// The tick at which the race ends.
+    pub fn end(&self) -> u64
+        ensures { result ≡ (end_event self.now.transcript.result).tick }
+    {
+        end_tick(self.transcript.result())
+    }
+
+    /// The answer of a family, where it comes.
+    pub fn answer(&self, family: Family) -> Option<Seen>
+        ensures { result ≡ answer_of self.now family }
+    {
+        match family {
+            Family::V6 => self.aaaa,
+            Family::V4 => self.a,
+        }
+    }
+
+    /// What a race lost that was won, in milliseconds: the time from when the winner's answer was seen to the start of
+    /// its attempt. Pauses and the wait for the AAAA answer are part of it, and attempts at other addresses.
+    pub fn lost(&self) -> Option<u64>
+        ensures { result ≡ lost self.now }
+    {
+        let line = self.ended.winner?;
+        let seen = self.answer(line.ip.family())?;
+        Some(line.tick.saturating_sub(seen.tick))
+    }
+
+    /// The attempts before the winner's, by place: each had failed, or ran, when the winner's started.
+    pub fn before_winner(&self) -> &[Line]
+        ensures { result.now ≡ before_winner self.now }
+    {
+        match self.ended.winner {
+            Some(line) => {
+                let lines = self.transcript.attempts();
+                &lines[..line.place.min(lines.len())]
+            }
+            None => &[],
+        }
+    }
+}
+
+fn seen_of<A: Allocator>(timeline: &Timeline<A>, family: Family) -> Option<Seen>
+    ensures { result ≡ seen_of timeline.now (reply_of timeline.now family) }
+{
+    match timeline.answer(family) {
+        Some((tick, ips)) => Some(Seen {
+            tick: timeline.seen(tick),
+            usable: ips.iter().filter(|ip| ip.is_usable()).count(),
+        }),
+        None => None,
+    }
+}
+
+// The events up to the race's end by tick, those of one tick in the order of their kinds.
+fn events_in<A: Allocator + Copy, B: Allocator, C: Allocator>(
+    alloc: A,
+    timeline: &Timeline<B>,
+    sorted: &[DestinationAttributes],
+    transcript: &Transcript<C>,
+) -> Result<Vec<Event, A>, Memory>
+    requires { sorted.now ≡ all_attributes_of timeline.now }
+    ensures { IfOk result (λ events. events.items ≡ events_in timeline.now transcript.now) }
+{
+    let end = end_tick(transcript.result());
+    let mut events = collect_events(alloc, timeline, sorted, transcript)?;
+    keep_until(&mut events, end);
+    sort_by_tick(&mut events)?;
+    Ok(events)
+}
+
+fn keep_until<A: Allocator>(events: &mut Vec<Event, A>, end: u64)
+    ensures { events.new.items ≡ filter (λ event. comes_by end event.tick event.kind) events.old.items }
+{
+    events.retain(|event| comes_by(event, end));
+}
+
+// Whether the event comes by the race's end, and a pause before it.
+fn comes_by(event: &Event, end: u64) -> bool
+    ensures { result ≡ comes_by end event.now.tick event.now.kind }
+{
+    match event.kind {
+        EventKind::Paused(_) => event.tick < end,
+        _ => event.tick <= end,
+    }
+}
+
+fn sort_by_tick<A: Allocator>(events: &mut Vec<Event, A>) -> Result<(), AllocError>
+    ensures { OnOk result (events.new.items ≡ put_events [] events.old.items) }
+{
+    events.sort_by_key(|event| event.tick)
+}

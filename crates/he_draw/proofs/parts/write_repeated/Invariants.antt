@@ -1,6 +1,0 @@
-use Rattle.std.proofs.Common.{◌≡◌, ◌++◌, ◌-◌}
-use Rattle.std.specs.List.{repeat}
-use Rattle.he_draw.proofs.parts.write_repeated.Given as goal
-
-abbrev pub invariant-loop : goal.invariant-loop
-invariant-loop g l = l.text.items ++ repeat (l.count - l.counter) l.words ≡ l.fn.text.items ++ repeat l.count l.words

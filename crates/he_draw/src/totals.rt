@@ -1,0 +1,134 @@
+// What stands above all races of a page.
+
+ghost use Rattle.std.specs.Prelude.{◌≡◌, ◌++◌, OnOk};
+ghost use Rattle.he_draw.specs.Picture.{told};
+ghost use Rattle.he_draw.specs.Page.{count_facts, times_facts, totals_facts};
+
+use he_addr::Memory;
+use he_print::{Part, push_parts};
+use std::alloc::Allocator;
+
+/// What is counted of the races of a page.
+#[derive(Clone, Copy, Debug, PartialEq, Eq)]
+pub struct Totals {
+    pub races: u64,
+
+    /// How many were won by an address of each family, and how many were not won.
+    pub by_v6: u64,
+    pub by_v4: u64,
+    pub not_won: u64,
+
+    /// The times to connect of those that were won, if one was.
+    pub times: Option<Times>,
+
+    /// The tick at which the longest race ends.
+    pub end: u64,
+}
+
+/// The least milliseconds within which so many of 100 connect.
+#[derive(Clone, Copy, Debug, PartialEq, Eq)]
+pub struct Times {
+    pub median: u64,
+    pub p90: u64,
+    pub p99: u64,
+}
+
+/// What a number of a page's heading is.
+#[derive(Clone, Copy, Debug, PartialEq, Eq)]
+pub enum Counted {
+    Races,
+    Median,
+    P90,
+    P99,
+    ByV6,
+    ByV4,
+    NotWon,
+    End,
+}
+
+/// Totals, as the heading of a page, which stands first whatever stands before it.
+#[tactic(auto, unfolding(crate::specs::Page::totals_facts))]
+pub(crate) fn push_totals<A: Allocator>(
+    totals: Totals,
+    parts: &mut Vec<Part<Counted>, A>,
+) -> Result<(), Memory>
+    ensures { OnOk result (told parts.new.items ≡ told parts.old.items ++ totals_facts totals) }
+{
+    push_parts(
+        &number(
+            Counted::End,
+            b"</article></main>\n<style>:root{--end:",
+            totals.end,
+        ),
+        parts,
+    )?;
+    push_parts(
+        &[Part::Words(b"}</style>\n<header><h1>Races</h1><p>")],
+        parts,
+    )?;
+    push_parts(
+        &count(Counted::Races, totals.races, b"</b> races</span>"),
+        parts,
+    )?;
+    push_times(totals.times, parts)?;
+    push_parts(
+        &count(Counted::ByV6, totals.by_v6, b"</b> won by IPv6</span>"),
+        parts,
+    )?;
+    push_parts(
+        &count(Counted::ByV4, totals.by_v4, b"</b> won by IPv4</span>"),
+        parts,
+    )?;
+    push_parts(
+        &count(Counted::NotWon, totals.not_won, b"</b> not won</span>"),
+        parts,
+    )?;
+    push_parts(
+        &number(
+            Counted::End,
+            b"</p><p class='scale'>one scale for all races: 0 to ",
+            totals.end,
+        ),
+        parts,
+    )?;
+    push_parts(&[Part::Words(b" ms</p></header>\n")], parts)
+}
+
+fn push_times<A: Allocator>(
+    times: Option<Times>,
+    parts: &mut Vec<Part<Counted>, A>,
+) -> Result<(), Memory>
+    ensures { OnOk result (told parts.new.items ≡ told parts.old.items ++ times_facts times) }
+{
+    let Some(times) = times else {
+        return Ok(());
+    };
+    push_parts(
+        &count(Counted::Median, times.median, b"</b> median ms</span>"),
+        parts,
+    )?;
+    push_parts(
+        &count(Counted::P90, times.p90, b"</b> p90 ms</span>"),
+        parts,
+    )?;
+    push_parts(
+        &count(Counted::P99, times.p99, b"</b> p99 ms</span>"),
+        parts,
+    )
+}
+
+fn count(counted: Counted, number: u64, what: &'static [u8]) -> [Part<Counted>; 3]
+    ensures { told result ≡ count_facts counted number }
+{
+    [
+        Part::Says(counted, b"<span><b>"),
+        Part::Number(number),
+        Part::Words(what),
+    ]
+}
+
+fn number(counted: Counted, what: &'static [u8], number: u64) -> [Part<Counted>; 2]
+    ensures { told result ≡ count_facts counted number }
+{
+    [Part::Says(counted, what), Part::Number(number)]
+}

@@ -1,5 +1,0 @@
-use Rattle.he_explain.proofs.OneRule.{one_rule}
-use Rattle.he_explain.proofs.laws.one_rule_decides.Goals as goal
-
-pub returns : goal.returns
-returns c = one_rule

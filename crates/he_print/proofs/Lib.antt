@@ -1,0 +1,2 @@
+mod RepeatLaws
+mod StringLaws

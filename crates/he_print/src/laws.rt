@@ -1,0 +1,9 @@
+//! Laws of the definitions. Each is the contract of a function that does nothing.
+
+ghost use Rattle.he_print.specs.Escaping.{StringsEnd, StringsAreLines};
+
+/// A string ends with its last quotation mark, whatever stands in it and after it, and no control character is in it.
+pub fn strings_end()
+    ensures ends { StringsEnd }
+    ensures lines { StringsAreLines }
+{}

@@ -1,0 +1,80 @@
+-- What is written of the races that are summed.
+use Rattle.std.specs.Prelude.{ℕ, zero, suc, ◌≡◌, ◌++◌, List, [], ◌∷◌, filter, map, take, IsPermutation, Option, Some}
+use Rattle.std.specs.List.Sorted.{IsSortedByKey}
+use Rattle.std.specs.Option.{unwrap_or}
+use Rattle.std.specs.Ordering.{nat_cmp, ordering_then}
+use Rattle.std.specs.declared.cmp.Ordering.{Ordering}
+use Rattle.he_addr.specs.declared.ip.Ip.{Ip}
+use Rattle.he_print.specs.Parts.{States}
+use Rattle.he_print.specs.declared.part.Fact.{Fact}
+use Rattle.he_print.specs.declared.part.Fact.TheVariants as facts
+use Rattle.he_summary.specs.Figures.{summary_facts}
+use Rattle.he_summary.specs.Kept.{Run, kept_of}
+use Rattle.he_summary.specs.Summed.{all_tries}
+use Rattle.he_summary.specs.Totals.{AreTotals, is_kind, time_of}
+use Rattle.he_summary.specs.Tries.{AreFailing}
+use Rattle.he_summary.specs.declared.figures.Form.{Form}
+use Rattle.he_summary.specs.declared.figures.Form.TheVariants as forms
+use Rattle.he_summary.specs.declared.figures.Said.{Said}
+use Rattle.he_summary.specs.declared.kept.Ending.{Ending}
+use Rattle.he_summary.specs.declared.kept.Ending.TheVariants as endings
+use Rattle.he_summary.specs.declared.kept.Kept.{Kept}
+use Rattle.he_summary.specs.declared.kept.Place.{Place}
+use Rattle.he_summary.specs.declared.tallies.Tally.{Tally}
+use Rattle.he_summary.specs.declared.totals.Kind.TheVariants.{Won}
+use Rattle.he_summary.specs.declared.totals.Totals.{Totals}
+
+-- a text that states these facts, among words, has been appended
+abbrev pub Tells : {S : Type 0} → List (Fact S) → List ℕ → List ℕ → Type 0
+Tells told old new = (text : List ℕ) × States told text × (new ≡ old ++ text)
+
+-- the time to connect, and the race's place
+abbrev pub slow_key : Kept → ℕ × (ℕ × ℕ)
+slow_key race = (unwrap_or (time_of race.ending) 0, (race.place.file, race.place.number))
+
+-- the slowest first, those of one time as they were read
+abbrev pub slowest_first : ℕ × (ℕ × ℕ) → ℕ × (ℕ × ℕ) → Ordering
+slowest_first x y = ordering_then (nat_cmp y.0 x.0) (ordering_then (nat_cmp x.1.0 y.1.0) (nat_cmp x.1.1 y.1.1))
+
+-- so many of the races that were won, in that order
+abbrev pub AreSlowest : ℕ → List Kept → List Kept → Type 0
+AreSlowest most kept slow =
+    (sorted : List Kept) × IsPermutation (filter (is_kind Won) kept) sorted
+    × IsSortedByKey slow_key slowest_first sorted × (slow ≡ take most sorted)
+
+-- where a race stands: at which line it begins, and its number
+abbrev pub place_facts : {S : Type 0} → Form → Place → List (Fact S)
+place_facts forms.Text place = facts.Number place.line ∷ facts.Number place.number ∷ []
+place_facts _ place = facts.Number place.number ∷ facts.Number place.line ∷ []
+
+-- the time to connect, to which address, and what the race lost
+abbrev pub won_facts : Option ℕ → Ending → List (Fact Said)
+won_facts lost (endings.Won (Some ip) time) =
+    facts.Number time ∷ facts.Ip ip ∷ facts.Number (unwrap_or lost 0) ∷ []
+won_facts lost _ = []
+
+abbrev pub slow_facts : Form → Kept → List (Fact Said)
+slow_facts form race = place_facts form race.place ++ won_facts race.lost race.ending
+
+-- words have been appended
+abbrev pub HasWords : List ℕ → List ℕ → Type 0
+HasWords old new = (words : List ℕ) × (new ≡ old ++ words)
+
+-- these facts have been appended, list by list, between words
+abbrev pub TellsEach : {S : Type 0} → List (List (Fact S)) → List ℕ → List ℕ → Type 0
+TellsEach [] old new = HasWords old new
+TellsEach (told ∷ each) old new =
+    (words between : List ℕ) × Tells told (old ++ words) between × TellsEach each between new
+
+-- so many of the slowest of these have been appended, or words alone
+abbrev pub TellsSlowest : Form → ℕ → List Kept → List ℕ → List ℕ → Type 0
+TellsSlowest form zero kept old new = HasWords old new
+TellsSlowest form (suc most) kept old new =
+    (slow : List Kept) × AreSlowest (suc most) kept slow × TellsEach (map (slow_facts form) slow) old new
+
+-- what is written of these races, and of so many of the slowest ones
+abbrev pub IsWritten : Form → List Run → ℕ → List ℕ → List ℕ → Type 0
+IsWritten form runs most old new =
+    (totals : Totals) × (failing : List (Ip × Tally)) × (between : List ℕ)
+    × AreTotals (map kept_of runs) totals × AreFailing (all_tries runs) failing
+    × Tells (summary_facts form totals failing) old between × TellsSlowest form most (map kept_of runs) between new

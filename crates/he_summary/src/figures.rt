@@ -1,0 +1,359 @@
+//! What is told of races, figure by figure.
+ghost use Rattle.std.specs.Prelude.{◌≡◌, ◌++◌, ◌<◌, [], ◌∷◌, OnOk};
+ghost use Rattle.std.specs.List.{flat_map};
+ghost use Rattle.he_print.specs.Parts.{fact_of};
+ghost use Rattle.he_print.specs.declared.part.Fact.TheVariants as facts;
+ghost use Rattle.he_summary.specs.declared.figures.Said.TheVariants.{NoOne};
+ghost use Rattle.he_summary.specs.Figures.{count_facts, end_facts, ended_facts, figure_facts, lost_facts, metrics_facts, share, share_facts, sum_facts, tally_facts, time_facts, told, total_of, totals_facts};
+
+use crate::kept::Loss;
+use crate::tallies::Tally;
+use crate::times::Spread;
+use crate::totals::{Counts, Kind, Totals, Value};
+use crate::words::{after, before};
+use he_addr::{Family, Ip, Memory};
+use he_print::{Part, push_parts};
+use std::alloc::Allocator;
+
+/// The form in which races are told.
+#[derive(Clone, Copy, Debug, PartialEq, Eq)]
+pub enum Form {
+    /// A few lines.
+    Text,
+    /// One JSON object on one line.
+    Json,
+    /// The counts and the times to connect as OpenMetrics text.
+    Metrics,
+}
+
+/// What is said of races.
+#[derive(Clone, Copy, Debug, PartialEq, Eq)]
+pub enum Said {
+    Races,
+    Are(Kind),
+    /// No race has such a number.
+    NoOne(Value),
+    Count(Value),
+    Total(Value),
+    Median(Value),
+    P90(Value),
+    P99(Value),
+    Greatest(Value),
+    /// Of the attempts to an address: how many failed, how many were silent, and how many there are.
+    Failed,
+    Silent,
+    Attempts,
+}
+
+/// A number, and of how many it is told which share it is; of none where that is 0.
+#[derive(Clone, Copy, Debug, PartialEq, Eq)]
+pub struct Figure {
+    pub said: Said,
+    pub number: u64,
+    pub of: u64,
+}
+
+// Tells what is counted of races.
+pub(crate) fn push_totals<A: Allocator>(
+    form: Form,
+    totals: Totals,
+    text: &mut Vec<Part<Said>, A>,
+) -> Result<(), Memory>
+    ensures { OnOk result (flat_map fact_of text.new.items ≡ flat_map fact_of text.old.items
+        ++ totals_facts form totals) }
+{
+    push_counts(form, totals.counts, text)?;
+    push_times(form, totals.times, text)?;
+    push_lost(
+        form,
+        Loss::Failed,
+        totals.lost_to_failed,
+        totals.counts.won,
+        text,
+    )?;
+    push_lost(
+        form,
+        Loss::Silent,
+        totals.lost_to_silent,
+        totals.counts.won,
+        text,
+    )?;
+    push_end(form, totals, text)
+}
+
+fn push_counts<A: Allocator>(
+    form: Form,
+    counts: Counts,
+    text: &mut Vec<Part<Said>, A>,
+) -> Result<(), Memory>
+    ensures { OnOk result (flat_map fact_of text.new.items ≡ flat_map fact_of text.old.items
+        ++ count_facts form counts) }
+{
+    let races = counts.races;
+    push_figures(
+        form,
+        &[
+            told(Said::Races, races, 0),
+            told(Said::Are(Kind::Won), counts.won, races),
+            told(Said::Are(Kind::WonBy(Family::V6)), counts.by_v6, races),
+            told(Said::Are(Kind::WonBy(Family::V4)), counts.by_v4, races),
+            told(Said::Are(Kind::Exhausted), counts.exhausted, races),
+            told(Said::Are(Kind::Limit), counts.limit, races),
+        ],
+        text,
+    )
+}
+
+fn push_times<A: Allocator>(
+    form: Form,
+    times: Option<Spread>,
+    text: &mut Vec<Part<Said>, A>,
+) -> Result<(), Memory>
+    ensures { OnOk result (flat_map fact_of text.new.items ≡ flat_map fact_of text.old.items
+        ++ time_facts form times) }
+{
+    let value = Value::Time;
+    match times {
+        Some(times) => push_figures(
+            form,
+            &[
+                told(Said::Median(value), times.median, 0),
+                told(Said::P90(value), times.p90, 0),
+                told(Said::P99(value), times.p99, 0),
+                told(Said::Greatest(value), times.greatest, 0),
+            ],
+            text,
+        ),
+        None => push_none(form, value, text),
+    }
+}
+
+fn push_lost<A: Allocator>(
+    form: Form,
+    loss: Loss,
+    lost: Option<Spread>,
+    won: u64,
+    text: &mut Vec<Part<Said>, A>,
+) -> Result<(), Memory>
+    ensures { OnOk result (flat_map fact_of text.new.items ≡ flat_map fact_of text.old.items
+        ++ lost_facts form loss lost won) }
+{
+    let value = Value::LostTo(loss);
+    match lost {
+        Some(lost) => push_figures(
+            form,
+            &[
+                told(Said::Count(value), lost.count, won),
+                told(Said::Total(value), lost.total, 0),
+                told(Said::Median(value), lost.median, 0),
+                told(Said::Greatest(value), lost.greatest, 0),
+            ],
+            text,
+        ),
+        None => push_none(form, value, text),
+    }
+}
+
+fn push_none<A: Allocator>(
+    form: Form,
+    value: Value,
+    text: &mut Vec<Part<Said>, A>,
+) -> Result<(), Memory>
+    ensures { OnOk result (flat_map fact_of text.new.items ≡ flat_map fact_of text.old.items
+        ++ facts.Said (NoOne value) ∷ []) }
+{
+    let said = Said::NoOne(value);
+    push_parts(&[Part::Says(said, before(form, said))], text)
+}
+
+// The attempts, and how many races waited.
+fn push_end<A: Allocator>(
+    form: Form,
+    totals: Totals,
+    text: &mut Vec<Part<Said>, A>,
+) -> Result<(), Memory>
+    ensures { OnOk result (flat_map fact_of text.new.items ≡ flat_map fact_of text.old.items
+        ++ end_facts form totals) }
+{
+    let value = Value::Attempts;
+    let (total, greatest) = match totals.attempts {
+        Some(attempts) => (attempts.total, attempts.greatest),
+        None => (0, 0),
+    };
+    let counts = totals.counts;
+    push_figures(
+        form,
+        &[
+            told(Said::Total(value), total, 0),
+            told(Said::Greatest(value), greatest, 0),
+            told(Said::Are(Kind::Waited), counts.waited, counts.races),
+        ],
+        text,
+    )
+}
+
+// Tells of the attempts to an address.
+pub(crate) fn push_tally<A: Allocator>(
+    form: Form,
+    tallied: (Ip, Tally),
+    text: &mut Vec<Part<Said>, A>,
+) -> Result<(), Memory>
+    ensures { OnOk result (flat_map fact_of text.new.items ≡ flat_map fact_of text.old.items
+        ++ tally_facts form tallied) }
+{
+    let (ip, tally) = tallied;
+    push_figures(
+        form,
+        &[
+            told(Said::Failed, tally.failed, 0),
+            told(Said::Silent, tally.silent, 0),
+            told(Said::Attempts, tally.attempts, 0),
+        ],
+        text,
+    )?;
+    match form {
+        Form::Text => push_parts(
+            &[Part::Words(b" to "), Part::Ip(ip), Part::Words(b"\n")],
+            text,
+        ),
+        Form::Json | Form::Metrics => {
+            push_parts(
+                &[
+                    Part::Words(b",\"address\":\""),
+                    Part::Ip(ip),
+                    Part::Words(b"\"}"),
+                ],
+                text,
+            )
+        }
+    }
+}
+
+// Tells the counts and the times to connect as metrics.
+pub(crate) fn push_metrics<A: Allocator>(
+    totals: Totals,
+    text: &mut Vec<Part<Said>, A>,
+) -> Result<(), Memory>
+    ensures { OnOk result (flat_map fact_of text.new.items ≡ flat_map fact_of text.old.items ++ metrics_facts totals) }
+{
+    push_ended(totals.counts, text)?;
+    push_times(Form::Metrics, totals.times, text)?;
+    push_sums(totals, text)
+}
+
+fn push_ended<A: Allocator>(counts: Counts, text: &mut Vec<Part<Said>, A>) -> Result<(), Memory>
+    ensures { OnOk result (flat_map fact_of text.new.items ≡ flat_map fact_of text.old.items ++ ended_facts counts) }
+{
+    push_figures(
+        Form::Metrics,
+        &[
+            told(Said::Are(Kind::WonBy(Family::V6)), counts.by_v6, 0),
+            told(Said::Are(Kind::WonBy(Family::V4)), counts.by_v4, 0),
+            told(Said::Are(Kind::Exhausted), counts.exhausted, 0),
+            told(Said::Are(Kind::Limit), counts.limit, 0),
+        ],
+        text,
+    )
+}
+
+fn push_sums<A: Allocator>(totals: Totals, text: &mut Vec<Part<Said>, A>) -> Result<(), Memory>
+    ensures { OnOk result (flat_map fact_of text.new.items ≡ flat_map fact_of text.old.items ++ sum_facts totals) }
+{
+    let (failed, silent) = (Value::LostTo(Loss::Failed), Value::LostTo(Loss::Silent));
+    push_figures(
+        Form::Metrics,
+        &[
+            told(Said::Total(Value::Time), total_of(totals.times), 0),
+            told(Said::Count(Value::Time), totals.counts.won, 0),
+            told(Said::Total(failed), total_of(totals.lost_to_failed), 0),
+            told(Said::Total(silent), total_of(totals.lost_to_silent), 0),
+            told(Said::Total(Value::Attempts), total_of(totals.attempts), 0),
+            told(Said::Are(Kind::Waited), totals.counts.waited, 0),
+        ],
+        text,
+    )
+}
+
+fn total_of(spread: Option<Spread>) -> u64
+    ensures { result ≡ total_of spread }
+{
+    match spread {
+        Some(spread) => spread.total,
+        None => 0,
+    }
+}
+
+fn told(said: Said, number: u64, of: u64) -> Figure
+    ensures { result ≡ told said number of }
+{
+    Figure { said, number, of }
+}
+
+fn push_figures<A: Allocator>(
+    form: Form,
+    figures: &[Figure],
+    text: &mut Vec<Part<Said>, A>,
+) -> Result<(), Memory>
+    ensures { OnOk result (flat_map fact_of text.new.items ≡ flat_map fact_of text.old.items
+        ++ flat_map (figure_facts form) figures.now) }
+{
+    for figure in figures {
+        push_figure(form, *figure, text)?;
+    }
+    Ok(())
+}
+
+fn push_figure<A: Allocator>(
+    form: Form,
+    figure: Figure,
+    text: &mut Vec<Part<Said>, A>,
+) -> Result<(), Memory>
+    ensures { OnOk result (flat_map fact_of text.new.items ≡ flat_map fact_of text.old.items
+        ++ figure_facts form figure) }
+{
+    let said = figure.said;
+    push_parts(
+        &[
+            Part::Says(said, before(form, said)),
+            Part::Number(figure.number),
+            Part::Words(after(form, said, figure.number)),
+        ],
+        text,
+    )?;
+    match form {
+        Form::Text if figure.of > 0 => push_share(figure.number, figure.of, text),
+        _ => Ok(()),
+    }
+}
+
+// Tells which share a number is of another, in tenths of a percent.
+fn push_share<A: Allocator>(
+    number: u64,
+    of: u64,
+    text: &mut Vec<Part<Said>, A>,
+) -> Result<(), Memory>
+    requires { 0 < of }
+    ensures { OnOk result (flat_map fact_of text.new.items ≡ flat_map fact_of text.old.items
+        ++ share_facts number of) }
+{
+    let tenths = share(number, of);
+    push_parts(
+        &[
+            Part::Words(b" ("),
+            Part::Number(tenths / 10),
+            Part::Words(b"."),
+            Part::Number(tenths % 10),
+            Part::Words(b" %)"),
+        ],
+        text,
+    )
+}
+
+// Of a thousand, rounded to the nearest, and at most all of them.
+pub fn share(number: u64, of: u64) -> u64
+    requires { 0 < of }
+    ensures { result ≡ share number of }
+{
+    let rounded = (2000 * number as u128 + of as u128) / (2 * of as u128);
+    rounded.min(1000) as u64
+}

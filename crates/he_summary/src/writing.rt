@@ -1,0 +1,258 @@
+// A summary, written.
+ghost use Rattle.std.specs.Prelude.{◌≡◌, ◌++◌, filter, IfOk, IsPermutation, List, OnOk, map};
+ghost use Rattle.std.specs.List.{flat_map};
+ghost use Rattle.std.specs.List.Sorted.{IsSortedByKey};
+ghost use Rattle.he_print.specs.Parts.{fact_of};
+ghost use Rattle.he_summary.specs.Kept.{Run};
+ghost use Rattle.he_summary.specs.Figures.{summary_facts, tally_facts};
+ghost use Rattle.he_summary.specs.Summed.{HasSummed};
+ghost use Rattle.he_summary.specs.Totals.{is_kind};
+ghost use Rattle.he_summary.specs.Written.{AreSlowest, HasWords, IsWritten, Tells, TellsEach, TellsSlowest, place_facts, slow_facts, slow_key, slowest_first};
+ghost use Rattle.he_summary.specs.declared.totals.Kind.TheVariants.{Won};
+
+use crate::figures::{Form, Said, push_metrics, push_tally, push_totals};
+use crate::kept::{Ending, Kept, Place};
+use crate::races::Races;
+use crate::tallies::Tally;
+use crate::totals::{Kind, Totals, Value, is_kind, value_of};
+use he_addr::{Ip, Memory};
+use he_print::{Part, push_parts, write_parts, write_string};
+use std::alloc::{AllocError, Allocator};
+use std::cmp::Reverse;
+
+impl<A: Allocator + Copy> Races<A> {
+    /// Appends a summary, with the slowest races, so many, each with the name of its file: these are the names by
+    /// place, as they may be shown; a file without one stands as `-`.
+    ///
+    /// # Errors
+    ///
+    /// `Memory` where an allocation was refused. A first part of the summary may then have been appended.
+    pub fn write(
+        &self,
+        form: Form,
+        slowest: usize,
+        names: &[String],
+        text: &mut Vec<u8, A>,
+    ) -> Result<(), Memory>
+        ensures { (runs : List Run) → HasSummed self.now runs
+            → OnOk result (IsWritten form runs slowest text.old.items text.new.items) }
+    {
+        let totals = Totals::of(self.alloc, self.kept())?;
+        let failing = self.failing()?;
+        let mut parts = Vec::new(self.alloc);
+        push_summary(form, totals, failing.as_slice(), &mut parts)?;
+        write_parts(parts.as_slice(), text)?;
+        self.write_rest(form, slowest, names, text)
+    }
+
+    // Appends so many of the slowest races, and the end.
+    fn write_rest(
+        &self,
+        form: Form,
+        slowest: usize,
+        names: &[String],
+        text: &mut Vec<u8, A>,
+    ) -> Result<(), Memory>
+        ensures { OnOk result (TellsSlowest form slowest self.now.kept text.old.items text.new.items) }
+    {
+        let end: &[u8] = match form {
+            Form::Text => b"",
+            Form::Json => b"}\n",
+            Form::Metrics => b"# EOF\n",
+        };
+        if slowest > 0 {
+            let slow = slowest_of(self.alloc, self.kept(), slowest)?;
+            write_slowest(self.alloc, form, slow.as_slice(), names, text)?;
+        }
+        text.extend_from_slice(end)?;
+        Ok(())
+    }
+}
+
+fn push_summary<A: Allocator>(
+    form: Form,
+    totals: Totals,
+    failing: &[(Ip, Tally)],
+    text: &mut Vec<Part<Said>, A>,
+) -> Result<(), Memory>
+    ensures { OnOk result (flat_map fact_of text.new.items ≡ flat_map fact_of text.old.items
+        ++ summary_facts form totals failing.now) }
+{
+    match form {
+        Form::Metrics => push_metrics(totals, text),
+        Form::Text | Form::Json => {
+            push_totals(form, totals, text)?;
+            push_failing(form, failing, text)
+        }
+    }
+}
+
+fn push_failing<A: Allocator>(
+    form: Form,
+    failing: &[(Ip, Tally)],
+    text: &mut Vec<Part<Said>, A>,
+) -> Result<(), Memory>
+    ensures { OnOk result (flat_map fact_of text.new.items ≡ flat_map fact_of text.old.items
+        ++ flat_map (tally_facts form) failing.now) }
+{
+    let (begin, between, end): (&'static [u8], &'static [u8], &'static [u8]) = match form {
+        Form::Text if failing.is_empty() => (b"", b"", b"\n"),
+        Form::Text => (b"\nfailed or silent most often:\n", b"", b""),
+        Form::Json if failing.is_empty() => (b"", b"", b",\"failing\":[]"),
+        Form::Json | Form::Metrics => (b",\"failing\":[", b",", b"]"),
+    };
+    let mut before = begin;
+    for tallied in failing {
+        push_parts(&[Part::Words(before)], text)?;
+        push_tally(form, *tallied, text)?;
+        before = between;
+    }
+    push_parts(&[Part::Words(end)], text)
+}
+
+// The races that were won after the longest time, so many: the longest first, those of one time as they were read.
+fn slowest_of<A: Allocator>(alloc: A, kept: &[Kept], most: usize) -> Result<Vec<Kept, A>, Memory>
+    ensures { IfOk result (λ slow. AreSlowest most kept.now slow.items) }
+{
+    let mut won = won_of(alloc, kept)?;
+    sort_slowest(&mut won);
+    won.truncate(most);
+    Ok(won)
+}
+
+fn won_of<A: Allocator>(alloc: A, kept: &[Kept]) -> Result<Vec<Kept, A>, AllocError>
+    ensures { IfOk result (λ won. won.items ≡ filter (is_kind Won) kept.now) }
+{
+    kept.iter()
+        .copied()
+        .filter(|race| is_kind(Kind::Won, race))
+        .collect(alloc)
+}
+
+fn sort_slowest<A: Allocator>(won: &mut Vec<Kept, A>)
+    ensures permutation { IsPermutation won.old.items won.new.items }
+    ensures sorted { IsSortedByKey slow_key slowest_first won.new.items }
+{
+    won.sort_unstable_by_key(|race| {
+        (
+            Reverse(value_of(Value::Time, race).unwrap_or(0)),
+            (race.place.file, race.place.number),
+        )
+    });
+}
+
+fn write_slowest<A: Allocator + Copy>(
+    alloc: A,
+    form: Form,
+    slow: &[Kept],
+    names: &[String],
+    text: &mut Vec<u8, A>,
+) -> Result<(), Memory>
+    ensures { OnOk result (TellsEach (map (slow_facts form) slow.now) text.old.items text.new.items) }
+{
+    let (begin, between, end): (&[u8], &[u8], &[u8]) = match form {
+        Form::Text => (b"slowest:\n  ", b"  ", b""),
+        Form::Json if slow.is_empty() => (b"", b"", b",\"slowest\":[]"),
+        Form::Json | Form::Metrics => (b",\"slowest\":[{\"file\":", b",{\"file\":", b"]"),
+    };
+    let mut before = begin;
+    for race in slow {
+        write_name(form, before, name_of(race.place.file, names), b"", text)?;
+        write_slow(alloc, form, race, text)?;
+        before = between;
+    }
+    text.extend_from_slice(end)?;
+    Ok(())
+}
+
+/// The name of this place; `-` where there is none.
+pub fn name_of(place: usize, names: &[String]) -> &str {
+    match names.get(place) {
+        Some(name) => name.as_str(),
+        None => "-",
+    }
+}
+
+/// Appends a name, which is as it may be shown, between words; in JSON it is a string.
+pub fn write_name<A: Allocator>(
+    form: Form,
+    before: &[u8],
+    name: &str,
+    after: &[u8],
+    text: &mut Vec<u8, A>,
+) -> Result<(), Memory>
+    ensures { OnOk result (HasWords text.old.items text.new.items) }
+{
+    text.extend_from_slice(before)?;
+    match form {
+        Form::Text => text.extend_from_slice(name.as_bytes())?,
+        Form::Json | Form::Metrics => write_string(name.as_bytes(), text)?,
+    }
+    text.extend_from_slice(after)?;
+    Ok(())
+}
+
+// Appends what is told of a slow race after the name of its file.
+fn write_slow<A: Allocator + Copy>(
+    alloc: A,
+    form: Form,
+    race: &Kept,
+    text: &mut Vec<u8, A>,
+) -> Result<(), Memory>
+    ensures { OnOk result (Tells (slow_facts form race.now) text.old.items text.new.items) }
+{
+    let mut parts = Vec::new(alloc);
+    push_slow(form, race, &mut parts)?;
+    write_parts(parts.as_slice(), text)
+}
+
+// FILE:LINE race NUMBER: TIME ms to ADDRESS, LOST ms lost
+fn push_slow<A: Allocator>(
+    form: Form,
+    race: &Kept,
+    text: &mut Vec<Part<Said>, A>,
+) -> Result<(), Memory>
+    ensures { OnOk result (flat_map fact_of text.new.items ≡ flat_map fact_of text.old.items
+        ++ slow_facts form race.now) }
+{
+    push_parts(&place_parts(form, race.place), text)?;
+    let words = slow_words(form);
+    match race.ending {
+        Ending::Won(Some(ip), time) => push_parts(
+            &[
+                Part::Words(words[0]),
+                Part::Number(time),
+                Part::Words(words[1]),
+                Part::Ip(ip),
+                Part::Words(words[2]),
+                Part::Number(race.lost.unwrap_or(0)),
+                Part::Words(words[3]),
+            ],
+            text,
+        ),
+        _ => Ok(()),
+    }
+}
+
+fn slow_words(form: Form) -> [&'static [u8]; 4] {
+    match form {
+        Form::Text => [b": ", b" ms to ", b", ", b" ms lost\n"],
+        Form::Json | Form::Metrics => [b",\"ms\":", b",\"address\":\"", b"\",\"lost_ms\":", b"}"],
+    }
+}
+
+/// Where a race stands, behind the name of its file: at which line it begins, and its number.
+pub fn place_parts<S: Copy>(form: Form, place: Place) -> [Part<S>; 4]
+    ensures { flat_map fact_of result ≡ place_facts form place }
+{
+    let (line, number) = (Part::Number(place.line), Part::Number(place.number as u64));
+    match form {
+        Form::Text => [Part::Words(b":"), line, Part::Words(b" race "), number],
+        Form::Json | Form::Metrics => [
+            Part::Words(b",\"race\":"),
+            number,
+            Part::Words(b",\"line\":"),
+            line,
+        ],
+    }
+}

@@ -1,0 +1,144 @@
+//! A page: its head, what its texts have of it, and the totals that end it.
+ghost use Rattle.std.specs.Prelude.{ℕ, ◌≡◌, ◌⊎◌, IfOk, List, OnErr, OnOk};
+ghost use Rattle.he_tasks.specs.Pages.{AddsGiven, ArePageTotals, IsTail, PutsSections, PutsTail, end_of, last_end, page_times};
+ghost use Rattle.he_tasks.specs.Streams.{TookAll, TookPart};
+
+use crate::reports::report;
+use crate::session::{Session, put_all, put_text};
+use he_addr::Memory;
+use he_draw::{Times, Totals, write_head, write_tail};
+use he_inputs::StreamFault;
+use he_replay::{Content, Printer, TextRequest, write_races};
+use he_stream::{InputStream, OutputStream, WholeInput, take_input};
+use he_summary::{Ending, Kept, Races, Spread};
+use he_timeline::Changes;
+use std::alloc::Global;
+use std::io::Write;
+use std::mem::drop;
+
+// Puts what begins a page.
+pub(crate) fn put_head<O: OutputStream>(alloc: Global, output: &mut O) -> Result<(), StreamFault>
+    ensures ok { OnOk result ((head : List ℕ) × TookAll O.OutputStream output.old output.new head) }
+    ensures err { OnErr result (((head : List ℕ) × TookPart O.OutputStream output.old output.new head)
+        ⊎ (output.new ≡ output.old)) }
+{
+    let mut head = Vec::new(alloc);
+    write_head(&mut head)?;
+    put_text(&head, output)
+}
+
+// Puts the parts of a page that the races of a text have, and adds these races to those whose totals end the page. The
+// text is read whole first, since both go through it. After a fault of the output there are no sums, and so no totals.
+pub(crate) fn put_sections<R, I: InputStream, O: OutputStream, F>(
+    session: &mut Session<'_, '_, R, O, F>,
+    changes: Changes,
+    input: &mut I,
+    sums: &mut Option<Races<Global>>,
+) -> Result<(), StreamFault>
+    ensures { PutsSections I.InputStream O.OutputStream changes input.old input.new (session.old.output, sums.old)
+        (session.new.output, sums.new) result }
+{
+    let place = session.place;
+    let asked = TextRequest {
+        content: Content::Course(Printer::Section { text: place }),
+        changes,
+        file: None,
+    };
+    let given = take_input(session.alloc, input)?;
+    let bytes = given.bytes.as_slice();
+    let (text, _) = write_races(session.alloc, &asked, bytes, given.is_broken)?;
+    if let Err(fault) = put_text(&text, &mut session.output) {
+        *sums = None;
+        return Err(fault);
+    }
+    add_given(place, &given, sums)
+}
+
+// Adds the races of a text to the sums. There are no sums after one for which there was no memory.
+fn add_given(
+    place: usize,
+    given: &WholeInput<Global>,
+    sums: &mut Option<Races<Global>>,
+) -> Result<(), StreamFault>
+    ensures { AddsGiven place given.now.bytes.items given.now.is_broken sums.old sums.new result }
+{
+    let Some(mut races) = sums.take() else {
+        return Err(StreamFault::Memory);
+    };
+    let end = races.add_given(place, given);
+    match end {
+        Err(StreamFault::Memory) => drop(races),
+        _ => *sums = Some(races),
+    }
+    end
+}
+
+// Ends a page by the totals of its races, and answers the exit status.
+pub(crate) fn put_tail<R, O: OutputStream, F: Write>(
+    session: &mut Session<'_, '_, R, O, F>,
+    explains: bool,
+    races: &Races<Global>,
+) -> u8
+    ensures { PutsTail O.OutputStream races.now session.old.output session.new.output result }
+{
+    match tail(session.alloc, races) {
+        Ok(text) => put_all(session, text.as_slice(), explains),
+        Err(_) => report(StreamFault::Memory, &mut session.faults),
+    }
+}
+
+fn tail(alloc: Global, races: &Races<Global>) -> Result<Vec<u8>, Memory>
+    ensures { IfOk result (λ text. IsTail races.now.kept text.items) }
+{
+    let totals = totals_of(alloc, races.kept())?;
+    let mut text = Vec::new(alloc);
+    write_tail(totals, &mut text)?;
+    Ok(text)
+}
+
+fn totals_of(alloc: Global, kept: &[Kept]) -> Result<Totals, Memory>
+    ensures { IfOk result (ArePageTotals kept.now) }
+{
+    let counted = he_summary::Totals::of(alloc, kept)?;
+    let counts = counted.counts;
+    Ok(Totals {
+        races: counts.races,
+        by_v6: counts.by_v6,
+        by_v4: counts.by_v4,
+        not_won: counts.races.saturating_sub(counts.won),
+        times: times_of(counted.times),
+        end: last_end(kept),
+    })
+}
+
+fn times_of(times: Option<Spread>) -> Option<Times>
+    ensures { result ≡ page_times times }
+{
+    match times {
+        Some(times) => Some(Times {
+            median: times.median,
+            p90: times.p90,
+            p99: times.p99,
+        }),
+        None => None,
+    }
+}
+
+// The greatest tick at which one of the races ends.
+fn last_end(kept: &[Kept]) -> u64
+    ensures { result ≡ last_end kept.now }
+{
+    let mut last = 0;
+    for race in kept {
+        last = end_of(race.ending).max(last);
+    }
+    last
+}
+
+fn end_of(ending: Ending) -> u64
+    ensures { result ≡ end_of ending }
+{
+    match ending {
+        Ending::Won(_, tick) | Ending::Exhausted(tick) | Ending::Limit(tick) => tick,
+    }
+}

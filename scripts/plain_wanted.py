@@ -1,0 +1,40 @@
+"""What a run of `he` must write for a text, by the plain readings beside this file."""
+import plain
+import plain_compared
+import plain_drawn
+import plain_json
+import plain_story
+import plain_summary
+
+# What a command writes, with this option if there is one.
+WRITTEN = {
+    "order": plain.ordered, "replay": plain.replayed, "order --json": plain_json.ordered,
+    "replay --json": plain_json.replayed, "explain": plain_story.written, "compare": plain_compared.written,
+    "draw": plain_drawn.written, "draw --ascii": plain_drawn.written_ascii, "summary": plain_summary.written,
+    "summary --json": plain_summary.written_json, "explain --json": plain_json.explained,
+}
+
+
+class Wanted:
+    """What a run must write for a text: its output, its standard error and its status."""
+
+    def __init__(self, text):
+        self.text = text.decode("latin-1")
+        self.races, self.fault = plain.read_text(self.text)
+        self.outputs = {}
+
+    def of(self, words):
+        if words == ["check", "--all"]:
+            return self.of_check()
+        command = " ".join([words[0], *(word for word in words if word in ("--json", "--ascii"))])
+        changes = [word for word in words if "=" in word]
+        key = (command, *changes)
+        if key not in self.outputs:
+            self.outputs[key] = WRITTEN[command](self.races, plain.changes_of(changes))
+        return self.outputs[key], plain.fault_line(*self.fault[:2]) if self.fault else b"", 1 if self.fault else 0
+
+    def of_check(self):
+        faults = plain.read_on(self.text)
+        counts = plain.counted(len(self.races), "race"), plain.counted(self.text.count("\n"), "line")
+        output = b"" if faults else f"{', '.join(counts)}\n".encode()
+        return output, b"".join(plain.fault_line(*fault) for fault in faults), 1 if faults else 0

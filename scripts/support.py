@@ -1,0 +1,309 @@
+"""What the scripts share that try a built program: how they begin, what they count, runs and namespaces of their own,
+addresses that answer, refuse or are silent, and a name server.
+
+needs: Linux, python3, its standard library alone
+"""
+import contextlib
+import os
+import pathlib
+import re
+import shutil
+import socket
+import struct
+import subprocess
+import sys
+import threading
+import time
+
+ROOT = pathlib.Path(__file__).resolve().parent.parent
+DATA = ROOT / "crates/cases/data"
+INSIDE = "--inside"  # a script runs itself so, in a namespace
+TIMEOUT = 60  # seconds, of a run that never ends
+ALONE = 0.1  # seconds in which this machine answers itself
+os.environ["PATH"] += ":/usr/sbin:/sbin"  # where dnsmasq, sshd and ip may be
+
+# How a script begins and ends
+
+
+def program(doc, count=1):
+    """The built program that the first of so many words names; other command lines end with the script's text."""
+    words = [word for word in sys.argv[1:] if not word.startswith("-")]
+    if len(words) < count or {"-h", "--help"} & set(sys.argv):
+        print(doc.strip())
+        sys.exit(0 if {"-h", "--help"} & set(sys.argv) else 2)
+    return os.path.abspath(words[0])
+
+
+class Counts:
+    """How many checks passed and failed. What failed is told."""
+
+    def __init__(self):
+        self.passed = self.failed = 0
+
+    def check(self, is_right, *told):
+        self.passed, self.failed = self.passed + bool(is_right), self.failed + (not is_right)
+        if not is_right:
+            print(*told, flush=True)
+
+    def end(self):
+        print(f"{self.passed} passed, {self.failed} failed")
+        sys.exit(self.failed > 0)
+
+
+def said_of(check):
+    """What is wrong, or None."""
+    try:
+        return check()
+    except (ValueError, subprocess.TimeoutExpired) as error:
+        return str(error)
+
+
+def run_check(check, is_timed):
+    """Runs a check, once more where it went wrong and looks at times, and tells how it went: whether well, or None
+    where it could not be tried."""
+    try:
+        wrong = said_of(check)
+        if wrong is not None and is_timed:
+            print(f"{check.__name__}: {wrong}: tried again: machine busy", flush=True)
+            wrong = said_of(check)
+    except (FileNotFoundError, PermissionError) as error:
+        print(f"{check.__name__}: not tried ({error})", flush=True)
+        return None
+    print(f"{check.__name__}: {'passed' if wrong is None else 'FAILED: ' + wrong}", flush=True)
+    return wrong is None
+
+
+def end_checks(ends):
+    """The last line, and the status."""
+    print(f"{ends.count(True)} passed, {ends.count(False)} failed, {ends.count(None)} not tried")
+    sys.exit(False in ends)
+
+
+def needs(*programs):
+    missing = [name for name in programs if shutil.which(name) is None]
+    if missing:
+        raise FileNotFoundError(f"{', '.join(missing)} isn't installed")
+
+
+# Runs
+
+
+def run(*words, **more):
+    """A run that has ended; its output is text, but where bytes are given."""
+    is_text = not isinstance(more.get("input"), bytes)
+    return subprocess.run([str(word) for word in words], **{"capture_output": True, "text": is_text, **more})
+
+
+def attempts_of(transcript):
+    """Each attempt's start, address and end."""
+    found = re.findall(r"^attempt \d+ (\d+) (\S+) (\w+)", transcript, re.M)
+    return [(int(start), ip, end) for start, ip, end in found]
+
+
+def in_namespaces(flags, setup, *words, **more):
+    """Runs this script again, with INSIDE and these words, in namespaces of its own that lines of sh set up. None where
+    that cannot be done."""
+    lines = f"set -e\n{setup}\n"
+    if not shutil.which("unshare") or run("unshare", *flags.split(), "sh", "-c", lines).returncode:
+        return None
+    again = [sys.executable, os.path.abspath(sys.argv[0]), *sys.argv[1:], INSIDE, *words]
+    return subprocess.run(["unshare", *flags.split(), "sh", "-c", f'{lines}exec "$0" "$@"', *map(str, again)], **more)
+
+
+def comes(is_there, seconds=20):
+    """Whether it comes to be there by then."""
+    end = time.monotonic() + seconds
+    while not is_there():
+        if time.monotonic() > end:
+            return False
+        time.sleep(0.02)
+    return True
+
+
+def is_up(server, is_there):
+    """Whether a program that was started comes to be ready, and has not ended."""
+    return comes(lambda: server.poll() is not None or is_there()) and server.poll() is None
+
+
+# Addresses of this machine
+
+
+def family_of(address):
+    return socket.AF_INET6 if ":" in address else socket.AF_INET
+
+
+def data_of(address):
+    return socket.inet_pton(family_of(address), address)
+
+
+def listener_at(address, port=0, backlog=64, interface=0):
+    """A listener, at an address that may be on one interface alone."""
+    more = (0, interface) if interface else ()
+    return socket.create_server((address, port, *more), family=family_of(address), backlog=backlog)
+
+
+def unused_port(address="127.0.0.1"):
+    with listener_at(address) as listener:
+        return listener.getsockname()[1]
+
+
+def has_six():
+    """Whether this machine has IPv6."""
+    with contextlib.suppress(OSError), listener_at("::1"):
+        return True
+    return False
+
+
+@contextlib.contextmanager
+def silent(address, port=0, wait=ALONE):
+    """A listener that takes no connection: whoever connects then waits. Gives the listener, and a stack for what is
+    held as long."""
+    with contextlib.ExitStack() as held:
+        listener = held.enter_context(listener_at(address, port, backlog=0))
+        with contextlib.suppress(TimeoutError):
+            while True:
+                connection = held.enter_context(socket.socket(family_of(address)))
+                connection.settimeout(wait)
+                connection.connect((address.replace("0.0.0.0", "127.0.0.1"), listener.getsockname()[1]))
+        yield listener, held
+
+
+def in_tcp_table(port, state, column):
+    """How many IPv4 sockets of all programs have the port in that column (1: theirs, 2: the other's) and the state."""
+    lines = [line.split() for line in pathlib.Path("/proc/net/tcp").read_text().splitlines()[1:]]
+    return sum(line[column].endswith(f":{port:04X}") and line[3] == state for line in lines)
+
+
+def is_listening(port):
+    return in_tcp_table(port, "0A", 1) > 0
+
+
+# Messages of the domain name system, and a server
+
+
+A, CNAME, AAAA = 1, 5, 28
+NOERROR, FORMERR, SERVFAIL, NXDOMAIN, NOTIMP, REFUSED = range(6)
+OWN_NAME = b"\xc0\x0c"  # of the question, by a pointer
+
+
+def wire(name):
+    return b"".join(bytes([len(label)]) + label.encode() for label in name.split(".") if label) + b"\0"
+
+
+def record(name, kind, data):
+    return name + struct.pack("!HHIH", kind, 1, 60, len(data)) + data
+
+
+def addresses(kind, *given):
+    """Records of the question's name for those of the addresses that are of the kind."""
+    return [record(OWN_NAME, kind, data_of(ip)) for ip in given if ip and (":" in ip) == (kind == AAAA)]
+
+
+def question_of(query):
+    return query[12:query.index(b"\0", 12) + 5]
+
+
+def kind_of(query):
+    return struct.unpack("!H", question_of(query)[-4:-2])[0]
+
+
+def labels_of(query):
+    return [label.decode() for label in re.findall(rb"[\w-]+", question_of(query)[:-5])]
+
+
+def message(query, records=(), code=NOERROR, truncated=False, count=None, question=None, ident=None, flags=0x8180):
+    """A response to the query: its header, its question, and so many records as it says, or as there are."""
+    question = question_of(query) if question is None else question
+    head = struct.pack("!HHHHH", flags | code | (0x200 if truncated else 0), bool(question),
+                       len(records) if count is None else count, 0, 0)
+    return (ident or query[:2]) + head + question + b"".join(records)
+
+
+class NameServer:
+    """A name server at an address, over UDP and TCP, and the queries that it was sent. `replies` tells what it sends
+    for one: messages, each behind a wait in seconds."""
+
+    def __init__(self, address, port=0):
+        self.seen = []
+        ip, _, zone = address.partition("%")
+        interface = socket.if_nametoindex(zone) if zone else 0
+        self.datagrams = socket.socket(family_of(ip), socket.SOCK_DGRAM)
+        self.datagrams.bind((ip, port, 0, interface) if interface else (ip, port))
+        self.port = self.datagrams.getsockname()[1]
+        self.at = f"[{ip}]:{self.port}" if ":" in ip else f"{ip}:{self.port}"
+        self.listener = listener_at(ip, self.port, interface=interface)
+        for work in (self.serve_datagrams, self.serve_streams):
+            threading.Thread(target=work, daemon=True).start()
+
+    def __enter__(self):
+        return self
+
+    def __exit__(self, *_):
+        self.datagrams.close()
+        self.listener.close()
+
+    def replies(self, query, stream):
+        raise NotImplementedError
+
+    def put_to(self, peer):
+        def put(reply):
+            with contextlib.suppress(OSError):
+                self.datagrams.sendto(reply, peer)
+        return put
+
+    def serve_datagrams(self):
+        with contextlib.suppress(OSError):
+            while True:
+                query, peer = self.datagrams.recvfrom(4096)
+                self.seen.append((time.monotonic(), query, peer[1]))
+                self.take(query, peer)
+
+    def take(self, query, peer):
+        threading.Thread(target=self.send, args=(query, self.put_to(peer), False), daemon=True).start()
+
+    def serve_streams(self):
+        with contextlib.suppress(OSError):
+            while True:
+                threading.Thread(target=self.serve_stream, args=(self.listener.accept()[0],), daemon=True).start()
+
+    def serve_stream(self, stream):
+        """Answers the queries of a connection in their order, in pieces."""
+        def put(reply):
+            whole = struct.pack("!H", len(reply)) + reply
+            for at in range(0, len(whole), 9_973):
+                stream.sendall(whole[at:at + 9_973])
+                time.sleep(0.001)
+        with stream, contextlib.suppress(OSError):
+            while len(head := stream.recv(2)) == 2:
+                self.send(stream.recv(struct.unpack("!H", head)[0]), put, True)
+
+    def send(self, query, put, stream):
+        for wait, reply in self.replies(query, stream):
+            time.sleep(wait)
+            put(reply)
+
+
+def is_answered(address, port):
+    """Whether some name server answers there."""
+    with socket.socket(family_of(address), socket.SOCK_DGRAM) as asking, contextlib.suppress(OSError):
+        asking.settimeout(ALONE)
+        asking.connect((address, port))
+        asking.send(b"he" + struct.pack("!5H", 0x100, 1, 0, 0, 0) + wire("a.test") + struct.pack("!HH", A, 1))
+        return asking.recv(512)[:2] == b"he"
+    return False
+
+
+@contextlib.contextmanager
+def dnsmasq(address, *records):
+    """dnsmasq with these records at an address of this machine; gives what names it as a resolver."""
+    needs("dnsmasq")
+    port = unused_port(address)
+    command = ["dnsmasq", "--keep-in-foreground", "--conf-file=/dev/null", "--no-resolv", "--no-hosts", "--pid-file=",
+               "--user=", "--bind-interfaces", f"--listen-address={address}", f"--port={port}", *records]
+    with subprocess.Popen(command, stderr=subprocess.DEVNULL) as server:
+        try:
+            if not is_up(server, lambda: is_answered(address, port)):
+                raise FileNotFoundError("dnsmasq does not answer")
+            yield f"{address}:{port}"
+        finally:
+            server.terminate()
