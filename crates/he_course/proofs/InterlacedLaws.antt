@@ -19,7 +19,8 @@ addresses_kept : (input : SelectionInput) (ips : List Ip) → map (λ (attribute
 addresses_kept input [] = refl
 addresses_kept input (ip ∷ ips) = ap (λ (rest : List Ip). ip ∷ rest) (addresses_kept input ips)
 
-sorted_addresses_are : (race : Race) (sorted : List DestinationAttributes) → sorted ≡ all_attributes_of race → map (λ (attributes : DestinationAttributes). attributes.ip) sorted ≡ order race (usable_addresses race)
+-- the addresses of what the rules look at
+pub sorted_addresses_are : (race : Race) (sorted : List DestinationAttributes) → sorted ≡ all_attributes_of race → map (λ (attributes : DestinationAttributes). attributes.ip) sorted ≡ order race (usable_addresses race)
 unfolding all_attributes_of
 sorted_addresses_are race sorted is =
     ap (λ (l : List DestinationAttributes). map (λ (attributes : DestinationAttributes). attributes.ip) l) is

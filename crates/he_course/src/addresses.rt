@@ -3,10 +3,13 @@
 ghost use Rattle.std.specs.Prelude.{◌≡◌, ◌++◌, List, map, None, option_map, IfOk, OnOk};
 ghost use Rattle.he_select.specs.Attributes.{rule_between};
 ghost use Rattle.he_select.specs.Selection.{serves};
-ghost use Rattle.he_course.specs.Addresses.{is_routed, preferred_after, rule_after};
+ghost use Rattle.he_plan.specs.Transcript.{IsTranscript};
+ghost use Rattle.he_course.specs.Addresses.{all_attributes_of, is_routed, preferred_after, rule_after};
 
-use he_addr::{Family, Ip};
+use he_addr::{Family, Ip, Memory};
+use he_plan::{Transcript, transcript_by_order};
 use he_select::{DestinationAttributes, DestinationRule, Route};
+use he_timeline::Timeline;
 use std::alloc::{AllocError, Allocator};
 
 /// An address of a race, after those that are preferred to it (RFC 6724 section 6).
@@ -41,6 +44,22 @@ pub(crate) fn prefer<A: Allocator>(
         earlier = Some(*attributes);
     }
     Ok(addresses)
+}
+
+/// The transcript of a race whose addresses are sorted.
+pub(crate) fn transcript_with<A: Allocator + Copy, B: Allocator>(
+    alloc: A,
+    timeline: &Timeline<B>,
+    sorted: &[DestinationAttributes],
+) -> Result<Transcript<A>, Memory>
+    requires { sorted.now ≡ all_attributes_of timeline.now }
+    ensures { IfOk result (IsTranscript timeline.now) }
+{
+    let ips = sorted
+        .iter()
+        .map(|attributes| attributes.ip)
+        .collect(alloc)?;
+    transcript_by_order(alloc, timeline, ips)
 }
 
 fn rule_after(

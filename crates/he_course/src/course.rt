@@ -8,12 +8,12 @@ ghost use Rattle.he_course.specs.Addresses.{all_attributes_of};
 ghost use Rattle.he_course.specs.Course.{IsCourse, answer_of, before_winner, events_in, lost, put_events, seen_of};
 ghost use Rattle.he_course.specs.Events.{comes_by, end_event, events_of};
 
-use crate::addresses::{Preferred, prefer};
+use crate::addresses::{Preferred, prefer, transcript_with};
 use crate::collecting::{collect_events, end_tick};
 use crate::events::{Event, EventKind};
 use crate::floor::{Ended, end_with_floor};
 use he_addr::{Family, Memory};
-use he_plan::{Line, Transcript, sorted_attributes, transcript_of};
+use he_plan::{Line, Transcript, sorted_attributes};
 use he_select::DestinationAttributes;
 use he_timeline::Timeline;
 use std::alloc::{AllocError, Allocator};
@@ -73,9 +73,9 @@ impl<A: Allocator + Copy> Course<A> {
     ) -> Result<Course<A>, Memory>
         ensures { IfOk result (IsCourse timeline.now number line) }
     {
-        let transcript = transcript_of(alloc, timeline)?;
-        let sooner = end_with_floor(alloc, timeline, &transcript)?;
         let sorted = sorted_attributes(alloc, timeline)?;
+        let transcript = transcript_with(alloc, timeline, &sorted)?;
+        let sooner = end_with_floor(alloc, timeline, &sorted, &transcript)?;
         let events = events_in(alloc, timeline, &sorted, &transcript)?;
         let addresses = prefer(alloc, timeline.host().routes(), &sorted)?;
         Ok(Course {

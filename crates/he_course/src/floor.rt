@@ -3,12 +3,15 @@
 ghost use Rattle.std.specs.Prelude.{◌≡◌, None, Some, IfOk, IsTrue};
 ghost use Rattle.he_timeline.specs.declared.limits.TheConstants.{MIN_FLOOR};
 ghost use Rattle.he_plan.specs.Transcript.{IsTranscript};
+ghost use Rattle.he_course.specs.Addresses.{all_attributes_of};
 ghost use Rattle.he_course.specs.Beginning.{begins_unfailing, is_failure};
 ghost use Rattle.he_course.specs.LeastFloor.{IsSooner, ended_of, ends_sooner, floored, sooner_by, winner_of};
 
+use crate::addresses::transcript_with;
 use crate::collecting::end_tick;
 use he_addr::Memory;
-use he_plan::{Line, Outcome3, Transcript, transcript_of};
+use he_plan::{Line, Outcome3, Transcript};
+use he_select::DestinationAttributes;
 use he_timeline::limits::MIN_FLOOR;
 use he_timeline::{Changes, Outcome, Timeline};
 use std::alloc::Allocator;
@@ -51,14 +54,16 @@ fn winner_of(lines: &[Line], ending: Outcome3) -> Option<Line>
 pub(crate) fn end_with_floor<A: Allocator + Copy, B: Allocator, C: Allocator>(
     alloc: A,
     timeline: &Timeline<B>,
+    sorted: &[DestinationAttributes],
     transcript: &Transcript<C>,
 ) -> Result<Option<Ended>, Memory>
+    requires { sorted.now ≡ all_attributes_of timeline.now }
     ensures { IsTranscript timeline.now transcript.now → IfOk result (IsSooner timeline.now transcript.now) }
 {
     if is_floored(timeline, transcript) {
         return Ok(None);
     }
-    let with_floor = floored_transcript(alloc, timeline)?;
+    let with_floor = floored_transcript(alloc, timeline, sorted)?;
     Ok(sooner_by(timeline, transcript, &with_floor))
 }
 
@@ -107,16 +112,19 @@ fn is_floored<A: Allocator, B: Allocator>(
     begins_unfailing(timeline, transcript.attempts())
 }
 
-// The transcript of the race with the least floor.
+// The transcript of the race with the least floor, whose addresses are in the same order.
+#[tactic(auto, unfolding(crate::specs::Addresses::all_attributes_of))]
 fn floored_transcript<A: Allocator + Copy, B: Allocator>(
     alloc: A,
     timeline: &Timeline<B>,
+    sorted: &[DestinationAttributes],
 ) -> Result<Transcript<A>, Memory>
+    requires { sorted.now ≡ all_attributes_of timeline.now }
     ensures { IfOk result (IsTranscript (floored timeline.now)) }
 {
     let changes = least_floor();
     let race = timeline.copy(alloc)?.with_changes(changes);
-    transcript_of(alloc, &race)
+    transcript_with(alloc, &race, sorted)
 }
 
 fn least_floor() -> Changes

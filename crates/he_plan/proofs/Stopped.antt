@@ -5,6 +5,7 @@ use Rattle.std.specs.List.{list_all, slice_get}
 use Rattle.std.proofs.lemmas.Bool.{cases_lt}
 use Rattle.std.proofs.lemmas.List.{append-nil}
 use Rattle.he_addr.specs.Ip.{InRange}
+use Rattle.he_addr.specs.declared.ip.Ip.{Ip}
 use Rattle.he_plan.specs.declared.attempts.Attempt.{Attempt}
 use Rattle.he_plan.specs.declared.finish.Fate.{Fate}
 use Rattle.he_plan.specs.declared.finish.Fate.TheVariants.{Succeeded}
@@ -15,17 +16,22 @@ use Rattle.he_plan.specs.Planning.{told_line, told_lines}
 use Rattle.he_timeline.specs.Race.{Race, addresses_of}
 use Rattle.he_timeline.specs.Timeline.{IsRace}
 use Rattle.he_plan.specs.Transcript.{IsTranscript, line_of, lines_of, result_of, stop_of}
-use Rattle.he_plan.specs.RaceState.{AreFates, IsAtNext, IsStopped, IsUnderway, MakesNext, Progress, UntriedValues, counted, not_begun}
+use Rattle.he_plan.specs.RaceState.{AreFates, AreSorted, IsAtNext, IsStopped, IsUnderway, MakesNext, Progress, UntriedValues, counted, not_begun, nothing_received}
 use Rattle.he_plan.proofs.Ends.{fates_more, underway-started, with_start}
 use Rattle.he_plan.proofs.Existing.{plan-some}
 use Rattle.he_plan.proofs.InTurn.{in_turn-more, in_turn-none}
 use Rattle.he_plan.proofs.Lawful.{attempts-prefix}
 use Rattle.he_plan.proofs.Planned.{last_in_range, start_later}
-use Rattle.he_plan.proofs.Queued.{IsQueue-more, IsQueue-new}
+use Rattle.he_plan.proofs.Queued.{IsQueue-more, IsQueue-new, IsQueue-sorted}
 use Rattle.he_plan.proofs.Stopping.{late_success, none_before}
 
 pub underway-new : (race : Race) → IsUnderway race not_begun
 underway-new race = record { in_turn = in_turn-none race; in_range = tt; fates = refl; failed = refl; latest = refl; queue = IsQueue-new race }
+
+-- the same where the addresses are in order before
+pub underway-sorted : (race : Race) (sorted : List Ip) → AreSorted race sorted → IsUnderway race (record not_begun { queue = record nothing_received { sorted = sorted } })
+underway-sorted race sorted are =
+    record { in_turn = in_turn-none race; in_range = tt; fates = refl; failed = refl; latest = refl; queue = IsQueue-sorted race [] nothing_received sorted (IsQueue-new race) are }
 
 -- one more attempt, the next one, at the first address of the queue
 pub underway-more : (race : Race) → IsRace race → (u : Progress) (q : UntriedValues) (x : Attempt) → IsUnderway race u → IsLeast (MayStart race u.attempts) x.tick → IsAtNext race u.attempts x.tick q → x.place ≡ length u.attempts → slice_get q.ips 0 ≡ Some x.ip → IsUnderway race (counted (with_start u x (fate_of race x) (record q { ips = drop 1 q.ips })) (fate_of race x))

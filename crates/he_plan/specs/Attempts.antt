@@ -1,5 +1,5 @@
 -- Which attempts a race makes, and when (RFC 8305 sections 3 to 5): its plan, in which no success stops it.
-use Rattle.std.specs.Prelude.{ℕ, ◌≡◌, ◌+◌, ◌-◌, ◌<◌, ◌≤◌, ◌⊎◌, ◌&&◌, ◌++◌, Bool, false, not, if◌then◌else◌, List, [], ◌∷◌, length, filter, find, take, Option, Some, None, option_map, MatchOption, IsSomeAnd, slice_get, IsTrue, nat_le, nat_lt}
+use Rattle.std.specs.Prelude.{ℕ, ◌≡◌, ◌+◌, ◌-◌, ◌<◌, ◌≤◌, ◌⊎◌, ◌++◌, Bool, false, not, if◌then◌else◌, List, [], length, filter, find, take, Option, Some, None, MatchOption, IsSomeAnd, slice_get, IsTrue, nat_le}
 use Rattle.std.specs.List.{list_all, list_any}
 use Rattle.he_addr.specs.declared.ip.Ip.{Ip}
 use Rattle.he_addr.specs.Ip.{is_usable, same_ip}

@@ -1,6 +1,6 @@
 -- Mirrors the code: what private functions answer: ticks that look at no pause, the winner so far, what is told of an
 -- attempt.
-use Rattle.std.specs.Prelude.{ℕ, ◌+◌, ◌≤◌, ◌<◌, ◌&&◌, if◌then◌else◌, ◌++◌, List, [], ◌∷◌, map, min, max, Option, Some, None, option_map, IfSome, nat_le, nat_lt, Bool, true, false, filter}
+use Rattle.std.specs.Prelude.{ℕ, ◌+◌, ◌≤◌, ◌<◌, ◌&&◌, if◌then◌else◌, ◌++◌, List, [], ◌∷◌, map, min, max, Option, Some, None, option_map, IfSome, nat_le, nat_lt, Bool, false, filter}
 use Rattle.std.specs.List.{list_all, list_any}
 use Rattle.he_addr.specs.declared.ip.Ip.{Ip}
 use Rattle.he_addr.specs.Ip.{is_usable, is_v6}
@@ -10,7 +10,6 @@ use Rattle.he_plan.specs.declared.finish.Fate.TheVariants.{Succeeded, Failed}
 use Rattle.he_timeline.specs.declared.limits.TheConstants.{MAX_LIMIT}
 use Rattle.he_timeline.specs.Race.{Race, Reply}
 use Rattle.he_plan.specs.declared.transcript.Line.{Line}
-use Rattle.he_timeline.specs.Timeline.{are_pauses}
 use Rattle.he_plan.specs.Finish.{fate_of}
 use Rattle.he_plan.specs.Transcript.{failures, greatest, is_failed, mark_at}
 use Rattle.he_plan.specs.Attempts.{is_untried, last_of, order}

@@ -53,5 +53,6 @@ pub use listing::sorted_attributes;
 pub use planning::plan;
 pub use race_state::RaceState;
 pub use transcript::{
-    Line, Mark, Outcome3, Transcript, transcript_at_stop, transcript_of, transcript_of_fates,
+    Line, Mark, Outcome3, Transcript, transcript_at_stop, transcript_by_order, transcript_of,
+    transcript_of_fates,
 };

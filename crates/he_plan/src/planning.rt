@@ -1,6 +1,6 @@
 // The plan of a race, and its attempts up to its stop.
 
-ghost use Rattle.std.specs.Prelude.{◌≡◌, ℕ, ◌≤◌, ◌-◌, length, take, IfOk, IfSome, IfNone};
+ghost use Rattle.std.specs.Prelude.{◌≡◌, ℕ, ◌≤◌, ◌-◌, [], length, take, IfOk, IfSome, IfNone};
 ghost use Rattle.he_plan.specs.Attempts.{AreAttempts, MayStart};
 ghost use Rattle.he_timeline.specs.Seen.{IsLeast};
 ghost use Rattle.he_plan.specs.Finish.{IsWinner};
@@ -30,15 +30,17 @@ pub fn plan<A: Allocator + Copy, B: Allocator>(
     Ok(Plan::new(underway.into_attempts()))
 }
 
-// The race with the attempts that start before the first success of earlier ones, and the winner of these: its finish
-// and place.
+// The race, of which no attempt was made, with the attempts that start before the first success of earlier ones, and
+// the winner of these: its finish and place.
 pub(crate) fn run_to_stop<A: Allocator + Copy, B: Allocator>(
     alloc: A,
     timeline: &Timeline<B>,
+    mut underway: RaceState<A>,
 ) -> Result<(RaceState<A>, Option<(u64, usize)>), Memory>
+    requires underway { IsUnderway timeline.now underway }
+    requires none { underway.fates ≡ [] }
     ensures { IfOk result (λ stopped. IsStopped timeline.now stopped.0 stopped.1) }
 {
-    let mut underway = RaceState::new(alloc);
     let mut winner = None;
     while let Some(tick) = unbeaten_tick(timeline, &underway, winner) {
         underway.start(alloc, timeline, tick)?;

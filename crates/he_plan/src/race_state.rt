@@ -1,18 +1,18 @@
 // A race under way: its attempts, made one after the other.
 
-ghost use Rattle.std.specs.Prelude.{◌≡◌, ℕ, ◌<◌, length, vec_capacity, vec_len, IfNone, IfSome, OnErr, OnOk};
+ghost use Rattle.std.specs.Prelude.{◌≡◌, ℕ, ◌<◌, [], length, vec_capacity, vec_len, IfNone, IfSome, OnErr, OnOk};
 ghost use Rattle.he_timeline.specs.Seen.{IsLeast};
 ghost use Rattle.he_plan.specs.Attempts.{MayStart};
 ghost use Rattle.he_plan.specs.Planning.{all_failed};
 ghost use Rattle.he_timeline.specs.Race.{Race};
 ghost use Rattle.he_timeline.specs.Timeline.{IsRace};
-ghost use Rattle.he_plan.specs.RaceState.{EndsOne, IsUnderway, MakesNext, counted, not_begun};
+ghost use Rattle.he_plan.specs.RaceState.{AreSorted, EndsOne, IsUnderway, MakesNext, counted, not_begun};
 
 use crate::attempts::Attempt;
 use crate::finish::{Fate, fate_of};
 use crate::starts::next_tick;
 use crate::untried::Untried;
-use he_addr::Memory;
+use he_addr::{Ip, Memory};
 use he_timeline::Timeline;
 use std::alloc::{AllocError, Allocator, Global};
 use std::marker::Model;
@@ -47,7 +47,21 @@ impl<A: Allocator + Copy> RaceState<A> {
             fates: Vec::new(alloc),
             failed: 0,
             latest: 0,
-            queue: Untried::new(alloc),
+            queue: Untried::new(alloc, Vec::new(alloc)),
+        }
+    }
+
+    // The same, with the usable addresses of both answers in order, so that they aren't sorted again.
+    pub(crate) fn with_order(alloc: A, sorted: Vec<Ip, A>) -> RaceState<A>
+        ensures fates { result.fates ≡ [] }
+        ensures underway { (race : Race) → AreSorted race sorted.items → IsUnderway race result }
+    {
+        RaceState {
+            attempts: Vec::new(alloc),
+            fates: Vec::new(alloc),
+            failed: 0,
+            latest: 0,
+            queue: Untried::new(alloc, sorted),
         }
     }
 

@@ -1,16 +1,19 @@
 // The transcript of a race.
 
-ghost use Rattle.std.specs.Prelude.{◌≡◌, ◌&&◌, ◌||◌, ◌++◌, ◌∷◌, not, length, Some, IfNone, IfOk, IsTrue, OnOk};
+ghost use Rattle.std.specs.Prelude.{◌≡◌, ◌&&◌, ◌||◌, ◌++◌, ◌∷◌, [], not, length, Some, IfNone, IfOk, IsTrue, OnOk};
 ghost use Rattle.std.specs.List.{list_all};
 ghost use Rattle.he_addr.specs.Ip.{is_usable};
-ghost use Rattle.he_plan.specs.Attempts.{AreAttempts, is_tried, last_of};
+ghost use Rattle.he_plan.specs.Attempts.{AreAttempts, is_tried, last_of, order};
 ghost use Rattle.he_plan.specs.Planning.{told_lines, told_one, has_room, last_failure};
+ghost use Rattle.he_plan.specs.RaceState.{IsUnderway};
+ghost use Rattle.he_timeline.specs.Race.{usable_addresses};
 ghost use Rattle.he_timeline.specs.Timeline.{IsRace};
 ghost use Rattle.he_plan.specs.Transcript.{IsTranscript, AreKnown, AreTold, stop_of, is_place, failed_mark, mark_at, result_of, without_winner, is_failed, is_tried_out, failures, greatest};
 
 use crate::attempts::{Attempt, Plan, is_tried};
 use crate::finish::Fate;
 use crate::planning::run_to_stop;
+use crate::race_state::RaceState;
 use he_addr::{Family, Ip, Memory};
 use he_timeline::Timeline;
 use he_timeline::timeline::are_addresses_in_range;
@@ -134,8 +137,34 @@ pub fn transcript_of<A: Allocator + Copy, B: Allocator>(
 ) -> Result<Transcript<A>, Memory>
     ensures { IfOk result (IsTranscript timeline.now) }
 {
+    transcript_from(alloc, timeline, RaceState::new(alloc))
+}
+
+/// The same, where the usable addresses of both answers, whatever their ticks, are given in the order of RFC 6724
+/// section 6: they aren't sorted again.
+pub fn transcript_by_order<A: Allocator + Copy, B: Allocator>(
+    alloc: A,
+    timeline: &Timeline<B>,
+    sorted: Vec<Ip, A>,
+) -> Result<Transcript<A>, Memory>
+    requires { sorted.items ≡ order timeline.now (usable_addresses timeline.now) }
+    ensures { IfOk result (IsTranscript timeline.now) }
+{
+    transcript_from(alloc, timeline, RaceState::with_order(alloc, sorted))
+}
+
+// The same, from a race of which no attempt was made.
+fn transcript_from<A: Allocator + Copy, B: Allocator>(
+    alloc: A,
+    timeline: &Timeline<B>,
+    not_begun: RaceState<A>,
+) -> Result<Transcript<A>, Memory>
+    requires underway { IsUnderway timeline.now not_begun }
+    requires none { not_begun.fates ≡ [] }
+    ensures { IfOk result (IsTranscript timeline.now) }
+{
     are_addresses_in_range(timeline);
-    let (underway, winner) = run_to_stop(alloc, timeline)?;
+    let (underway, winner) = run_to_stop(alloc, timeline, not_begun)?;
     let (attempts, fates) = (underway.attempts(), underway.fates());
     let stop = stop(timeline, winner);
     let ending = ending(timeline, attempts, fates, winner);

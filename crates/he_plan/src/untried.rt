@@ -1,10 +1,10 @@
 // The addresses that a race under way has yet to try.
 
-ghost use Rattle.std.specs.Prelude.{◌≡◌, ◌||◌, ◌<◌, true, false, not, drop, filter, length, slice_get, Some, OnOk, OnErr};
+ghost use Rattle.std.specs.Prelude.{◌≡◌, ◌||◌, ◌<◌, [], true, false, not, drop, filter, length, slice_get, Some, OnOk, OnErr};
 ghost use Rattle.he_plan.specs.Attempts.{MayStart, is_untried};
 ghost use Rattle.he_plan.specs.Planning.{IsLater, is_received};
 ghost use Rattle.he_timeline.specs.Race.{has_ip, reply_of};
-ghost use Rattle.he_plan.specs.RaceState.{IsAtNext, IsQueue, nothing_received};
+ghost use Rattle.he_plan.specs.RaceState.{IsAtNext, IsQueue};
 
 use crate::attempts::{Attempt, is_tried};
 use crate::listing::interlaced_list;
@@ -35,15 +35,16 @@ impl<A: Allocator> Model for Untried<A> {
 }
 
 impl<A: Allocator + Copy> Untried<A> {
-    pub(crate) fn new(alloc: A) -> Untried<A>
-        ensures { result ≡ nothing_received }
+    // Nothing is received. The addresses of both answers are given in order, or none where they are to be sorted.
+    pub(crate) fn new(alloc: A, sorted: Vec<Ip, A>) -> Untried<A>
+        ensures { result ≡ record { v6 = false; v4 = false; ips = []; sorted = sorted.items } }
     {
         Untried {
             v6: false,
             v4: false,
             ips: Vec::new(alloc),
             next: 0,
-            sorted: Vec::new(alloc),
+            sorted,
         }
     }
 

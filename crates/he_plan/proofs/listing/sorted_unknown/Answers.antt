@@ -1,6 +1,5 @@
 use Rattle.std.proofs.Common.{◌≡◌, List, map, true, sym, ◌∙◌, ap}
 use Rattle.he_addr.specs.declared.ip.Ip.{Ip}
-use Rattle.he_timeline.specs.Building.{empty_history}
 use Rattle.he_timeline.specs.Race.{History, known_of, usable_addresses}
 use Rattle.he_select.specs.Preference.{order_of}
 use Rattle.he_select.specs.Selection.{known_input, selection_input}

@@ -1,5 +1,5 @@
 use Rattle.he_plan.proofs.Stopped.{stopped-all, stopped-is}
-use Rattle.he_plan.proofs.transcript.transcript_of.Goals as goal
+use Rattle.he_plan.proofs.transcript.transcript_from.Goals as goal
 
 pub ending-ending-requires : goal.ending-ending-requires
 ending-ending-requires g c = rw c.attempts-attempts.ensures (stopped-all c.args.timeline.now c.in_ok-underway.underway c.in_ok-underway.winner c.in_ok-underway.ensures)
