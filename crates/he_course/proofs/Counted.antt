@@ -1,5 +1,5 @@
 -- How many events of a race are of a kind, by its attempts.
-use Rattle.std.proofs.Common.{◌≡◌, ℕ, zero, suc, ◌+◌, ◌<◌, ◌++◌, Bool, true, false, cond, ◌&&◌, not, List, [], ◌∷◌, filter, map, refl, sym, ◌∙◌, ap, arith, inl, inr, slice_get, nat_le, if◌then◌else◌}
+use Rattle.std.proofs.Common.{◌≡◌, ℕ, suc, ◌+◌, ◌++◌, Bool, true, false, cond, ◌&&◌, List, [], ◌∷◌, filter, map, refl, sym, ◌∙◌, ap, arith, inl, inr, nat_le, if◌then◌else◌}
 use Rattle.std.specs.Prelude.{Option, None, Some}
 use Rattle.std.specs.List.{count_by, flat_map}
 use Rattle.std.proofs.Math.Bool.{and-true, and-false}
@@ -18,7 +18,7 @@ use Rattle.he_plan.specs.declared.transcript.Mark.TheVariants as marks
 use Rattle.he_plan.specs.Transcript.{Report}
 use Rattle.he_course.specs.declared.events.Event.{Event}
 use Rattle.he_course.specs.declared.events.EventKind.{EventKind}
-use Rattle.he_course.specs.declared.events.EventKind.TheVariants.{Paused, Answered, Waits, DelayOver, Failed, Started, Won, Exhausted, Limit, Cancelled}
+use Rattle.he_course.specs.declared.events.EventKind.TheVariants.{Paused, Answered, Waits, DelayOver, Failed, Started, Exhausted, Limit, Cancelled}
 use Rattle.he_course.specs.declared.events.Start.{Start}
 use Rattle.he_course.specs.Causes.{failure_of, later_of}
 use Rattle.he_course.specs.Course.{events_in}

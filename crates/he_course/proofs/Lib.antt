@@ -1,6 +1,7 @@
 mod CauseLaws
 mod Counted
 mod CourseLaws
+mod DelayLaws
 mod EventLaws
 mod FloorCauses
 mod FloorLaws

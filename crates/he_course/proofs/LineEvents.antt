@@ -1,5 +1,5 @@
 -- Each attempt of a transcript has one start and one end among the events of its course.
-use Rattle.std.proofs.Common.{◌≡◌, ℕ, zero, suc, ◌+◌, ◌<◌, ◌≤◌, ◌++◌, ◌==◌, Bool, true, false, cond, ◌&&◌, List, [], ◌∷◌, filter, map, refl, sym, ◌∙◌, ap, subst, arith, inl, inr, slice_get, nat_le, nat_lt, if◌then◌else◌}
+use Rattle.std.proofs.Common.{◌≡◌, ℕ, zero, suc, ◌+◌, ◌<◌, ◌≤◌, ◌==◌, Bool, true, false, cond, ◌&&◌, List, [], ◌∷◌, filter, map, refl, sym, ◌∙◌, ap, subst, arith, inl, inr, slice_get, nat_le, nat_lt, if◌then◌else◌}
 use Rattle.std.specs.Prelude.{Option, None, Some, nat_eq, max, option_map}
 use Rattle.std.specs.List.{count_by, list_all}
 use Rattle.std.proofs.Math.Nat.{le-max_left, le-max_right}
@@ -7,7 +7,7 @@ use Rattle.std.proofs.lemmas.Bool.{cases_Bool, eqb-true, eq-eqb}
 use Rattle.std.proofs.lemmas.Option.{slice_get-map}
 use Rattle.he_addr.specs.declared.ip.Ip.{Ip}
 use Rattle.he_addr.specs.Ip.{same_ip}
-use Rattle.he_timeline.specs.Race.{Race, Reply, outcome_of}
+use Rattle.he_timeline.specs.Race.{Race, Reply}
 use Rattle.he_timeline.specs.Seen.{seen}
 use Rattle.he_timeline.specs.Timeline.{IsRace}
 use Rattle.he_timeline.proofs.Bools.{and_both, and_left, and_right, clash, le_from, le_test, lt_from}
@@ -20,17 +20,16 @@ use Rattle.he_plan.specs.declared.transcript.Mark.TheVariants as marks
 use Rattle.he_plan.specs.declared.transcript.Outcome3.{Outcome3}
 use Rattle.he_plan.specs.declared.transcript.Outcome3.TheVariants as results
 use Rattle.he_plan.specs.Finish.{IsInTime, fate_of}
-use Rattle.he_plan.specs.Transcript.{IsTranscript, Report, failed_mark, failures, greatest, is_exhausted, is_failed, is_tried_out, line_of, lines_of, mark_at, result_of, stop_of, without_winner}
+use Rattle.he_plan.specs.Transcript.{IsTranscript, Report, failed_mark, failures, greatest, is_exhausted, is_failed, is_tried_out, line_of, mark_at, result_of, stop_of, without_winner}
 use Rattle.he_plan.proofs.Distinct.{same_ip-self}
 use Rattle.he_plan.proofs.Finishing.{fate-in_time}
 use Rattle.he_plan.proofs.Lawful.{place-is}
-use Rattle.he_course.specs.declared.events.Event.{Event}
 use Rattle.he_course.specs.declared.events.EventKind.{EventKind}
 use Rattle.he_course.specs.declared.events.EventKind.TheVariants as kinds
-use Rattle.he_course.specs.Events.{end_event, events_of}
+use Rattle.he_course.specs.Events.{end_event}
 use Rattle.he_course.specs.Course.{events_in}
 use Rattle.he_course.specs.Laws.{HasStartAndEnd, LinesStand, ends, ends_at, starts, starts_at}
-use Rattle.he_course.proofs.Counted.{IsOfAttempts, by_end, by_end-is, cancelled_as, count_cons, count_filter, count_head, count_map, count_none, count_past, counted, fails_as, in_course, on}
+use Rattle.he_course.proofs.Counted.{IsOfAttempts, by_end, by_end-is, cancelled_as, count_cons, count_filter, count_map, count_none, count_past, counted, fails_as, in_course, on}
 
 -- the attempts have their places
 abbrev ArePlaced : ℕ → List Attempt → Type 0

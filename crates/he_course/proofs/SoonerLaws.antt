@@ -1,5 +1,5 @@
 -- A floor that changes nothing makes no race end sooner.
-use Rattle.std.proofs.Common.{◌≡◌, ℕ, ◌&&◌, ◌≤◌, Bool, true, false, Option, Some, None, if◌then◌else◌, is_none, nat_lt, refl, ap, sym, ◌∙◌, arith}
+use Rattle.std.proofs.Common.{◌≡◌, ◌&&◌, Bool, true, false, Some, None, if◌then◌else◌, is_none, refl, ap, sym, ◌∙◌, arith}
 use Rattle.he_timeline.specs.Race.{Race}
 use Rattle.he_timeline.proofs.Bools.{not_lt}
 use Rattle.he_plan.specs.Transcript.{Report}

@@ -1,15 +1,14 @@
 -- The client waits for the AAAA answer just where its first attempt starts after the A answer is seen.
-use Rattle.std.proofs.Common.{◌≡◌, ℕ, ◌+◌, ◌<◌, ◌≤◌, ◌&&◌, ◌⊎◌, Bool, true, false, not, List, [], refl, sym, ◌∙◌, ap, subst, arith, inl, inr, nat_le, nat_lt}
-use Rattle.std.specs.Prelude.{Option, None, Some, IsSomeAnd, IsTrue, ◌↔◌}
+use Rattle.std.proofs.Common.{◌≡◌, ℕ, ◌+◌, ◌<◌, ◌≤◌, ◌&&◌, Bool, true, false, not, refl, sym, ap, subst, arith, inl, inr, nat_lt}
+use Rattle.std.specs.Prelude.{Option, None, Some, IsSomeAnd, IsTrue}
 use Rattle.std.specs.List.{list_any}
 use Rattle.std.proofs.lemmas.Bool.{cases_Bool, cases_lt}
 use Rattle.he_addr.specs.Ip.{is_usable}
-use Rattle.he_plan.specs.declared.attempts.Attempt.{Attempt}
-use Rattle.he_plan.specs.Attempts.{IsAnswered, IsDelayOver, IsNext, IsPositive, MayBegin}
+use Rattle.he_plan.specs.Attempts.{IsAnswered, IsDelayOver, IsPositive, MayBegin}
 use Rattle.he_timeline.specs.Seen.{IsSeen, seen}
 use Rattle.he_timeline.specs.Race.{Race, Reply}
 use Rattle.he_timeline.specs.Timeline.{IsRace}
-use Rattle.he_timeline.proofs.Bools.{and_both, and_left, and_right, clash, le_from, le_test, lt_from, lt_test}
+use Rattle.he_timeline.proofs.Bools.{clash, le_from, le_test, lt_from, lt_test}
 use Rattle.he_timeline.proofs.Seen.{IsSeen-seen}
 use Rattle.he_course.specs.Events.{is_seen_by, is_waiting}
 use Rattle.he_course.specs.Laws.{WaitsStand}

@@ -1,5 +1,5 @@
 -- The course of a race: all that is told of it, made once.
-use Rattle.std.specs.Prelude.{ℕ, ◌≡◌, ◌+◌, ◌-◌, ◌<◌, if◌then◌else◌, Bool, List, [], ◌∷◌, count_by, nat_lt, option_map, take, Option, Some, None}
+use Rattle.std.specs.Prelude.{ℕ, ◌≡◌, ◌-◌, if◌then◌else◌, List, [], ◌∷◌, count_by, nat_lt, option_map, take, Option, Some, None}
 use Rattle.std.specs.Option.{option_map_or}
 use Rattle.he_addr.specs.declared.ip.Family.{Family}
 use Rattle.he_addr.specs.declared.ip.Family.TheVariants as families

@@ -1,5 +1,5 @@
 -- What happens in a race, each event with its tick (RFC 8305 sections 3 and 5).
-use Rattle.std.specs.Prelude.{ℕ, ◌+◌, ◌&&◌, ◌++◌, if◌then◌else◌, not, Bool, false, List, [], ◌∷◌, map, filter, count_by, Option, Some, None, nat_le, nat_lt}
+use Rattle.std.specs.Prelude.{ℕ, ◌+◌, ◌&&◌, ◌++◌, if◌then◌else◌, not, Bool, true, false, List, [], ◌∷◌, map, filter, count_by, Option, Some, None, nat_le, nat_lt}
 use Rattle.std.specs.List.{flat_map, list_any}
 use Rattle.std.specs.Option.{option_map_or}
 use Rattle.he_addr.specs.declared.ip.Family.{Family}
@@ -108,6 +108,11 @@ told_events race report =
 -- the events of a race with this transcript, by kind
 abbrev pub events_of : Race → Report → List Event
 events_of race report = met_events race ++ told_events race report
+
+-- the client sees that the Resolution Delay has ended
+abbrev pub is_delay_over : EventKind → Bool
+is_delay_over DelayOver = true
+is_delay_over _ = false
 
 -- it comes by the race's end, and a pause before it
 abbrev pub comes_by : ℕ → ℕ → EventKind → Bool

@@ -1,5 +1,5 @@
 -- What a floor would have changed: the least time between two starts where all attempts so far have failed (own).
-use Rattle.std.specs.Prelude.{ℕ, ◌≡◌, ◌&&◌, if◌then◌else◌, Bool, List, length, slice_get, is_none, nat_lt, Option, Some, None}
+use Rattle.std.specs.Prelude.{◌≡◌, ◌&&◌, if◌then◌else◌, Bool, List, length, slice_get, is_none, nat_lt, Option, Some, None}
 use Rattle.he_timeline.specs.declared.limits.TheConstants.{MIN_FLOOR}
 use Rattle.he_timeline.specs.Changes.{changed}
 use Rattle.he_timeline.specs.Race.{Race}

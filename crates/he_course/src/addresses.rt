@@ -55,11 +55,17 @@ pub(crate) fn transcript_with<A: Allocator + Copy, B: Allocator>(
     requires { sorted.now ≡ all_attributes_of timeline.now }
     ensures { IfOk result (IsTranscript timeline.now) }
 {
-    let ips = sorted
-        .iter()
-        .map(|attributes| attributes.ip)
-        .collect(alloc)?;
+    let ips = ips_of(alloc, sorted)?;
     transcript_by_order(alloc, timeline, ips)
+}
+
+fn ips_of<A: Allocator>(
+    alloc: A,
+    sorted: &[DestinationAttributes],
+) -> Result<Vec<Ip, A>, AllocError>
+    ensures { IfOk result (λ ips. ips.items ≡ map (λ attributes. attributes.ip) sorted.now) }
+{
+    sorted.iter().map(|attributes| attributes.ip).collect(alloc)
 }
 
 fn rule_after(

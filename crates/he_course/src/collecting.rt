@@ -7,9 +7,10 @@ ghost use Rattle.he_addr.specs.declared.ip.Family.TheVariants as families;
 ghost use Rattle.he_plan.specs.Attempts.{order_at};
 ghost use Rattle.he_timeline.specs.Race.{reply_of};
 ghost use Rattle.he_course.specs.Addresses.{all_attributes_of};
-ghost use Rattle.he_course.specs.Events.{answer_events, attempt_of, cancelled_by, end_event, event_at, events_of, failed_by, is_seen_by, met_events, over_events, pause_events, start_event, start_events, told_events, wait_events};
+ghost use Rattle.he_course.specs.Events.{answer_events, attempt_of, cancelled_by, end_event, event_at, events_of, failed_by, met_events, over_events, pause_events, start_event, start_events, told_events, wait_events};
 
-use crate::cause::{cause_of, failure_of, has_usable, is_held, later_of};
+use crate::cause::{cause_of, failure_of, is_held, later_of};
+use crate::delay::{is_aaaa_seen_by, is_waiting};
 use crate::events::{Event, EventKind, Start};
 use crate::interlaced::{Interlaced, bring_to};
 use crate::listing::listed_in;
@@ -137,12 +138,11 @@ fn push_wait<A: Allocator, B: Allocator>(
     let Some((tick, ips)) = timeline.answer(Family::V4) else {
         return Ok(());
     };
-    let delay_end = tick + timeline.settings().resolution();
-    let seen = timeline.seen(tick);
-    if !has_usable(ips) || delay_end <= seen || is_aaaa_seen_by(timeline, seen) {
+    if !is_waiting(timeline, tick, ips) {
         return Ok(());
     }
-    push(events, seen, EventKind::Waits(delay_end))?;
+    let delay_end = tick + timeline.settings().resolution();
+    push(events, timeline.seen(tick), EventKind::Waits(delay_end))?;
     push_delay_over(events, timeline, timeline.seen(delay_end))
 }
 
@@ -158,15 +158,6 @@ fn push_delay_over<A: Allocator, B: Allocator>(
         return Ok(());
     }
     push(events, tick, EventKind::DelayOver)
-}
-
-fn is_aaaa_seen_by<A: Allocator>(timeline: &Timeline<A>, tick: u64) -> bool
-    ensures { result ≡ is_seen_by timeline.now tick timeline.now.aaaa }
-{
-    match timeline.answer(Family::V6) {
-        Some((answer, _)) => timeline.seen(answer) <= tick,
-        None => false,
-    }
 }
 
 fn push_told<A: Allocator + Copy, B: Allocator, C: Allocator>(

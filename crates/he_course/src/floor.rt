@@ -29,7 +29,8 @@ pub struct Ended {
 }
 
 impl Ended {
-    pub(crate) fn of<A: Allocator>(transcript: &Transcript<A>) -> Ended
+    /// How the race with this transcript ended.
+    pub fn of<A: Allocator>(transcript: &Transcript<A>) -> Ended
         ensures { result ≡ ended_of transcript.now }
     {
         let lines = transcript.attempts();

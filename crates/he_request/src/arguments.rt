@@ -44,6 +44,14 @@ pub(crate) fn flag<'a>(alloc: Global, id: &'a str, help: &'a str) -> Arg<'a> {
         .help(help)
 }
 
+// An option of one letter, without a value.
+pub(crate) fn letter<'a>(alloc: Global, id: &'a str, letter: char, help: &'a str) -> Arg<'a> {
+    Arg::new(alloc, id)
+        .short(letter)
+        .action(ArgAction::SetTrue)
+        .help(help)
+}
+
 // An option with a value, or with one word for each use.
 pub(crate) fn value<'a>(alloc: Global, id: &'a str, name: &'a str, help: &'a str) -> Arg<'a> {
     Arg::new(alloc, id).long(id).value_name(name).help(help)
@@ -102,4 +110,11 @@ pub(crate) fn number_of(matches: &ArgMatches<'_>, id: &str) -> Option<u16>
     ensures { HasNumber ⟦<u16 as FromStr>⟧.from_str_gives (found_of matches.now) id.now result }
 {
     matches.get_one::<u16>(id)
+}
+
+// The texts that the line gives this option, in order.
+pub(crate) fn values_of<'a>(matches: &'a ArgMatches<'_>, id: &str) -> &'a [&'a str]
+    ensures { map (λ text. text.now) result.now ≡ values_of (found_of matches.now) id.now }
+{
+    matches.get_strs(id).unwrap_or(&[])
 }

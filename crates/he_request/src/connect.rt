@@ -4,13 +4,13 @@ ghost use Rattle.clap.specs.Matches.{found_of};
 ghost use Rattle.he_request.specs.Ports.{IsPort};
 ghost use Rattle.he_request.specs.Requests.{AsksConnection, AsksFamily};
 
-use crate::arguments::{STANDARD, flag, flag_of, plain, value, word};
+use crate::arguments::{STANDARD, flag, flag_of, letter, plain, value, word};
 use crate::limits::MOST_WAIT;
 use crate::port::{Port, port_of};
 use crate::refusal::OptionFault;
 use crate::resolver::{Resolver, resolver_argument, resolver_of};
 use crate::settings::{changes_of, set, settings_of, timeout};
-use clap::{Arg, ArgAction, ArgMatches, Command, value_parser};
+use clap::{ArgMatches, Command, value_parser};
 use he_addr::Family;
 use he_timeline::Settings;
 use std::alloc::{AllocError, Global};
@@ -26,7 +26,7 @@ const TRY_HELP: &str = "Close the connection once it is made, with status 0";
 const WAIT_HELP: &str = "Wait MS milliseconds for standard input after the\n\
 remote has closed its side; default is 500";
 
-const LINES_HELP: &str = "Take the source, route and policy lines of FILE\n\
+pub(crate) const LINES_HELP: &str = "Take the source, route and policy lines of FILE\n\
 in place of this machine's own";
 
 const RECORD_HELP: &str = "Write the race to FILE, for `he replay`;\n\
@@ -92,14 +92,6 @@ pub(crate) fn command<'a>(alloc: Global) -> Result<Command<'a>, AllocError> {
     plain(alloc, "connect", ABOUT, EXAMPLE, args)
 }
 
-// An option of one letter.
-fn letter<'a>(alloc: Global, id: &'a str, letter: char, help: &'a str) -> Arg<'a> {
-    Arg::new(alloc, id)
-        .short(letter)
-        .action(ArgAction::SetTrue)
-        .help(help)
-}
-
 /// A connection that is made, recorded and relayed.
 #[derive(Clone, Copy)]
 pub struct Connection<'a> {
@@ -160,7 +152,7 @@ pub(crate) fn connection_of<'a>(matches: &ArgMatches<'a>) -> Result<Connection<'
 }
 
 // The family that the line asks for alone.
-fn family_of(matches: &ArgMatches<'_>) -> Option<Family>
+pub(crate) fn family_of(matches: &ArgMatches<'_>) -> Option<Family>
     ensures { AsksFamily (found_of matches.now) result }
 {
     let (four, six) = (flag_of(matches, "four"), flag_of(matches, "six"));

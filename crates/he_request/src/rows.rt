@@ -6,8 +6,9 @@ ghost use Rattle.he_request.specs.Rows.{AreRows, is_equals, labels_of, list_of, 
 ghost use Rattle.he_request.specs.Rows.{text_in};
 ghost use Rattle.he_request.specs.Words.{values_of};
 
+use crate::arguments::values_of;
 use crate::refusal::{OptionFault, Refusal};
-use crate::settings::{changes_in, texts_of};
+use crate::settings::changes_in;
 use clap::ArgMatches;
 use he_timeline::Changes;
 use std::alloc::{AllocError, Global};
@@ -30,7 +31,7 @@ pub(crate) fn rows_of(alloc: Global, matches: &ArgMatches<'_>) -> Result<Rows, R
     ensures labels { IfOk result (λ rows. map string_bytes rows.labels.items
         ≡ labels_of (values_of (found_of matches.now) (codes "set"))) }
 {
-    let texts = texts_of(matches);
+    let texts = values_of(matches, "set");
     let mut changes = Vec::new(alloc);
     let mut labels = Vec::new(alloc);
     push(Changes::none(), &mut changes)?;

@@ -4,7 +4,7 @@ ghost use Rattle.clap.specs.Matches.{found_of};
 ghost use Rattle.he_request.specs.Words.{AsksChanges, AsksSettings, HasNumber, connect_defaults, connect_settings};
 ghost use Rattle.he_request.specs.Words.{is_setting, last_number, number_for, values_of};
 
-use crate::arguments::value;
+use crate::arguments::{value, values_of};
 use crate::limits::MOST_WAIT;
 use crate::refusal::OptionFault;
 use clap::{Arg, ArgAction, ArgMatches, value_parser};
@@ -37,7 +37,7 @@ pub(crate) fn set<'a>(alloc: Global) -> Arg<'a> {
 pub(crate) fn changes_of(matches: &ArgMatches<'_>) -> Result<Changes, OptionFault>
     ensures { IfOk result (AsksChanges ⟦<u32 as FromStr>⟧.from_str_gives (found_of matches.now)) }
 {
-    changes_in(texts_of(matches), timeout_of(matches))
+    changes_in(values_of(matches, "set"), timeout_of(matches))
 }
 
 // The settings of these texts of `--set`, and of `--timeout`. Of two for one name the later counts, and `--set
@@ -56,13 +56,6 @@ pub(crate) fn changes_in(texts: &[&str], timeout: Option<u64>) -> Result<Changes
         last_number(b"floor=", texts),
     )
     .map_err(OptionFault::Range)
-}
-
-// The texts of `--set`, in order.
-pub(crate) fn texts_of<'a>(matches: &'a ArgMatches<'_>) -> &'a [&'a str]
-    ensures { map (λ text. text.now) result.now ≡ values_of (found_of matches.now) (codes "set") }
-{
-    matches.get_strs("set").unwrap_or(&[])
 }
 
 // The milliseconds of `--timeout`.

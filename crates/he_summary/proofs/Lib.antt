@@ -1,5 +1,4 @@
 pub mod Loops
-pub mod Lost
 pub mod Percentiles
 pub mod Tallied
 pub mod Told

@@ -1,12 +1,11 @@
--- What is kept of a race by its course.
+-- What is kept of a race by its transcript and the events of its course.
 use Rattle.std.specs.Prelude.{ℕ, ◌+◌, ◌-◌, ◌&&◌, if◌then◌else◌, Bool, true, false, List, [], length, is_none, nat_le, nat_lt, option_map, take, Option, Some, None}
 use Rattle.std.specs.List.{list_any}
 use Rattle.std.specs.Option.{option_map_or}
 use Rattle.he_addr.specs.Ip.{family_of}
 use Rattle.he_course.specs.Course.{events_in}
 use Rattle.he_course.specs.LeastFloor.{ended_of}
-use Rattle.he_course.specs.declared.events.EventKind.{EventKind}
-use Rattle.he_course.specs.declared.events.EventKind.TheVariants.{DelayOver}
+use Rattle.he_course.specs.Events.{is_delay_over}
 use Rattle.he_course.specs.declared.floor.Ended.{Ended}
 use Rattle.he_timeline.specs.Seen.{seen}
 use Rattle.he_timeline.specs.Race.{Race, outcome_of, reply_of}
@@ -71,10 +70,6 @@ time_before race (Some line) =
 -- the attempts before the winner's
 abbrev pub lines_before : List Line → Option Line → List Line
 lines_before lines winner = option_map_or (λ line. take line.place lines) winner []
-
-abbrev pub is_delay_over : EventKind → Bool
-is_delay_over DelayOver = true
-is_delay_over _ = false
 
 -- the Resolution Delay was waited out: the client saw its end, and made an attempt
 abbrev pub has_waited : Race → Report → Bool

@@ -9,11 +9,11 @@ use he_inputs::{Ending, RaceReader, RaceReaderFault};
 use std::alloc::Allocator;
 use std::mem::drop;
 
-// The bytes that the arena has at first in which a race and its courses are kept while it is added.
+// The bytes that the arena has at first in which a race and its transcripts are kept while it is added.
 const ARENA_BYTES: usize = 65_536;
 
 // Adds the races of an input up to its first fault. No race is kept when the reader goes on to the next: a race and
-// its courses stand in an arena, whose memory the next one takes again.
+// its transcripts stand in an arena, whose memory the next one takes again.
 pub(crate) fn add_races<A: Allocator + Copy>(
     alloc: A,
     file: usize,

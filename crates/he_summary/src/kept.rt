@@ -1,12 +1,11 @@
 //! What is kept of a race.
-ghost use Rattle.std.specs.Prelude.{◌≡◌, ◌&&◌, nat_lt};
+ghost use Rattle.std.specs.Prelude.{◌≡◌};
 ghost use Rattle.std.specs.List.{list_any};
-ghost use Rattle.he_course.specs.Course.{IsCourse};
-ghost use Rattle.he_summary.specs.Kept.{dead_before, ending_of, is_delay_over, is_loss, kept_of, loss_of};
+ghost use Rattle.he_summary.specs.Kept.{dead_before, ending_of, has_waited, is_loss, kept_of, lines_before, loss_of, time_before};
 
 use he_addr::Ip;
-use he_course::{Course, Ended, Event, EventKind};
-use he_plan::{Line, Mark, Outcome3};
+use he_course::{Ended, is_delay_over};
+use he_plan::{Line, Mark, Outcome3, Transcript};
 use he_timeline::Timeline;
 use std::alloc::Allocator;
 
@@ -55,24 +54,24 @@ pub struct Kept {
 }
 
 impl Kept {
-    // Of the course of the race that stands there.
+    // Of the race that stands there, with this transcript.
     pub(crate) fn of<A: Allocator, B: Allocator>(
         row: usize,
         place: Place,
         race: &Timeline<A>,
-        course: &Course<B>,
+        transcript: &Transcript<B>,
     ) -> Kept
-        ensures { IsCourse race.now place.number place.line course.now
-            → result ≡ kept_of (record { row = row; place = place; race = race.now; report = course.now.transcript }) }
+        ensures { result ≡ kept_of (record { row = row; place = place; race = race.now; report = transcript.now }) }
     {
+        let ended = Ended::of(transcript);
         Kept {
             row,
             place,
-            ending: Ending::of(course.ended),
-            attempts: course.ended.attempts,
-            lost: course.lost(),
-            dead: dead_before(race, course.before_winner()),
-            has_waited: has_waited(course),
+            ending: Ending::of(ended),
+            attempts: ended.attempts,
+            lost: time_before(race, ended.winner),
+            dead: dead_before(race, lines_before(transcript.attempts(), ended.winner)),
+            has_waited: has_waited(race, transcript),
         }
     }
 }
@@ -137,18 +136,28 @@ pub(crate) fn loss_of<A: Allocator>(race: &Timeline<A>, line: &Line) -> Option<L
     }
 }
 
-// Whether the Resolution Delay was waited out, and an attempt made.
-fn has_waited<A: Allocator>(course: &Course<A>) -> bool
-    ensures { result ≡ (list_any (λ event. is_delay_over event.kind) course.now.events.items
-        && nat_lt 0 course.now.ended.attempts) }
+// The milliseconds from when the winner's answer was seen to the start of its attempt.
+fn time_before<A: Allocator>(race: &Timeline<A>, winner: Option<Line>) -> Option<u64>
+    ensures { result ≡ time_before race.now winner }
 {
-    is_delay_over(&course.events) && course.ended.attempts > 0
+    let line = winner?;
+    let (tick, _) = race.answer(line.ip.family())?;
+    Some(line.tick.saturating_sub(race.seen(tick)))
 }
 
-fn is_delay_over(events: &[Event]) -> bool
-    ensures { result ≡ list_any (λ event. is_delay_over event.kind) events.now }
+// The attempts before the winner's.
+fn lines_before(lines: &[Line], winner: Option<Line>) -> &[Line]
+    ensures { result.now ≡ lines_before lines.now winner }
 {
-    events
-        .iter()
-        .any(|event| matches!(event.kind, EventKind::DelayOver))
+    match winner {
+        Some(line) => &lines[..line.place.min(lines.len())],
+        None => &[],
+    }
+}
+
+// Whether the Resolution Delay was waited out, and an attempt made.
+fn has_waited<A: Allocator, B: Allocator>(race: &Timeline<A>, transcript: &Transcript<B>) -> bool
+    ensures { result ≡ has_waited race.now transcript.now }
+{
+    is_delay_over(race, transcript) && !transcript.attempts().is_empty()
 }

@@ -1,6 +1,5 @@
 //! The races of some inputs, each with the settings of one or more rows.
 ghost use Rattle.std.specs.Prelude.{◌≡◌, ◌<◌, [], ◌∷◌, length, slice_get, Some, IfOk, OnOk};
-ghost use Rattle.he_course.specs.Course.{IsCourse};
 ghost use Rattle.he_stream.specs.Input.{Gives};
 ghost use Rattle.he_summary.specs.Steps.{AddsRace, AddsRuns};
 ghost use Rattle.he_summary.specs.Summed.{Adds, HasSummed};
@@ -10,8 +9,8 @@ use crate::adding::add_races;
 use crate::kept::{Kept, Place};
 use crate::tallies::{Tallies, Tally};
 use he_addr::{Ip, Memory};
-use he_course::Course;
 use he_inputs::StreamFault;
+use he_plan::{Transcript, transcript_of};
 use he_stream::{InputStream, WholeInput, take_input};
 use he_timeline::{Changes, Timeline};
 use std::alloc::Allocator;
@@ -51,7 +50,7 @@ impl<A: Allocator + Copy> Races<A> {
 
     /// Reads an input of timelines to its end, and adds its races, as those of the file of this place among all.
     ///
-    /// The input is held, and one race with its course.
+    /// The input is held, and one race with its transcript.
     ///
     /// # Errors
     ///
@@ -106,8 +105,8 @@ impl<A: Allocator + Copy> Races<A> {
     {
         for row in 0..self.settings.len() {
             let changed = race.copy(arena)?.with_changes(self.settings_of(row));
-            let course = Course::of(arena, &changed, place.number, place.line)?;
-            self.add_run(row, place, &changed, &course)?;
+            let transcript = transcript_of(arena, &changed)?;
+            self.add_run(row, place, &changed, &transcript)?;
         }
         Ok(())
     }
@@ -119,20 +118,19 @@ impl<A: Allocator + Copy> Races<A> {
         self.settings[row]
     }
 
-    // Adds a race that runs with the settings of a row, by its course.
+    // Adds a race that runs with the settings of a row, by its transcript.
     fn add_run<B: Allocator, C: Allocator>(
         &mut self,
         row: usize,
         place: Place,
         race: &Timeline<B>,
-        course: &Course<C>,
+        transcript: &Transcript<C>,
     ) -> Result<(), Memory>
-        ensures { IsCourse race.now place.number place.line course.now → OnOk result (AddsRuns
-            (record { row = row; place = place; race = race.now; report = course.now.transcript } ∷ [])
+        ensures { OnOk result (AddsRuns (record { row = row; place = place; race = race.now; report = transcript.now } ∷ [])
             self.old self.new) }
     {
-        self.kept.push(Kept::of(row, place, race, course))?;
-        self.tallies.add(race, &course.transcript)
+        self.kept.push(Kept::of(row, place, race, transcript))?;
+        self.tallies.add(race, transcript)
     }
 
     /// What is kept, in the order in which the races were added, and of one race in the order of the rows.

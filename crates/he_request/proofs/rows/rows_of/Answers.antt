@@ -9,7 +9,7 @@ use Rattle.he_request.proofs.rows.rows_of.Goals as goal
 pub loop-row-preserved : goal.loop-row-preserved
 loop-row-preserved c =
     let row = c.loop-row.row in
-    let texts = map (λ text. text.now) c.texts_of-texts.result.now in
+    let texts = map (λ text. text.now) c.values_of-texts.result.now in
     let words = c.in_ok-words.words.items in
     let same : map (λ word. word.now) words ≡ map (text_in row) texts =
     c.in_ok-words.ensures ∙ ap (map string_bytes) c.as_slice.ensures.value ∙ c.in_ok-made.ensures in
