@@ -1,11 +1,11 @@
 -- What the line of a proxy asks for, by what clap found of its words.
-use Rattle.std.specs.Prelude.{◌≡◌, ◌⊎◌, ◌<◌, Bool, true, false, List, [], ◌∷◌, ℕ, Option, Result, Unit, ⊥, codes, option_map}
+use Rattle.std.specs.Prelude.{◌≡◌, ◌⊎◌, ◌<◌, Bool, true, false, List, [], ◌∷◌, ℕ, Option, Result, codes, option_map}
 use Rattle.std.specs.Net.Grammar.{IsSocketText}
 use Rattle.std.specs.Net.Socket.{socket_port}
 use Rattle.std.specs.declared.net.socket_addr.SocketAddr.{SocketAddr}
 use Rattle.clap.specs.Matches.{first_value}
 use Rattle.clap.specs.declared.parser.matches.Found.{Found}
-use Rattle.he_addr.specs.Reading.{SpellsPrefix}
+use Rattle.he_addr.specs.Text.{SpellsPrefix}
 use Rattle.he_addr.specs.Prefix.{PrefixBits}
 use Rattle.he_timeline.specs.Changes.{ChangeValues}
 use Rattle.he_request.specs.Requests.{AsksFamily}

@@ -1,7 +1,7 @@
 //! `he proxy`.
 ghost use Rattle.std.specs.Prelude.{◌≡◌, IfNone, IfOk, IfSome, map};
 ghost use Rattle.clap.specs.Matches.{found_of};
-ghost use Rattle.he_addr.specs.Reading.{SpellsPrefix};
+ghost use Rattle.he_addr.specs.Text.{SpellsPrefix};
 ghost use Rattle.he_request.specs.Proxies.{AreNamed, AsksProxy, NamesAddress, NamesNoAddress, log_of};
 
 use crate::arguments::{flag, flag_of, letter, plain, value, values_of};
@@ -184,9 +184,12 @@ fn addresses_in(alloc: Global, texts: &[&str]) -> Result<Vec<SocketAddr>, Refusa
 {
     let mut listen = Vec::new(alloc);
     for text in texts {
-        match read_listen(text.as_bytes()) {
-            Some(address) => listen.push(address).map_err(|_| Refusal::Memory)?,
-            None => return Err(Refusal::Option(OptionFault::Listen)),
+        let Some(address) = read_listen(text.as_bytes()) else {
+            return Err(Refusal::Option(OptionFault::Listen));
+        };
+        match listen.push(address) {
+            Ok(()) => {}
+            Err(_) => return Err(Refusal::Memory),
         }
     }
     Ok(listen)
@@ -210,9 +213,12 @@ fn networks_in(alloc: Global, texts: &[&str]) -> Result<Vec<Prefix>, Refusal>
 {
     let mut allow = Vec::new(alloc);
     for text in texts {
-        match read_prefix(text.as_bytes()) {
-            Some(network) => allow.push(network).map_err(|_| Refusal::Memory)?,
-            None => return Err(Refusal::Option(OptionFault::Network)),
+        let Some(network) = read_prefix(text.as_bytes()) else {
+            return Err(Refusal::Option(OptionFault::Network));
+        };
+        match allow.push(network) {
+            Ok(()) => {}
+            Err(_) => return Err(Refusal::Memory),
         }
     }
     Ok(allow)
