@@ -100,8 +100,12 @@ where
     end_with(rt, alloc, setup, why.families(), &steps, raced)
 }
 
-// A look-up of the host, which waits in the event loop.
-fn look_up<'h, R>(
+/// A look-up of the host, which waits in the event loop.
+///
+/// # Errors
+///
+/// `Name`.
+pub fn look_up<'h, R>(
     rt: &'h R,
     alloc: Global,
     handle: &'h Handle,

@@ -15,19 +15,23 @@ use std::io::Write;
 use std::net::Net;
 use std::rt::Files;
 
-// A race that is asked for, before it is run.
+/// A race that is asked for, before it is run.
 #[derive(Drop)]
-pub(crate) struct Setup<'a> {
-    // What is asked for, with the families that are tried.
-    pub(crate) request: ConnectRequest<'a>,
-    pub(crate) start: Timeline,
-    pub(crate) to: Endpoint,
-    // Whether the lines of this machine come with the addresses.
-    pub(crate) brings_lines: bool,
+pub struct Setup<'a> {
+    /// What is asked for, with the families that are tried.
+    pub request: ConnectRequest<'a>,
+    pub start: Timeline,
+    pub to: Endpoint,
+    /// Whether the lines of this machine come with the addresses.
+    pub brings_lines: bool,
 }
 
-// Reads the lines of the race, and which families are tried; says which is not, where that is asked for.
-pub(crate) fn set_up<'a, R, F>(
+/// Reads the lines of the race, and which families are tried; says which is not, where that is asked for.
+///
+/// # Errors
+///
+/// `Machine`, `File`, `Lines` and `OtherLines` for the lines; `Name` where the host is none; `Memory`.
+pub fn set_up<'a, R, F>(
     rt: &R,
     alloc: Global,
     request: &ConnectRequest<'a>,

@@ -4,7 +4,7 @@ ghost use Rattle.he_race.specs.Heard.{lists_of};
 ghost use Rattle.he_connect.specs.Answers.{HasLines, IsAnswerOf, IsToldOf};
 
 use crate::request::Families;
-use crate::telling::Telling;
+use crate::telling::LookupWatcher;
 use futures::task::{Context, Poll};
 use he_addr::{Family, Ip};
 use he_host::taken::find_machine_of;
@@ -12,16 +12,15 @@ use he_race::{Answer, AnswerSource, Known, nothing_known};
 use he_resolver::{Lookup, LookupLog, NamesFault, first_fault};
 use std::alloc::{AllocError, AllocGlobal, Global};
 use std::cell::Cell;
-use std::io::Write;
 use std::net::Net;
 use std::random::RandomSource;
 use std::rc::Rc;
 use std::rt::Files;
 use std::time::Clock;
 
-// Why each family has no address, for the look-up of one race and for whoever tells its end.
+/// Why each family has no address, for the look-up of one race and for whoever tells its end.
 #[derive(Drop)]
-pub(crate) struct LookupFaults {
+pub struct LookupFaults {
     shared: Rc<FaultCells>,
 }
 
@@ -32,7 +31,12 @@ struct FaultCells {
 }
 
 impl LookupFaults {
-    pub(crate) fn new(alloc: Global) -> Result<LookupFaults, AllocError> {
+    /// Nothing is known yet.
+    ///
+    /// # Errors
+    ///
+    /// `AllocError` where an allocation was refused.
+    pub fn new(alloc: Global) -> Result<LookupFaults, AllocError> {
         let cells = FaultCells {
             six: Cell::new(None),
             four: Cell::new(None),
@@ -42,15 +46,19 @@ impl LookupFaults {
         })
     }
 
-    // The same, for another holder.
-    pub(crate) fn share(&self) -> Result<LookupFaults, AllocError> {
+    /// The same, for another holder.
+    ///
+    /// # Errors
+    ///
+    /// `AllocError` where there are too many holders.
+    pub fn share(&self) -> Result<LookupFaults, AllocError> {
         Ok(LookupFaults {
             shared: self.shared.clone()?,
         })
     }
 
-    // What is known by now.
-    pub(crate) fn families(&self) -> FamilyFaults {
+    /// What is known by now.
+    pub fn families(&self) -> FamilyFaults {
         FamilyFaults {
             six: self.shared.six.get(),
             four: self.shared.four.get(),
@@ -65,25 +73,25 @@ impl LookupFaults {
     }
 }
 
-// Why each family has no address, at a race's end.
+/// Why each family has no address, at a race's end.
 #[derive(Clone, Copy)]
-pub(crate) struct FamilyFaults {
+pub struct FamilyFaults {
     six: Option<NamesFault>,
     four: Option<NamesFault>,
 }
 
 impl FamilyFaults {
-    // Why the family has no address; None where it has some, or was not told in time.
-    pub(crate) fn of(self, family: Family) -> Option<NamesFault> {
+    /// Why the family has no address; None where it has some, or was not told in time.
+    pub fn of(self, family: Family) -> Option<NamesFault> {
         match family {
             Family::V6 => self.six,
             Family::V4 => self.four,
         }
     }
 
-    // Why there is no address of those that are tried; None where a family that is tried has some, or none yet, and
-    // where the name has addresses of the other family alone.
-    pub(crate) fn nameless(self, families: Families) -> Option<NamesFault> {
+    /// Why there is no address of those that are tried; None where a family that is tried has some, or none yet, and
+    /// where the name has addresses of the other family alone.
+    pub fn nameless(self, families: Families) -> Option<NamesFault> {
         match families {
             Families::Only(family) => self
                 .of(family)
@@ -93,26 +101,36 @@ impl FamilyFaults {
     }
 }
 
-// The answers of a look-up, which are polled while a race runs. A family that has none is told without addresses.
+/// The answers of a look-up, which are polled while a race runs. A family that has none is told without addresses.
 #[derive(Drop)]
-pub(crate) struct HostAnswers<'h, 'f, R, F> {
+pub struct HostAnswers<'h, R, W: LookupWatcher> {
     alloc: Global,
     lookup: Lookup<'h, R>,
     // Where the lines of this machine come with the addresses: what they are asked of.
     machine: Option<&'h R>,
     log: LookupLog,
     why: LookupFaults,
-    telling: &'h Telling<'f, F>,
+    watcher: W,
 }
 
-impl<'h, 'f, R: Net + RandomSource + Clock + Files + AllocGlobal, F> HostAnswers<'h, 'f, R, F> {
-    pub(crate) fn new(
+impl<'h, R, W> HostAnswers<'h, R, W>
+where
+    R: Net + RandomSource + Clock + Files + AllocGlobal,
+    W: LookupWatcher,
+{
+    /// The answers of the look-up; with `machine`, each comes with the lines of this machine to its first 32 addresses.
+    /// Why a family has none is noted in `why`.
+    ///
+    /// # Errors
+    ///
+    /// `AllocError` where there are too many holders of the look-up's log.
+    pub fn new(
         alloc: Global,
         lookup: Lookup<'h, R>,
         machine: Option<&'h R>,
         why: LookupFaults,
-        telling: &'h Telling<'f, F>,
-    ) -> Result<HostAnswers<'h, 'f, R, F>, AllocError>
+        watcher: W,
+    ) -> Result<HostAnswers<'h, R, W>, AllocError>
         ensures lookup { IfOk result (λ answers. answers.lookup ≡ lookup.entry) }
     {
         let log = lookup.log()?;
@@ -122,7 +140,7 @@ impl<'h, 'f, R: Net + RandomSource + Clock + Files + AllocGlobal, F> HostAnswers
             machine,
             log,
             why,
-            telling,
+            watcher,
         })
     }
 
@@ -176,10 +194,10 @@ fn with_lines<R: Net + Files + AllocGlobal>(
     })
 }
 
-impl<'h, 'f, R, F> AnswerSource for HostAnswers<'h, 'f, R, F>
+impl<'h, R, W> AnswerSource for HostAnswers<'h, R, W>
 where
     R: Net + RandomSource + Clock + Files + AllocGlobal,
-    F: Write,
+    W: LookupWatcher,
 {
     ghost use Rattle.he_resolver.specs.Needs.{lookup_needs};
     ghost use Rattle.he_connect.specs.Answers.{HearsLookup};
@@ -190,7 +208,7 @@ where
 
     fn poll_answer(&mut self, family: Family, now: u64, cx: &mut Context<'_>) -> Poll<Answer> {
         let polled = self.lookup.poll_answer(family, cx);
-        self.telling.tell_lookup(&self.log, now);
+        self.watcher.tell_lookup(&self.log, now);
         match polled {
             Poll::Pending => Poll::Pending,
             Poll::Ready(told) => Poll::Ready(self.answer_of(family, told)),

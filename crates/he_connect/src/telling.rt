@@ -3,11 +3,21 @@
 use crate::request::ConnectRequest;
 use crate::tried::write_reason;
 use he_addr::{Memory, write_ip, write_number};
-use he_live::{Step, StepKind, Watcher};
+use he_live::{Quiet, Step, StepKind, Watcher};
 use he_resolver::{LookupEvent, LookupEventKind, LookupLog};
 use std::alloc::Global;
 use std::cell::Cell;
 use std::io::Write;
+
+/// Who is told what happens in a look-up, each time that the race has polled it.
+pub trait LookupWatcher: Drop {
+    /// Takes what happened since the last call, at the race's tick.
+    fn tell_lookup(&self, log: &LookupLog, tick: u64);
+}
+
+impl LookupWatcher for Quiet {
+    fn tell_lookup(&self, _log: &LookupLog, _tick: u64) {}
+}
 
 // Tells each step in a line, where that is asked for. What cannot be written is passed over.
 #[derive(Drop)]
@@ -34,17 +44,19 @@ impl<'f, F> Telling<'f, F> {
     }
 }
 
-impl<'f, F: Write> Telling<'f, F> {
-    // Tells what happened in the look-up since the last call, at the race's tick: it goes on only where the race polls
-    // it, so all that is told stands in one order. Which family is not asked for was told before.
-    pub(crate) fn tell_lookup(&self, log: &LookupLog, tick: u64) {
+// A look-up goes on only where the race polls it, so all that is told stands in one order. Which family is not asked
+// for was told before.
+impl<'h, 'f, F: Write> LookupWatcher for &'h Telling<'f, F> {
+    fn tell_lookup(&self, log: &LookupLog, tick: u64) {
         for event in log.take().iter() {
             if self.tells_lookup && event.kind != LookupEventKind::NotAsked {
                 self.tell_event(*event, tick);
             }
         }
     }
+}
 
+impl<'f, F: Write> Telling<'f, F> {
     fn tell_event(&self, event: LookupEvent, tick: u64) {
         if let Some(faults) = self.faults.replace(None) {
             let _ = writeln!(faults, "he: {tick} ms: {event}");

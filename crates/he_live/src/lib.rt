@@ -30,6 +30,9 @@
 //! [`Watcher`] each step. Its [`Endpoint`] has the interface of link-local addresses of IPv6 too, of which a timeline
 //! says nothing.
 //!
+//! A race that is one task of many in an event loop takes its parts: [`LiveTicker`], [`socket_of`] and [`Steps`], with a
+//! connector of its own, as `he_proxy` does.
+//!
 //! [`live`] does all of it over an input and an output: `he live` is this call.
 //!
 //! # What is proved
@@ -57,7 +60,7 @@
 //! that the winner's stream is connected and waits; and that no socket of a race is left but the winner's.
 #![tactic(auto)]
 
-mod clock;
+pub mod clock;
 pub mod dialed;
 mod dialing;
 pub mod endpoint;
@@ -66,9 +69,10 @@ pub mod fault;
 pub mod racing;
 pub mod reason;
 pub mod recording;
-mod sockets;
+pub mod sockets;
 pub mod steps;
 
+pub use clock::LiveTicker;
 pub use dialed::Dialed;
 pub use endpoint::Endpoint;
 pub use failures::{FailedAttempt, failed_attempts, first_local, write_failures};
@@ -76,4 +80,5 @@ pub use fault::LiveFault;
 pub use racing::{ResolvingRequest, live_race, live_race_on, resolving_race_on};
 pub use reason::Reason;
 pub use recording::{LiveReport, live};
+pub use sockets::socket_of;
 pub use steps::{Quiet, Step, StepKind, Steps, Watcher};

@@ -107,8 +107,12 @@ impl Steps {
         })
     }
 
-    // The same steps for one more attempt, with room for all that it notes.
-    pub(crate) fn for_attempt(&self) -> Result<Steps, AllocError> {
+    /// The same steps for one more attempt, with room for all that it notes.
+    ///
+    /// # Errors
+    ///
+    /// `AllocError` where an allocation was refused.
+    pub fn for_attempt(&self) -> Result<Steps, AllocError> {
         let attempts = self.shared.attempts.get().saturating_add(1);
         let mut steps = self.take();
         let wanted = attempts.saturating_mul(STEPS_OF_ATTEMPT);
@@ -124,8 +128,8 @@ impl Steps {
         self.shared.begun.get()
     }
 
-    // Notes a step of an attempt that has room for it.
-    pub(crate) fn note(&self, step: Step) {
+    /// Notes a step of an attempt that has room for it ([`for_attempt`](Steps::for_attempt)).
+    pub fn note(&self, step: Step) {
         if step.what == StepKind::Began {
             self.shared.begun.set(Some(step.tick));
         }
