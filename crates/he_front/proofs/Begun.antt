@@ -1,8 +1,9 @@
 -- What octets begin, and what may follow them.
-use Rattle.std.proofs.Common.{◌≡◌, ◌⊎◌, ℕ, zero, suc, ◌+◌, ◌<◌, ◌≤◌, Bool, true, false, eqb, not, List, [], ◌∷◌, ◌++◌, length, replicate, Some, None, refl, sym, ◌∙◌, ap, subst, arith, inl, inr, slice_get, slice_index_or, slice_range, length-append}
+use Rattle.std.proofs.Common.{◌≡◌, ◌⊎◌, ℕ, zero, suc, ◌+◌, ◌-◌, ◌<◌, ◌≤◌, drop, Bool, true, false, eqb, not, List, [], ◌∷◌, ◌++◌, length, replicate, Some, None, refl, sym, ◌∙◌, ap, subst, arith, inl, inr, slice_get, slice_index_or, slice_range, length-append}
 use Rattle.std.proofs.lemmas.Bool.{cases_Bool, eq-eqb, eqb-true, false≢true, not_from_false, not-false}
-use Rattle.std.proofs.lemmas.List.{length-replicate}
+use Rattle.std.proofs.lemmas.List.{length-drop, length-replicate, length-take}
 use Rattle.std.proofs.lemmas.Option.{get_or_from_slice_get, none-some, same_Some, slice_get_within}
+use Rattle.std.specs.Borrow.{Bor}
 use Rattle.std.specs.Int.{w16, w32, w128, from_be_bytes}
 use Rattle.he_addr.specs.declared.ip.Ip.TheVariants.{V4, V6}
 use Rattle.he_front.specs.declared.socks.Refusal.{Refusal}
@@ -34,7 +35,7 @@ refused-more octets more refusals.Kind is = (other-more octets more 3 1 is.0, ot
 no-kind : (octets : List ℕ) (target : Target) (end : ℕ) → HasOtherKind octets → IsTarget octets target end → ⊥
 no-kind octets (targets.Address (V4 n)) end other is = not-other octets 3 1 refl is.0 other.0
 no-kind octets (targets.Address (V6 n)) end other is = not-other octets 3 4 refl is.0 other.1
-no-kind octets (targets.Name len) end other is = not-other octets 3 3 refl is.0 other.2
+no-kind octets (targets.Name name) end other is = not-other octets 3 3 refl is.0 other.2
 
 pub refused : (octets : List ℕ) (refusal : Refusal) → IsRefused octets refusal → HasNone IsRequest octets
 refused octets refusals.Message (inl other) request len is = not-other octets 0 5 refl is.version other
@@ -68,6 +69,13 @@ kind-of k known = elim (cases_Bool (eqb k 1)) [
 -- enough octets follow
 enough : (octets : List ℕ) (n : ℕ) → n ≤ length (octets ++ zeros n)
 enough octets n = omega (arith, length-append octets (zeros n), length-replicate {A = ℕ} n 0)
+
+-- octets as a reference shows them
+abbrev shown : List ℕ → Bor (List ℕ)
+shown octets = record { ref_ptr = (0, 0); now = octets }
+
+name-len : (octets : List ℕ) (l : ℕ) → 5 + l + 2 ≤ length octets → length (slice_range octets 5 (5 + l)) ≡ l
+name-len octets l room = omega (arith, length-take (5 + l - 5) (drop 5 octets), length-drop 5 octets, room)
 
 -- more octets make a request of what has the place of a name's length
 request-of-five : (x y z k l : ℕ) (rest : List ℕ) → x ≡ 5 → y ≡ 1 → z ≡ 0 → IsKind k → MayBecome IsRequest (x ∷ y ∷ z ∷ k ∷ l ∷ rest)
@@ -106,14 +114,14 @@ request-of-five x y z k l rest version command reserved (inr (inl kind)) =
 request-of-five x y z k l rest version command reserved (inr (inr kind)) =
     let all = (x ∷ y ∷ z ∷ k ∷ l ∷ rest) ++ zeros (5 + l + 2) in (
       zeros (5 + l + 2),
-      record { target = targets.Name l; port = from_be_bytes w16 (slice_range all (5 + l) (5 + l + 2)) },
+      record { target = targets.Name (shown (slice_range all 5 (5 + l))); port = from_be_bytes w16 (slice_range all (5 + l) (5 + l + 2)) },
       5 + l + 2,
       record {
         version = ap Some version;
         command = ap Some command;
         reserved = ap Some reserved;
         end = 5 + l;
-        address = (ap Some kind, refl, refl);
+        address = (ap Some kind, ap Some (sym (name-len all l (enough (x ∷ y ∷ z ∷ k ∷ l ∷ rest) (5 + l + 2)))), ap (λ n. 5 + n) (sym (name-len all l (enough (x ∷ y ∷ z ∷ k ∷ l ∷ rest) (5 + l + 2)))), refl);
         ends = refl;
         whole = enough (x ∷ y ∷ z ∷ k ∷ l ∷ rest) (5 + l + 2);
         port = refl;
@@ -151,10 +159,10 @@ ends-there octets (targets.Address (V4 n)) end found is (inr (inr three)) = clas
 ends-there octets (targets.Address (V6 n)) end found is (inl one) = clash 4 1 refl (sym is.0 ∙ one.0)
 ends-there octets (targets.Address (V6 n)) end found is (inr (inl four)) = is.1 ∙ sym four.1
 ends-there octets (targets.Address (V6 n)) end found is (inr (inr three)) = clash 4 3 refl (sym is.0 ∙ three.0)
-ends-there octets (targets.Name len) end found is (inl one) = clash 3 1 refl (sym is.0 ∙ one.0)
-ends-there octets (targets.Name len) end found is (inr (inl four)) = clash 3 4 refl (sym is.0 ∙ four.0)
-ends-there octets (targets.Name len) end found is (inr (inr three)) =
-    let same : len ≡ three.1.0 = same_Some len three.1.0 (sym is.1 ∙ three.1.1) in
+ends-there octets (targets.Name name) end found is (inl one) = clash 3 1 refl (sym is.0 ∙ one.0)
+ends-there octets (targets.Name name) end found is (inr (inl four)) = clash 3 4 refl (sym is.0 ∙ four.0)
+ends-there octets (targets.Name name) end found is (inr (inr three)) =
+    let same : length name.now ≡ three.1.0 = same_Some (length name.now) three.1.0 (sym is.1 ∙ three.1.1) in
     is.2 ∙ ap (λ n. 5 + n) same ∙ sym three.1.2
 
 -- where that is not there yet, no request is
@@ -167,7 +175,7 @@ none-yet octets end ends short request len is =
 ends-late : (octets : List ℕ) (target : Target) (end : ℕ) → IsTarget octets target end → 5 ≤ end
 ends-late octets (targets.Address (V4 n)) end is = omega (arith, is.1)
 ends-late octets (targets.Address (V6 n)) end is = omega (arith, is.1)
-ends-late octets (targets.Name size) end is = omega (arith, is.2)
+ends-late octets (targets.Name name) end is = omega (arith, is.2)
 
 -- so where that place isn't there, no request is
 pub no-address : (octets : List ℕ) → length octets ≤ 4 → HasNone IsRequest octets

@@ -28,8 +28,9 @@ IsTarget octets (targets.Address (V4 n)) end =
     (slice_get octets 3 ≡ Some 1) × (end ≡ 8) × (n ≡ from_be_bytes w32 (slice_range octets 4 8))
 IsTarget octets (targets.Address (V6 n)) end =
     (slice_get octets 3 ≡ Some 4) × (end ≡ 20) × (n ≡ from_be_bytes w128 (slice_range octets 4 20))
-IsTarget octets (targets.Name len) end =
-    (slice_get octets 3 ≡ Some 3) × (slice_get octets 4 ≡ Some len) × (end ≡ 5 + len)
+IsTarget octets (targets.Name name) end =
+    (slice_get octets 3 ≡ Some 3) × (slice_get octets 4 ≡ Some (length name.now)) × (end ≡ 5 + length name.now)
+    × (name.now ≡ slice_range octets 5 end)
 
 -- where an address of its kind ends
 abbrev pub IsEnd : List ℕ → ℕ → Type 0

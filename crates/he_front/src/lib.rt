@@ -8,11 +8,13 @@
 //! - [`Ended::socks_reply`]: the octets of a reply, with the code of section 6 (`specs/Replies`).
 #![tactic(auto)]
 
+pub mod authority;
 pub mod http;
 pub mod opening;
 pub mod replies;
 pub mod socks;
 
+pub use authority::{MOST_HOST, read_authority};
 pub use http::{Head, MOST_FIELDS, ReadHead, read_head};
 pub use opening::{Opening, opening_of};
 pub use replies::Ended;

@@ -50,17 +50,17 @@ pub enum Refusal {
 
 /// What is to be connected to.
 #[derive(Clone, Copy, Debug, PartialEq, Eq)]
-pub enum Target {
+pub enum Target<'o> {
     /// An address.
     Address(Ip),
-    /// A name of so many octets, from place 5 on. It may be any octets, and none.
-    Name(usize),
+    /// A name: any octets, at most 255 of them, and it may be empty.
+    Name(&'o [u8]),
 }
 
 /// A request to connect.
 #[derive(Clone, Copy, Debug, PartialEq, Eq)]
-pub struct Request {
-    pub target: Target,
+pub struct Request<'o> {
+    pub target: Target<'o>,
     /// Any port, 0 with the others.
     pub port: u16,
 }
@@ -92,7 +92,7 @@ fn offers_none(methods: &[u8]) -> bool
 }
 
 /// The request that the octets begin with (section 4).
-pub fn read_request(octets: &[u8]) -> Read<Request>
+pub fn read_request(octets: &[u8]) -> Read<Request<'_>>
     ensures { Reads IsRequest octets.now result }
 {
     if let Some(refusal) = refusal_of(octets) {
@@ -126,7 +126,7 @@ fn end_of(octets: &[u8]) -> usize
 }
 
 // The address that ends here.
-fn target_of(octets: &[u8], end: usize) -> Target
+fn target_of(octets: &[u8], end: usize) -> Target<'_>
     requires room { 4 < length octets.now }
     requires whole { end ≤ length octets.now }
     requires ends { IsEnd octets.now end }
@@ -135,7 +135,7 @@ fn target_of(octets: &[u8], end: usize) -> Target
     match octets[3] {
         KIND_V4 => Target::Address(Ip::V4(v4_at(&octets[ADDRESS..end]))),
         KIND_V6 => Target::Address(Ip::V6(v6_at(&octets[ADDRESS..end]))),
-        _ => Target::Name(octets[4] as usize),
+        _ => Target::Name(&octets[NAME..end]),
     }
 }
 
