@@ -14,6 +14,7 @@ pub mod http;
 pub mod opening;
 pub mod pages;
 pub mod replies;
+pub mod responses;
 pub mod socks;
 
 pub use asked::Asked;
@@ -21,5 +22,6 @@ pub use authority::{MOST_HOST, read_authority};
 pub use http::{Head, MOST_FIELDS, ReadHead, read_head};
 pub use opening::{Opening, opening_of};
 pub use pages::{Page, page_asked};
-pub use replies::Ended;
+pub use replies::{Ended, method_reply, old_socks_reply};
+pub use responses::{write_advice, write_config, write_page};
 pub use socks::{Read, Refusal, Request, Target, read_greeting, read_request};
