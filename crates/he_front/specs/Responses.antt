@@ -22,18 +22,23 @@ phrase_of ended.Refused = codes "Bad Gateway"
 phrase_of ended.TimedOut = codes "Gateway Timeout"
 
 -- the status line
-abbrev pub status_text : ℕ → List ℕ → List ℕ
+unfoldable pub status_text : ℕ → List ℕ → List ℕ
 status_text status phrase = codes "HTTP/1.1 " ++ (decimal status ++ (codes " " ++ (phrase ++ codes "\r\n")))
 
--- the media type of the body and its length, and that the connection is closed after it
-abbrev pub fields_text : List ℕ → ℕ → List ℕ
-fields_text media len =
-    codes "Content-Type: " ++ (media
-    ++ (codes "\r\nContent-Length: " ++ (decimal len ++ codes "\r\nConnection: close\r\n\r\n")))
+-- the media type of the body
+unfoldable pub media_text : List ℕ → List ℕ
+media_text media = codes "Content-Type: " ++ (media ++ codes "\r\n")
 
--- a response with a body
+-- its length, and that the connection is closed after it
+unfoldable pub len_text : ℕ → List ℕ
+len_text len = codes "Content-Length: " ++ (decimal len ++ codes "\r\nConnection: close\r\n\r\n")
+
+-- what stands before a body of so many octets
+unfoldable pub head_text : ℕ → List ℕ → List ℕ → ℕ → List ℕ
+head_text status phrase media len = status_text status phrase ++ (media_text media ++ len_text len)
+
 abbrev pub message_text : ℕ → List ℕ → List ℕ → List ℕ → List ℕ
-message_text status phrase media body = status_text status phrase ++ (fields_text media (length body) ++ body)
+message_text status phrase media body = head_text status phrase media (length body) ++ body
 
 -- to a CONNECT that has its tunnel: a status line alone (RFC 9110 section 9.3.6)
 abbrev pub tunnel_text : List ℕ
@@ -42,8 +47,7 @@ tunnel_text = status_text 200 (phrase_of ended.Connected) ++ codes "\r\n"
 -- to any other request: the reason, as a line of text
 abbrev pub refusal_text : Ended → List ℕ → List ℕ
 refusal_text end reason =
-    status_text (status_of end) (phrase_of end)
-    ++ (fields_text (codes "text/plain") (length reason + 1) ++ (reason ++ codes "\n"))
+    head_text (status_of end) (phrase_of end) (codes "text/plain") (length reason + 1) ++ (reason ++ codes "\n")
 
 abbrev pub response_text : Ended → List ℕ → List ℕ
 response_text end reason = if status_of end == 200 then tunnel_text else refusal_text end reason

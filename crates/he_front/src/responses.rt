@@ -2,7 +2,7 @@
 
 ghost use Rattle.std.specs.Prelude.{◌≡◌, ◌++◌, length, OnOk};
 ghost use Rattle.he_addr.specs.Printing.{printed};
-ghost use Rattle.he_front.specs.Responses.{advice_text, config_text, fields_text, media_of, message_text, page_text, phrase_of, refusal_text, response_text, socket_text, status_text, tunnel_text, url_host};
+ghost use Rattle.he_front.specs.Responses.{advice_text, config_text, head_text, len_text, media_of, media_text, message_text, page_text, phrase_of, refusal_text, response_text, socket_text, status_text, tunnel_text, url_host};
 
 use crate::pages::Page;
 use crate::replies::Ended;
@@ -54,8 +54,8 @@ impl Ended {
     ) -> Result<(), Memory>
         ensures { OnOk result (out.new.items ≡ out.old.items ++ refusal_text self reason.now) }
     {
-        write_status(self.status(), self.phrase(), out)?;
-        write_fields(b"text/plain", reason.len() + 1, out)?;
+        let len = reason.len() + 1;
+        write_head(self.status(), self.phrase(), b"text/plain", len, out)?;
         write_octets(reason, out)?;
         write_octets(b"\n", out)
     }
@@ -102,11 +102,27 @@ fn write_message<A: Allocator + Copy>(
 ) -> Result<(), Memory>
     ensures { OnOk result (out.new.items ≡ out.old.items ++ message_text status phrase.now media.now body.now) }
 {
-    write_status(status, phrase, out)?;
-    write_fields(media, body.len(), out)?;
+    write_head(status, phrase, media, body.len(), out)?;
     write_octets(body, out)
 }
 
+// What stands before a body of so many octets.
+#[tactic(auto, unfolding(crate::specs::Responses::head_text))]
+fn write_head<A: Allocator + Copy>(
+    status: u16,
+    phrase: &[u8],
+    media: &[u8],
+    len: usize,
+    out: &mut Vec<u8, A>,
+) -> Result<(), Memory>
+    ensures { OnOk result (out.new.items ≡ out.old.items ++ head_text status phrase.now media.now len) }
+{
+    write_status(status, phrase, out)?;
+    write_media(media, out)?;
+    write_len(len, out)
+}
+
+#[tactic(auto, unfolding(crate::specs::Responses::status_text))]
 fn write_status<A: Allocator + Copy>(
     status: u16,
     phrase: &[u8],
@@ -121,16 +137,20 @@ fn write_status<A: Allocator + Copy>(
     write_octets(b"\r\n", out)
 }
 
-fn write_fields<A: Allocator + Copy>(
-    media: &[u8],
-    len: usize,
-    out: &mut Vec<u8, A>,
-) -> Result<(), Memory>
-    ensures { OnOk result (out.new.items ≡ out.old.items ++ fields_text media.now len) }
+#[tactic(auto, unfolding(crate::specs::Responses::media_text))]
+fn write_media<A: Allocator + Copy>(media: &[u8], out: &mut Vec<u8, A>) -> Result<(), Memory>
+    ensures { OnOk result (out.new.items ≡ out.old.items ++ media_text media.now) }
 {
     write_octets(b"Content-Type: ", out)?;
     write_octets(media, out)?;
-    write_octets(b"\r\nContent-Length: ", out)?;
+    write_octets(b"\r\n", out)
+}
+
+#[tactic(auto, unfolding(crate::specs::Responses::len_text))]
+fn write_len<A: Allocator + Copy>(len: usize, out: &mut Vec<u8, A>) -> Result<(), Memory>
+    ensures { OnOk result (out.new.items ≡ out.old.items ++ len_text len) }
+{
+    write_octets(b"Content-Length: ", out)?;
     write_number(len as u64, out)?;
     write_octets(b"\r\nConnection: close\r\n\r\n", out)
 }
