@@ -91,8 +91,11 @@ fn a_connect_names_its_target(rt: HostRuntime) -> Result<(), Fail> {
     let ReadHead::Whole(Head::Tunnel(target), len) = read_head(CONNECT) else {
         return Ok(assert!(rt; false));
     };
-    assert!(rt; len + 2 == CONNECT.len());
-    let asked = Asked::by_connect(rt.alloc(), target.of(CONNECT))?;
+    assert!(rt; CONNECT.get(len..) == Some(b"\x16\x03".as_slice()));
+    let Some(text) = CONNECT.get(target.start..target.end) else {
+        return Ok(assert!(rt; false));
+    };
+    let asked = Asked::by_connect(rt.alloc(), text)?;
     assert!(rt;
         asked.is_some_and(|asked| asked.host.as_str() == "example.org" && asked.port == 443)
     );
@@ -104,8 +107,8 @@ fn a_page_is_asked_for(rt: HostRuntime) {
     let ReadHead::Whole(Head::Get(target, Some(host)), _) = read_head(GET) else {
         return assert!(rt; false);
     };
-    assert!(rt; target.of(GET) == b"/proxy.pac".as_slice());
-    assert!(rt; host.of(GET) == b"127.0.0.1:1080".as_slice());
+    assert!(rt; GET.get(target.start..target.end) == Some(b"/proxy.pac".as_slice()));
+    assert!(rt; GET.get(host.start..host.end) == Some(b"127.0.0.1:1080".as_slice()));
     assert!(rt; read_head(&GET[..9]) == ReadHead::Partial);
     assert!(rt; page(b"/proxy.pac", b"LocalHost:1080") == Some(Page::Config));
     assert!(rt; page(b"/", b"[::1]:1080") == Some(Page::Races));
