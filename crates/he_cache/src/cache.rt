@@ -76,9 +76,10 @@ impl<V: Drop> AnswerCache<V> {
         }
     }
 
-    /// Keeps what was told of this family of the host, from this second on, in place of what was kept of it before: for
-    /// as many seconds as its TTL says, at most [`MOST_SECONDS`]; where it has none, as why there are no addresses,
-    /// [`SECONDS_WITHOUT_TTL`]. Where as many hosts are kept as may be, the one that was kept longest ago is forgotten.
+    /// Keeps what was told of this family of the host, from this second on, in place of what was kept of it before:
+    /// for as many seconds as its TTL says, at most [`MOST_SECONDS`]; where it has none, as why there are no
+    /// addresses, [`SECONDS_WITHOUT_TTL`]. Where as many hosts are kept as may be, the one that was kept longest ago
+    /// is forgotten.
     ///
     /// # Errors
     ///
@@ -94,7 +95,8 @@ impl<V: Drop> AnswerCache<V> {
         ensures kept { OnOk result (kept_of self.new host.now family
             ≡ Some (record { answer = answer; at = now; seconds = seconds_for ttl })) }
         ensures other_hosts { (other : _) → is_same host.now other ≡ false
-            → (kept_of self.new other family ≡ kept_of self.old other family) ⊎ (kept_of self.new other family ≡ None) }
+            → (kept_of self.new other family ≡ kept_of self.old other family)
+            ⊎ (kept_of self.new other family ≡ None) }
         ensures other_family { (other : _) → other ≢ family → (host : _) → kept_of self.new host other
             ≡ kept_of self.old host other }
         ensures same { OnErr result (self.new ≡ self.old) }
@@ -121,7 +123,8 @@ fn put<V: Drop>(
 ) -> Result<(), Memory>
     ensures kept { OnOk result (kept_in hosts.new.entries (string_bytes host) ≡ Some kept) }
     ensures others { (other : _) → bytes_eq (string_bytes host) other ≡ false
-        → (kept_in hosts.new.entries other ≡ kept_in hosts.old.entries other) ⊎ (kept_in hosts.new.entries other ≡ None) }
+        → (kept_in hosts.new.entries other ≡ kept_in hosts.old.entries other)
+        ⊎ (kept_in hosts.new.entries other ≡ None) }
     ensures same { OnErr result (hosts.new ≡ hosts.old) }
     ensures cap { hosts.new.cap ≡ hosts.old.cap }
 {

@@ -154,7 +154,7 @@ module _ {R : Type 0} where
   Tells (sources.Servers resolver) family told = TellsHeard (names_of resolver) family told
   Tells (sources.System query) family told = ⊥
 
-  -- where name servers were asked, the addresses are those of the answer that was heard, and the TTL is that of this one
+  -- where name servers were asked, the addresses are those of the answer that was heard, and the TTL is that of it
   abbrev pub AreOwnOf : Source R → Family → List Ip → Type 0
   AreOwnOf (sources.Servers resolver) family ips = AreOwn (heard_of resolver family) family ips
   AreOwnOf other family ips = ⊤

@@ -184,9 +184,9 @@ impl<'h, R: Net + RandomSource + Clock> Lookup<'h, R> {
         }
     }
 
-    /// The seconds for which the addresses of the family may be kept, once [`poll_answer`](Lookup::poll_answer) has told
-    /// them: the TTL of the name server's answer, at most 2^31 - 1. None where they are of no name server, or there are
-    /// none.
+    /// The seconds for which the addresses of the family may be kept, once [`poll_answer`](Lookup::poll_answer) has
+    /// told them: the TTL of the name server's answer, at most 2^31 - 1. None where they are of no name server, or
+    /// there are none.
     pub fn ttl(&self, family: Family) -> Option<u32>
         ensures { result ≡ ttl_in self.now.source family }
     {
