@@ -44,7 +44,7 @@ part_settled names family old new settled same part = (
 -- the addresses of an answer that was heard
 heard_addresses : (names : List HostName) (family : Family) (answer : Answer Global) → IsHeardOfOne names family (Some (Ok answer))
     → AreHeard names family answer.addresses.items
-heard_addresses names family answer (place, name, is, id, message, answers, keep) = (place, name, is, id, message, answers)
+heard_addresses names family answer (place, name, is, (id, (message, answers, keep))) = (place, name, is, id, message, answers)
 
 -- the addresses that a family was told
 pub told_heard : {R : Type 0} (resolver : Resolver R) (family : Family) (answer : Answer Global) → IsFaithful resolver
