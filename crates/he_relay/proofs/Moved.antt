@@ -1,5 +1,5 @@
 -- Steps of one way add up.
-use Rattle.std.proofs.Common.{◌≡◌, ◌⊎◌, ℕ, ◌+◌, ◌-◌, ◌^◌, ◌<◌, ◌≤◌, min, true, false, List, [], ◌++◌, length, take, drop, refl, sym, ap, ◌∙◌, subst, inl, inr, arith, append_assoc, append-nil, length-take}
+use Rattle.std.proofs.Common.{◌≡◌, ℕ, ◌+◌, ◌-◌, ◌^◌, ◌≤◌, min, true, false, List, [], ◌++◌, length, take, drop, refl, sym, ap, ◌∙◌, subst, inl, inr, arith, append_assoc, append-nil, length-take}
 use Rattle.tokio.specs.Io.Copying.{count_after}
 use Rattle.tokio.specs.Io.Moved.{Passes, PassesNothing, PassesInOrder}
 use Rattle.tokio.proofs.IoLemmas.{count_after-append, slice_range_split}
