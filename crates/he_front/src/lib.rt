@@ -8,14 +8,18 @@
 //! - [`Ended::socks_reply`]: the octets of a reply, with the code of section 6 (`specs/Replies`).
 #![tactic(auto)]
 
+pub mod asked;
 pub mod authority;
 pub mod http;
 pub mod opening;
+pub mod pages;
 pub mod replies;
 pub mod socks;
 
+pub use asked::Asked;
 pub use authority::{MOST_HOST, read_authority};
 pub use http::{Head, MOST_FIELDS, ReadHead, read_head};
 pub use opening::{Opening, opening_of};
+pub use pages::{Page, page_asked};
 pub use replies::Ended;
 pub use socks::{Read, Refusal, Request, Target, read_greeting, read_request};
