@@ -471,8 +471,8 @@ impl<'q, K: Clock, Q: Racer> Session<'q, K, Q> {
         }
     }
 
-    // Reads on until the client closes, since a connection that is closed with octets unread is reset, and a reply that
-    // has not arrived by then is lost (RFC 9112 section 9.6).
+    // Reads on until the client closes, since a connection that is closed with octets unread is reset, and a reply
+    // that has not arrived by then is lost (RFC 9112 section 9.6).
     fn linger(&mut self, mut closing: Closing, cx: &mut Context<'_>) -> Next
         requires { MayPoll Q.Race.can_poll Q.Race.gives Q.answers self.old.asked self.old.state }
         ensures may { MayPoll Q.Race.can_poll Q.Race.gives Q.answers self.new.asked self.new.state }
