@@ -6,7 +6,8 @@
 //! client's protocol, and relays both ways until both have ended. A client that is refused is told why before the
 //! connection is closed. SOCKS 4 and other methods of HTTP are refused; a client whose first octet begins neither
 //! protocol is closed. What asks has at most 8 KiB. Each session has one timer: a request that is not whole within
-//! [`Limits::request`] is closed, and so is a tunnel in which no byte moves for [`Limits::idle`].
+//! [`Limits::request`] is closed, and so is a tunnel in which no byte moves for [`Limits::idle`]. A race has the
+//! racer's own limit.
 //!
 //! # What is proved
 //!

@@ -248,6 +248,7 @@ impl<'q, K: Clock, Q: Racer> Session<'q, K, Q> {
             reply: _,
         } = asking;
         self.asked = asked;
+        // No race but one for this counts from here on.
         self.state = State::Over;
         match self.race_for(&come, len) {
             Ok((race, early)) => {
