@@ -91,7 +91,7 @@ fn a_connect_names_its_target(rt: HostRuntime) -> Result<(), Fail> {
     let ReadHead::Whole(Head::Tunnel(target), len) = read_head(CONNECT) else {
         return Ok(assert!(rt; false));
     };
-    assert!(rt; len + 2 == CONNECT.len());
+    assert!(rt; &CONNECT[len..] == b"\x16\x03".as_slice());
     let asked = Asked::by_connect(rt.alloc(), target.of(CONNECT))?;
     assert!(rt;
         asked.is_some_and(|asked| asked.host.as_str() == "example.org" && asked.port == 443)
