@@ -42,6 +42,8 @@ RunsLine input file page output (Ok (requests.Live options)) first last before a
     RunsLive input file output options first last before after status
 RunsLine input file page output (Ok (requests.Host options)) first last before after status =
     (last ≡ first) × Shows output before after status
+RunsLine input file page output (Ok (requests.Proxy proxy)) first last before after status =
+    (last ≡ first) × (after ≡ before) × (status ≡ FAULT)
 RunsLine input file page output (Ok (requests.Names options)) first last before after status =
     (last ≡ first) × RunsNames output options.is_json before after status
 RunsLine input file page output (Ok (requests.Connect connection)) first last before after status =
