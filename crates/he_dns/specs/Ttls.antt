@@ -1,5 +1,5 @@
--- For how long an answer may be kept, in seconds: for the least of the TTLs of the records that it stands on, which are
--- the aliases that are followed and the addresses (RFC 1035 section 3.2.1).
+-- For how long an answer may be kept, in seconds: for the least of the TTLs of the records that it stands on, which
+-- are the aliases that are followed and the addresses (RFC 1035 section 3.2.1).
 use Rattle.std.specs.Prelude.{◌≡◌, ◌⊎◌, ◌≤◌, ℕ, true, List, [], ◌∷◌, Option, Some, None, is_some, if◌then◌else◌}
 use Rattle.he_addr.specs.declared.ip.Family.{Family}
 use Rattle.he_dns.specs.declared.entries.Entry.{Entry}

@@ -71,8 +71,9 @@ fn find_answer<A: Allocator + Copy>(
     name: &[u8],
     family: Family,
 ) -> Result<Answer<A>, AnswerFault>
-    ensures addresses { MatchResult result (λ found. answer_of message.now id name.now family ≡ Ok found.addresses.items)
-        (λ fault. (fault ≡ faults.Memory) ⊎ (answer_of message.now id name.now family ≡ Err fault)) }
+    ensures addresses { MatchResult result (λ found. answer_of message.now id name.now family
+        ≡ Ok found.addresses.items) (λ fault. (fault ≡ faults.Memory)
+        ⊎ (answer_of message.now id name.now family ≡ Err fault)) }
     ensures ttl { IfOk result (λ found. found.ttl ≡ ttl_of message.now id name.now family) }
 {
     let Some((header, at)) = read_response(message, id, name, family) else {

@@ -13,18 +13,18 @@ const ALL_HELP: &str = "Go on after a faulty race and after a faulty file,\n\
 and explain the first fault of each race";
 
 const EXAMPLE: &str = "\
-Reads timelines, as `he replay` does. Where nothing is wrong, standard output
-has one line, as
+Reads timelines, as `he replay` does. If nothing is wrong, standard output has
+one line, as
 
   3 races, 27 lines
 
-and standard error a warning of each thing that is allowed and surely not meant,
-as a race without an `aaaa` line, which can't be exhausted. Else standard output
-has nothing, and standard error the first fault: its line by number and by its
-text, a mark below what is wrong there, and what was expected. It reads no
-further than that. With --all it goes on at the next line `race 1` or `race 2`,
-explains the first 1000 faults of a file and counts the others, and goes on at
-the next file.
+and standard error has a warning for each thing that is allowed but surely not
+meant, such as a race without an `aaaa` line, which cannot be exhausted.
+Otherwise standard output has nothing, and standard error has the first fault:
+its line number and text, a mark below what is wrong, and what was expected.
+Nothing after it is read. With --all it goes on at the next line `race 1` or
+`race 2`, explains the first 1000 faults of a file, counts the others, and goes
+on with the next file.
 
 Example input:
 

@@ -26,12 +26,11 @@ const KEEP_GOING_HELP: &str = "Go on to the next file after a faulty one";
 const EXAMPLE: &str = "\
 Reads timelines, as `he replay` does. Standard output has one table of the races
 of all files: a row for them as they stand, and one for each setting that is
-given. It has the times to connect within which half, 90 and 99 of 100 races
-that were won were won; the attempts of a race, in the mean; which share of the
-races that were won was won by IPv6; and how many races were won sooner, later,
-at the same time, with these settings alone and without them alone. Nothing is
-written before the end of the last file. Of a file with a fault the races before
-it are compared.
+given. It has the times to connect (the median, and the 90th and the 99th
+percentile); the mean number of attempts; the share of won races that IPv6 won;
+and how many races were won sooner, later, at the same time, only with these
+settings, and only without them. Nothing is written before the end of the last
+file. In a file with a fault the races before it are compared.
 
 For the example of `he draw --help`, --set floor=10,200 gives:
 
@@ -40,8 +39,8 @@ For the example of `he draw --help`, --set floor=10,200 gives:
      60     60     60      2.00    0.0 %       1       0       0          0  ..
     250    250    250      2.00    0.0 %       1       0       0          0  ..
 
-A floor above the attempt delay of a race changes nothing: the delay is over
-before. An address without a connect line is silent with the settings too.";
+A floor above the attempt delay of a race changes nothing: the delay ends first.
+An address without a connect line is silent with other settings too.";
 
 pub(crate) fn command<'a>(alloc: Global) -> Result<Command<'a>, AllocError> {
     let set = value(alloc, "set", "NAME=N,..", SET_HELP)

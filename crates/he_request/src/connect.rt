@@ -39,34 +39,33 @@ const EXPLAIN_HELP: &str = "Explain the race on standard error, as `he explain`"
 
 const EXAMPLE: &str = "\
 Looks HOST up, both families at once, and tries its addresses as RFC 8305 says,
-each a little after the one before; the first connection is kept, and the others
-are closed. What standard input has goes into the connection, and what comes
-from it to standard output. The end of standard input ends the sending alone. It
-ends once the remote has closed its side, and standard input gave nothing for
-half a second (--wait); or once standard output takes no more.
+each a little after the one before. The first connection is kept, the others are
+closed. Standard input is sent over it, and what the remote sends is written to
+standard output. The end of standard input ends sending only. `he connect` ends
+once the remote has closed its side and standard input gave nothing for half a
+second (--wait), or once standard output takes no more.
 
-Without --set these settings hold: attempt=250, resolution=50, count=1,
-limit=30000, floor=10.
+The defaults are attempt=250, resolution=50, count=1, limit=30000, floor=10.
 
 Examples:
 
-  he connect example.org http < request
+  printf 'GET / HTTP/1.0\\r\\n\\r\\n' | he connect example.org http
   ssh -o ProxyCommand='he connect %h %p' example.org
   he connect -z --timeout 2000 example.org 22 && echo it is there
-  he connect --record day.timeline --explain example.org 443 < request
+  he connect -z --record day.timeline --explain example.org 443
 
 With -z and --json standard output has the race, won or not, as one object:
 
   {\"file\":null,\"race\":1,\"line\":1,\"order\":[..],\"events\":[..]}
 
-Where nothing connects, standard error says what was tried:
+If nothing connects, standard error says what was tried:
 
   he: no connection to example.org port 443: 2 addresses tried: 2001:db8::1
     refused after 12 ms, 198.51.100.1 no answer in 30000 ms
 
-Exit status: 0 if the connection was made and relayed to its end; 3 if no
-connection was made; 1 after another fault; 2 for a line that is refused, or a
-PORT that is no service.";
+Exit status: 0 if a connection was made and relayed to its end; 3 if none was
+made; 1 after another fault; 2 for a command line that is refused, or a PORT
+that is not a service.";
 
 // Its arguments, in the order in which help has them. They are made in one list: a chain of `arg`, each of which may
 // be refused memory, takes minutes to prove.
@@ -87,7 +86,12 @@ pub(crate) fn command<'a>(alloc: Global) -> Result<Command<'a>, AllocError> {
         value(alloc, "record", "FILE", RECORD_HELP),
         flag(alloc, "json", JSON_HELP),
         flag(alloc, "explain", EXPLAIN_HELP),
-        flag(alloc, "verbose", "Tell each step of the race as it happens").short('v'),
+        flag(
+            alloc,
+            "verbose",
+            "Report each step of the race as it happens"
+        )
+        .short('v'),
     ]?;
     plain(alloc, "connect", ABOUT, EXAMPLE, args)
 }

@@ -12,13 +12,12 @@ const ABOUT: &str = "Explain why races went as they did";
 
 const EXAMPLE: &str = "\
 Reads timelines, as `he replay` does. Standard output has for each race how it
-ended, and what it lost; its usable addresses in the order of preference, each
-with the source that the host uses for it, and from the second on what puts it
-after the one before (RFC 6724 section 6, RFC 8305 section 4); what happened at
-which millisecond, each attempt with what started it (RFC 8305 sections 3 to 5);
-and last what had to wait, and whether a floor (`set floor 10`) would have
-helped.
-Attempts and addresses are counted from 1.
+ended and what it lost; its usable addresses in order of preference, each with
+the source that the host uses for it, and what puts it after the one before (RFC
+6724 section 6, RFC 8305 section 4); what happened, by the millisecond, each
+attempt with its cause (RFC 8305 sections 3 to 5); and finally what had to wait,
+and whether a floor (`set floor 10`) would have helped. Attempts and addresses
+are counted from 1.
 
 For the example of `he replay --help` it writes:
 

@@ -15,21 +15,20 @@ const JSON_HELP: &str = "Write one JSON object in place of the lines";
 
 const EXAMPLE: &str = "\
 Reads no input. Standard output has the `source` and `route` lines of this
-machine, as a race has them, from what Linux says in /proc/net and
-/sys/class/net. Standard error has a line for each address and each route that a
-race has no place for: addresses that are not in use yet, routes that lead
-nowhere, interfaces that are down, and what is more than the 64 sources and 64
-routes of a race.
+machine, as a race has them, from /proc/net and /sys/class/net. Standard error
+has a line for each address and each route that cannot be part of a race:
+addresses that are not in use yet, routes that lead nowhere, interfaces that are
+down, and whatever exceeds the 64 sources and 64 routes of a race.
 
-Of two routes to one prefix the one with the lower metric is taken. Where no
-file tells the interface of an IPv4 address, the kernel is asked from where it
-reaches which addresses, which sends nothing. Standard error says what is a
-guess, which tables of routes are not seen, and which routes the kernel takes
-from another source, by rules of policy routing or a source of the route's own.
+Of two routes to one prefix the one with the lower metric is taken. If no file
+has the interface of an IPv4 address, the kernel is asked for the source that it
+uses, which sends nothing. Standard error says what is a guess, which routing
+tables are not seen, and for which routes the kernel uses another source, by
+policy routing or a source of the route's own.
 
-With --for there are lines for these destinations alone, by which each is
-reached from the source that the kernel takes; standard error names those of
-which no lines can say it. A destination that is not reached has no route.
+With --for there are lines for these destinations alone, so that each is reached
+from the source that the kernel uses; standard error names those for which no
+lines can do that. A destination that cannot be reached has no route.
 
 Output, on a machine with one network:
 

@@ -24,20 +24,19 @@ const RECORD_HELP: &str = "Write the record to FILE too, for `he replay`";
 
 const MUST_CONNECT_HELP: &str = "Exit with status 3 if no connection was made";
 
-const VERBOSE_HELP: &str = "Say of each attempt that failed why, after the race";
+const VERBOSE_HELP: &str = "Say why each attempt failed, after the race";
 
 const EXAMPLE: &str = "\
-Runs the one race of a timeline: FILE has the host's addresses and routes, and
+Runs the one race of a timeline. FILE has the host's addresses and routes, and
 the addresses of a name, each known from the tick (millisecond) of its answer
-on; 0 is at once. Its outcomes and pauses are ignored. Each address is connected
-to by TCP when it is its turn, until one connection is made; that one and all
-others are then closed. A setting that is given (--set, --timeout) overrides the
-timeline's own.
+on; 0 means at once. Its outcomes and pauses are ignored. Each address is tried
+by TCP in its turn until one connection is made; all are then closed. A setting
+that is given (--set, --timeout) overrides the timeline's own.
 
-Standard output has the transcript, and then the record: the same race, with how
+Standard output has the transcript, then the record: the same race, with how
 each attempt ended and when this program itself was late. The record is a
 timeline, and replays to the same transcript anywhere. --record writes it to a
-file too, also where nothing connected.
+file too, even if nothing connected.
 
 Example input, with a server that listens at port 8080 of 127.0.0.1:
 
@@ -57,13 +56,13 @@ Output of `he live --port 8080 FILE` begins so (ticks differ from run to run):
 
 With -v standard error has a line for each attempt that failed:
 
-  he: attempt 0 at 127.0.0.1 failed: refused
+  he: attempt 1 at 127.0.0.1 failed: refused
 
-An attempt that this machine itself could not begin is told without -v too:
+An attempt that this machine could not begin is reported without -v too:
 
-  he: attempt 0 at 127.0.0.1 could not begin: too many open files
+  he: attempt 1 at 127.0.0.1 could not begin: too many open files
 
-Exit status: 0 whether a connection was made or not, but 3 with --must-connect
+Exit status: 0 whether or not a connection was made, but 3 with --must-connect
 if none was; 1 after a fault; 2 for a line that is refused.";
 
 pub(crate) fn command<'a>(alloc: Global) -> Result<Command<'a>, AllocError> {

@@ -11,8 +11,8 @@ const ABOUT: &str = "Find the addresses of a host, as the answers of a race";
 const HOST_HELP: &str = "A host name, as www.example.com, or an address";
 
 const EXAMPLE: &str = "\
-Standard output has the two answers that a timeline wants, each with the tick
-(millisecond since the start) at which it came; `none` where a family has no
+Standard output has the two answers of a timeline, each with the tick
+(milliseconds since the start) at which it came, and `none` if a family has no
 address.
 
 Example: `he names www.example.com` may write
@@ -25,23 +25,23 @@ and with --json, in one line
   {\"host\":\"www.example.com\",\"aaaa\":{\"tick\":31,\"addresses\":[\"2001:db8:1::1\",
   \"2001:db8:1::2\"]},\"a\":{\"tick\":12,\"addresses\":[\"198.51.100.1\"]}}
 
-An address is its own answer, and a name of /etc/hosts has the addresses there.
-Any other is asked of the name servers of /etc/resolv.conf, both families at
-once, over UDP, and over TCP where an answer is cut off; `search` and the
-options ndots, timeout and attempts count as resolv.conf(5) has them. With
-`--resolver system` all of it is left to the system (getaddrinfo), which gives
-both families at once.
+An address is its own answer, and a name in /etc/hosts has the addresses there.
+For any other the name servers of /etc/resolv.conf are asked, both families at
+once, over UDP, and over TCP if an answer is truncated; `search` and the options
+ndots, timeout and attempts hold as resolv.conf(5) says. With `--resolver
+system` all of this is left to the system (getaddrinfo), which gives both
+families at once.
 
-Where the look-up of a family failed, standard error says why; what the other
-gave is written. With -v standard error has what happened, by its millisecond:
-which server answered, failed, or did not answer in time.
+If the look-up of a family failed, standard error says why, and the addresses of
+the other are written. With -v standard error has each event with its
+millisecond: which server answered, failed, or did not answer in time.
 
 Exit status: 0 if an address was found and no look-up failed; 1 after a fault,
-as where there is no such name; 2 for a line that is refused.";
+such as a name that does not exist; 2 for a command line that is refused.";
 
 pub(crate) fn command<'a>(alloc: Global) -> Result<Command<'a>, AllocError> {
     let host = word(alloc, "host", "HOST", HOST_HELP).required(true);
-    let verbose = flag(alloc, "verbose", "Tell what happened in the look-up").short('v');
+    let verbose = flag(alloc, "verbose", "Report what happens in the look-up").short('v');
     let json = flag(
         alloc,
         "json",

@@ -11,8 +11,8 @@ const ABOUT: &str = "Write the addresses of each race in their order of preferen
 
 const EXAMPLE: &str = "\
 Reads timelines, as `he replay` does. Standard output has for each race its
-usable addresses in the order of preference (RFC 6724), each with the source
-address that the host uses for it, or none where it has no route or no source.
+usable addresses in order of preference (RFC 6724), each with the source address
+that the host uses for it, or none if it has no route or no source.
 
 Example input:
 

@@ -44,8 +44,7 @@ names, so that they are looked up here) and HTTP CONNECT are served on the same
 port. Each connection is looked up and raced as RFC 8305 says, and its tunnel
 lasts until both sides have closed theirs.
 
-Without --set these settings hold: attempt=250, resolution=50, count=1,
-limit=30000, floor=10.
+The defaults are attempt=250, resolution=50, count=1, limit=30000, floor=10.
 
 Examples:
 

@@ -21,14 +21,14 @@ const KEEP_GOING_HELP: &str = "Go on to the next file after a faulty one";
 
 const EXAMPLE: &str = "\
 Reads timelines, as `he replay` does. Standard output has one summary of the
-races of all files: how many were won, by which family; the times to connect,
-within which half, 90 and 99 of 100 races that were won were won; in how many of
-them an address that was tried before the winner's failed or was silent, and the
-time from the winner's answer to its attempt there; the attempts; in how many
-races the Resolution Delay was waited out (RFC 8305 section 3); and the ten
-addresses to which most attempts failed or were silent. Nothing is written
-before the end of the last file. Of a file with a fault the races before it are
-summed up; standard error says how many files were not read to their end.
+races of all files: how many were won, and by which family; the times to
+connect, with their percentiles; how many races lost time to addresses that
+failed or were silent, and how much, from the winner's answer to its attempt;
+the attempts; in how many races the Resolution Delay was waited out (RFC 8305
+section 3); and the ten addresses to which most attempts failed or were silent.
+Nothing is written before the end of the last file. In a file with a fault the
+races before it count; standard error says how many files were not read to their
+end.
 
 For the example of `he draw --help` it writes (lines are broken here):
 
