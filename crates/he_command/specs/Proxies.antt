@@ -1,8 +1,8 @@
 -- What a line asks for of a proxy, as he_proxy has it.
 use Rattle.std.specs.Prelude.{◌≡◌}
 use Rattle.std.specs.Option.{unwrap_or}
-use Rattle.he_proxy.specs.declared.log.LogForm.{LogForm}
-use Rattle.he_proxy.specs.declared.log.LogForm.TheVariants as forms
+use Rattle.he_proxy.specs.declared.request.LogForm.{LogForm}
+use Rattle.he_proxy.specs.declared.request.LogForm.TheVariants as forms
 use Rattle.he_proxy.specs.declared.request.ProxyRequest.{ProxyRequest}
 use Rattle.he_proxy.specs.declared.request.TheConstants.{DEFAULT_RECORDS, DEFAULT_SESSIONS}
 use Rattle.he_request.specs.declared.proxy.Proxy.{Proxy}
@@ -15,20 +15,17 @@ log_of logs.Nothing = forms.Silent
 log_of logs.Line = forms.Text
 log_of logs.Json = forms.Json
 
--- what the line gives; where it doesn't say how many, the number that he_proxy has
-abbrev pub request_of : Proxy → ProxyRequest
-request_of proxy =
-    record {
-      listen = record { now = proxy.listen.items };
-      allow = record { now = proxy.allow.items };
-      allows_private = proxy.allows_private;
-      families = families_of proxy.only;
-      settings = proxy.settings;
-      lines = lines_of proxy.lines;
-      resolver = choice_of proxy.resolver;
-      record_in = proxy.record;
-      record_most = unwrap_or proxy.record_most DEFAULT_RECORDS;
-      log = log_of proxy.log;
-      most = unwrap_or proxy.most DEFAULT_SESSIONS;
-      idle = proxy.idle;
-    }
+-- what is served is what the line gives; where it doesn't say how many, the number that he_proxy has
+pub record IsServed (proxy : Proxy) (request : ProxyRequest) : Type 0 where
+  pub listen : request.listen.now ≡ proxy.listen.items
+  pub allow : request.allow.now ≡ proxy.allow.items
+  pub allows_private : request.allows_private ≡ proxy.allows_private
+  pub families : request.families ≡ families_of proxy.only
+  pub settings : request.settings ≡ proxy.settings
+  pub lines : request.lines ≡ lines_of proxy.lines
+  pub resolver : request.resolver ≡ choice_of proxy.resolver
+  pub records : request.record ≡ proxy.record
+  pub record_most : request.record_most ≡ unwrap_or proxy.record_most DEFAULT_RECORDS
+  pub log : request.log ≡ log_of proxy.log
+  pub most : request.most ≡ unwrap_or proxy.most DEFAULT_SESSIONS
+  pub idle : request.idle ≡ proxy.idle

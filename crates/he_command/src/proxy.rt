@@ -1,14 +1,14 @@
 //! `he proxy`.
 ghost use Rattle.std.specs.Prelude.{◌≡◌};
-ghost use Rattle.he_command.specs.Proxies.{log_of, request_of};
+ghost use Rattle.he_command.specs.Proxies.{IsServed, log_of};
 ghost use Rattle.he_tasks.specs.declared.reports.TheConstants.{FAULT};
 
 use crate::race_request::{choice_of, families_of, lines_of};
 use crate::system::System;
-use he_proxy::{DEFAULT_RECORDS, DEFAULT_SESSIONS, LogForm, ProxyRequest, serve};
+use he_proxy::{DEFAULT_RECORDS, DEFAULT_SESSIONS, LogForm, ProxyFault, ProxyRequest, serve};
 use he_request::{Proxy, SessionLog};
 use he_stream::OutputStream;
-use he_tasks::reports::report;
+use he_tasks::reports::{report, report_path};
 use he_tasks::{FAULT, Session};
 use std::io::Write;
 
@@ -23,13 +23,19 @@ pub(crate) fn run_proxy<R: System, O: OutputStream, F: Write>(
     let request = request_of(proxy);
     match serve(session.system, session.alloc, &request, &mut session.faults) {
         Ok(()) => FAULT,
+        Err(ProxyFault::Record(error)) => report_path(
+            session.alloc,
+            proxy.record.unwrap_or(""),
+            error,
+            &mut session.faults,
+        ),
         Err(fault) => report(fault, &mut session.faults),
     }
 }
 
 // What is served.
 fn request_of<'a>(proxy: &'a Proxy<'_>) -> ProxyRequest<'a>
-    ensures { result ≡ request_of proxy.now }
+    ensures { IsServed proxy.now result }
 {
     ProxyRequest {
         listen: proxy.listen.as_slice(),
