@@ -1,11 +1,11 @@
 -- What a client of HTTP asks for: the head of a request (RFC 9112 section 3).
-use Rattle.std.specs.Prelude.{◌≡◌, ◌≢◌, ℕ, Bool, List, Option, codes, drop, find, map}
+use Rattle.std.specs.Prelude.{◌≡◌, ◌≢◌, ◌≤◌, IfSome, ℕ, Bool, List, Option, codes, drop, find, map}
 use Rattle.std.specs.Char.{to_ascii_lowercase}
 use Rattle.std.specs.Option.{option_map}
 use Rattle.std.specs.Str.{bytes_eq}
 use Rattle.httparse.specs.Grammar.{HasNoRequest, MayBecomeRequest, ReadsRequest, RequestHead}
 use Rattle.httparse.specs.declared.spans.HeaderSpan.{HeaderSpan}
-use Rattle.httparse.specs.Spans.{RequestOverflows, name_and_value, span_bytes}
+use Rattle.httparse.specs.Spans.{IsWithin, RequestOverflows, name_and_value, span_bytes}
 use Rattle.he_front.specs.declared.http.Head.{Head}
 use Rattle.he_front.specs.declared.http.Head.TheVariants as heads
 use Rattle.he_front.specs.declared.http.Method.{Method}
@@ -45,6 +45,17 @@ AsksFor octets request heads.Other = IsMethod request.method methods.Other
 abbrev pub HasHead : List ℕ → Head → ℕ → Type 0
 HasHead octets head len =
     (request : RequestHead) × ReadsRequest octets request (drop len octets) × AsksFor octets request head
+
+-- what is pointed to lies in the first n octets, and so does the head
+abbrev pub LiesWithin : ℕ → Head → Type 0
+LiesWithin n (heads.Tunnel target) = IsWithin n target
+LiesWithin n (heads.Get target host) = IsWithin n target × IfSome host (IsWithin n)
+LiesWithin n heads.Other = Unit {0}
+
+abbrev pub IsReadWithin : ℕ → ReadHead → Type 0
+IsReadWithin n (reads.Whole head len) = LiesWithin n head × (len ≤ n)
+IsReadWithin n reads.Partial = Unit {0}
+IsReadWithin n reads.Refused = Unit {0}
 
 -- The octets begin with this head, which has so many; with none yet, and more can make one; or with none that has so
 -- few fields, whatever follows.

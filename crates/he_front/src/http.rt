@@ -1,9 +1,9 @@
 // What a client of HTTP asks for (RFC 9112 section 3; a tunnel: RFC 9110 section 9.3.6).
 
-ghost use Rattle.std.specs.Prelude.{◌≡◌, All, length, map};
+ghost use Rattle.std.specs.Prelude.{◌≡◌, All, IfSome, length, map};
 ghost use Rattle.std.specs.Option.{option_map};
-ghost use Rattle.httparse.specs.Spans.{header_bytes, span_bytes, IsHeaderWithin, IsRequestOf, IsRequestWithin};
-ghost use Rattle.he_front.specs.Http.{HasHead, IsMethod, ReadsHead, field_named, is_named, value_of};
+ghost use Rattle.httparse.specs.Spans.{header_bytes, span_bytes, IsHeaderWithin, IsRequestOf, IsRequestWithin, IsWithin};
+ghost use Rattle.he_front.specs.Http.{HasHead, IsMethod, IsReadWithin, LiesWithin, ReadsHead, field_named, is_named, value_of};
 
 use httparse::Status;
 use httparse::spans::{EMPTY_HEADER_SPAN, HeaderSpan, RequestSpans, Span, parse_request};
@@ -54,7 +54,8 @@ fn method_of(method: &[u8]) -> Method
 
 /// The head that the octets begin with.
 pub fn read_head(octets: &[u8]) -> ReadHead
-    ensures { ReadsHead octets.now result }
+    ensures head { ReadsHead octets.now result }
+    ensures within { IsReadWithin (length octets.now) result }
 {
     let mut fields = [EMPTY_HEADER_SPAN; MOST_FIELDS];
     match parse_request(octets, &mut fields) {
@@ -70,7 +71,8 @@ pub fn read_head(octets: &[u8]) -> ReadHead
 fn head_of(octets: &[u8], fields: &[HeaderSpan], spans: &RequestSpans) -> Head
     requires within { IsRequestWithin octets.now fields.now spans.now }
     requires at { IsRequestOf octets.now fields.now spans.now }
-    ensures { HasHead octets.now result spans.now.len }
+    ensures head { HasHead octets.now result spans.now.len }
+    ensures within { LiesWithin (length octets.now) result }
 {
     match method_of(spans.method.of(octets)) {
         Method::Connect => Head::Tunnel(spans.path),
@@ -85,8 +87,9 @@ fn head_of(octets: &[u8], fields: &[HeaderSpan], spans: &RequestSpans) -> Head
 // Where the value of the first field of this name stands.
 fn value_named(octets: &[u8], fields: &[HeaderSpan], name: &[u8]) -> Option<Span>
     requires { All (IsHeaderWithin (length octets.now)) fields.now }
-    ensures { option_map (span_bytes octets.now) result
+    ensures value { option_map (span_bytes octets.now) result
         ≡ value_of name.now (map (header_bytes octets.now) fields.now) }
+    ensures within { IfSome result (IsWithin (length octets.now)) }
 {
     match field_named(octets, fields, name) {
         Some(field) => Some(field.value),
@@ -97,7 +100,8 @@ fn value_named(octets: &[u8], fields: &[HeaderSpan], name: &[u8]) -> Option<Span
 // The first field of this name.
 fn field_named(octets: &[u8], fields: &[HeaderSpan], name: &[u8]) -> Option<HeaderSpan>
     requires { All (IsHeaderWithin (length octets.now)) fields.now }
-    ensures { result ≡ field_named octets.now name.now fields.now }
+    ensures field { result ≡ field_named octets.now name.now fields.now }
+    ensures within { IfSome result (IsHeaderWithin (length octets.now)) }
 {
     for field in fields {
         if is_named(field.name.of(octets), name) {

@@ -1,16 +1,11 @@
 -- What was heard stays heard.
-use Rattle.std.proofs.Common.{◌≡◌, ◌⊎◌, Bool, List, Option, Some, None, Ok, Err, Vec, Global, ap, inl, inr, subst, sym, ◌∙◌}
+use Rattle.std.proofs.Common.{◌≡◌, ◌⊎◌, Bool, List, Option, Some, None, Err, ap, inl, inr, subst, sym, ◌∙◌}
 use Rattle.he_addr.specs.declared.ip.Family.{Family}
-use Rattle.he_addr.specs.declared.ip.Family.TheVariants as families
-use Rattle.he_addr.specs.declared.ip.Ip.{Ip}
 use Rattle.he_dns.specs.Texts.{HostName}
-use Rattle.he_dns.specs.declared.answer.Answer.{Answer}
 use Rattle.he_resolver.specs.Asking.{IsSame}
-use Rattle.he_resolver.specs.Heard.{AreHeard, Heard, IsFaithful, IsHeardOfOne, IsPart, heard_of, names_of}
-use Rattle.he_resolver.specs.Needs.{family_of}
+use Rattle.he_resolver.specs.Heard.{Heard, IsHeardOfOne, IsPart}
 use Rattle.he_resolver.specs.declared.family_lookup.FamilyLookup.{FamilyLookup}
 use Rattle.he_resolver.specs.declared.fault.NamesFault.TheVariants as faults
-use Rattle.he_resolver.specs.declared.resolver.Resolver.{Resolver}
 
 lacking : (names : List HostName) (family : Family) (old new : Option Heard)
     → ((new ≡ old) ⊎ (new ≡ Some (Err faults.NoSuchName))) → IsHeardOfOne names family old → IsHeardOfOne names family new
@@ -40,16 +35,3 @@ part_settled names family old new settled same part = (
   ap (λ (a : FamilyLookup). a.family) same ∙ part.0,
   subst (IsHeardOfOne names family) (sym (ap (λ (a : FamilyLookup). a.told) same)) part.1,
 )
-
--- the addresses of an answer that was heard
-heard_addresses : (names : List HostName) (family : Family) (answer : Answer Global) → IsHeardOfOne names family (Some (Ok answer))
-    → AreHeard names family answer.addresses.items
-heard_addresses names family answer (place, name, is, id, message, answers, keep) = (place, name, is, id, message, answers)
-
--- the addresses that a family was told
-pub told_heard : {R : Type 0} (resolver : Resolver R) (family : Family) (answer : Answer Global) → IsFaithful resolver
-    → (family_of resolver family).told ≡ Some (Ok answer) → AreHeard (names_of resolver) family answer.addresses.items
-told_heard resolver families.V6 answer faithful told =
-    heard_addresses (names_of resolver) families.V6 answer (subst (IsHeardOfOne (names_of resolver) families.V6) told faithful.0.1)
-told_heard resolver families.V4 answer faithful told =
-    heard_addresses (names_of resolver) families.V4 answer (subst (IsHeardOfOne (names_of resolver) families.V4) told faithful.1.1)

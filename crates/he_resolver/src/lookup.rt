@@ -78,6 +78,62 @@ impl<'h, R: Net + RandomSource + Clock> Lookup<'h, R> {
             lookup.source) }
         ensures sound { IfOk result (λ lookup. IsSound lookup.source) }
     {
+        match wanted.choice {
+            Choice::System => Lookup::by_system(rt, alloc, wanted),
+            _ => Lookup::by_servers(rt, alloc, reactor, timers, wanted),
+        }
+    }
+
+    /// The same by name servers alone, for a caller that may start no thread.
+    ///
+    /// # Errors
+    ///
+    /// As those of [`new`](Lookup::new), and `System` where the system's resolver is to be asked.
+    pub fn by_servers(
+        rt: &'h R,
+        alloc: Global,
+        reactor: &'h Handle,
+        timers: &'h tokio::time::Handle,
+        wanted: Wanted<'_>,
+    ) -> Result<Lookup<'h, R>, NamesFault>
+    where
+        R: Files + AllocGlobal,
+        ensures begins { IfOk result (λ lookup. BeginsFor wanted.entry.host.now wanted.entry.choice wanted.entry.only
+            lookup.source) }
+        ensures sound { IfOk result (λ lookup. IsSound lookup.source) }
+    {
+        let log = LookupLog::new(rt, alloc)?;
+        let target = read_host(alloc, wanted.host)?;
+        if let Some(known) = known_to(rt, alloc, &target, wanted.choice)? {
+            note_known(rt, &log, &known);
+            return Ok(Lookup::with(rt, alloc, Source::Known(Ok(known)), log));
+        }
+        match (target, wanted.choice) {
+            (_, Choice::System) => Err(NamesFault::System),
+            (Target::Name(name), choice) => {
+                let setup = Setup {
+                    rt,
+                    alloc,
+                    reactor,
+                    timers,
+                    plan: plan_for(rt, alloc, name.as_bytes(), choice)?,
+                    log: log.share()?,
+                };
+                let resolver = Resolver::new(setup, wanted.only);
+                Ok(Lookup::with(rt, alloc, Source::Servers(resolver), log))
+            }
+            _ => Err(NamesFault::Host(HostFault::Special(SpecialUse::Local))),
+        }
+    }
+
+    // By the system's own resolver, which gives both families.
+    fn by_system(rt: &'h R, alloc: Global, wanted: Wanted<'_>) -> Result<Lookup<'h, R>, NamesFault>
+    where
+        R: Files + AllocGlobal + SystemResolver + Threads + Copy + Send + 'static,
+        ensures begins { IfOk result (λ lookup. BeginsFor wanted.entry.host.now wanted.entry.choice wanted.entry.only
+            lookup.source) }
+        ensures sound { IfOk result (λ lookup. IsSound lookup.source) }
+    {
         let log = LookupLog::new(rt, alloc)?;
         let target = read_host(alloc, wanted.host)?;
         if let Some(known) = known_to(rt, alloc, &target, wanted.choice)? {
@@ -92,18 +148,6 @@ impl<'h, R: Net + RandomSource + Clock> Lookup<'h, R> {
             (Target::Name(name), Choice::System) => {
                 let query = SystemQuery::begin(*rt, alloc, name.as_str())?;
                 Ok(Lookup::with(rt, alloc, Source::System(query), log))
-            }
-            (Target::Name(name), choice) => {
-                let setup = Setup {
-                    rt,
-                    alloc,
-                    reactor,
-                    timers,
-                    plan: plan_for(rt, alloc, name.as_bytes(), choice)?,
-                    log: log.share()?,
-                };
-                let resolver = Resolver::new(setup, wanted.only);
-                Ok(Lookup::with(rt, alloc, Source::Servers(resolver), log))
             }
             _ => Err(NamesFault::Host(HostFault::Special(SpecialUse::Local))),
         }

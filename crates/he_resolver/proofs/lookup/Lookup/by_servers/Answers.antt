@@ -1,7 +1,7 @@
 use Rattle.std.proofs.Common.{rules, subst, sym}
 use Rattle.he_resolver.specs.Heard.{IsSound}
 use Rattle.he_resolver.proofs.Beginning.{begins_asking}
-use Rattle.he_resolver.proofs.lookup.Lookup.new.Goals as goal
+use Rattle.he_resolver.proofs.lookup.Lookup.by_servers.Goals as goal
 
 pub returns-in-Name-default : goal.returns-in-Name-default
 returns-in-Name-default g c = record {
