@@ -1,2 +1,2 @@
-mod Records
+pub mod Records
 mod Running
