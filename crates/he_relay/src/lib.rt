@@ -38,13 +38,17 @@ pub mod halves;
 pub mod pumping;
 pub mod relaying;
 pub mod standard;
+pub mod tunnel;
 pub mod waiting;
 pub mod watch;
+pub mod way;
 
 pub use fault::{PumpFault, RelayFault};
 pub use halves::{DEFAULT_WAIT, SocketConnection, over_socket};
 pub use pumping::pump;
 pub use relaying::{Connection, Ends, relay};
 pub use standard::relay_standard;
+pub use tunnel::{Broke, Tunnel};
 pub use waiting::Waiting;
 pub use watch::Watch;
+pub use way::{Way, WayFault};

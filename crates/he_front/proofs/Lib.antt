@@ -1,0 +1,5 @@
+mod AddressOctets
+mod Authorities
+mod Begun
+mod Cuts
+mod Named

@@ -1,0 +1,9 @@
+pub mod Asked
+pub mod Authority
+pub mod Http
+pub mod Messages
+pub mod Openings
+pub mod Pages
+pub mod Reading
+pub mod Replies
+pub mod Socks
