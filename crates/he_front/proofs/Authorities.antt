@@ -1,8 +1,9 @@
 -- What is read of a target is what it names, and a target that names something is read.
-use Rattle.std.proofs.Common.{◌≡◌, ◌⊎◌, inl, inr, ℕ, ◌≤◌, Bool, true, false, cond, eqb, List, [], ◌∷◌, ◌++◌, Option, Some, None, IfNone, IfSome, option_map, drop, nat_le, ◌&&◌, refl, sym, ◌∙◌, ap, subst, arith, append_assoc, length}
+use Rattle.std.proofs.Common.{◌≡◌, ◌⊎◌, inl, inr, ℕ, ◌≤◌, Bool, true, false, cond, eqb, List, [], ◌∷◌, ◌++◌, Option, Some, None, IfNone, IfSome, IsAscii, ◌<◌, option_map, drop, nat_le, ◌&&◌, refl, sym, ◌∙◌, ap, subst, arith, append_assoc, length}
 use Rattle.std.proofs.lemmas.Bool.{and_parts, eq-eqb, eqb-true, false≢true, leb-true, lt-ltb, ne_eqb, cond-false, cond-true}
 use Rattle.std.proofs.lemmas.Bool.Decides.{nat_tests}
-use Rattle.std.proofs.lemmas.Option.{cond_some, none-some, option_and_then_some, same_Some}
+use Rattle.std.proofs.lemmas.Option.{cond_some, none-some, option_and_then_some, same_Some, some_pair_parts}
+use Rattle.std.proofs.lemmas.Str.Ascii.{IsAscii-nil, IsAscii-cons}
 use Rattle.std.specs.List.{list_all}
 use Rattle.std.specs.Borrow.{Bor}
 use Rattle.std.specs.Option.{option_map_or}
@@ -15,7 +16,7 @@ use Rattle.he_addr.specs.Text.{Lacks, Spells}
 use Rattle.he_addr.proofs.ReadLaws.{read_address_spells, read_number_spells, spelled_address_reads, spelled_number_reads}
 use Rattle.he_front.specs.Authority.{IsAuthority, IsHostText, IsNoAuthority, SpellsPort, is_name, is_name_octet}
 use Rattle.he_front.specs.Reading.{after, authority_in, bracketed_in, named_in, port_in}
-use Rattle.he_front.proofs.AddressOctets.{address_lacks_bracket}
+use Rattle.he_front.proofs.AddressOctets.{address_is_ascii, address_lacks_bracket}
 use Rattle.he_front.proofs.Cuts.{cut_joined, cut_some}
 
 port_found : (text : List ℕ) (port : ℕ) → port_in text ≡ Some port → SpellsPort text port
@@ -163,3 +164,25 @@ authority_read text host port h = by_host h.is_host
 pub none_named : (text : List ℕ) (result : Option (Bor (List ℕ) × ℕ)) → option_map named_by result ≡ authority_in text → IfNone result (IsNoAuthority text)
 none_named text None is = λ host port named. none-some (host, port) (is ∙ authority_read text host port named)
 none_named text (Some named) is = tt
+
+-- a target names one host and one port
+pub authority_once : (text host other : List ℕ) (port number : ℕ) → IsAuthority text host port → IsAuthority text other number → (host ≡ other) × (port ≡ number)
+authority_once text host other port number h k =
+    some_pair_parts host other port number (sym (authority_read text host port h) ∙ authority_read text other number k)
+
+name_is_ascii : (octet : ℕ) → is_name_octet octet ≡ true → octet < 128
+name_is_ascii octet h = grind (arith, nat_tests)
+
+names_are_ascii : (host : List ℕ) → list_all is_name_octet host ≡ true → IsAscii host
+names_are_ascii [] h = IsAscii-nil
+names_are_ascii (x ∷ xs) h =
+    let both = and_parts (is_name_octet x) (list_all is_name_octet xs) h in
+    IsAscii-cons x xs (name_is_ascii x both.0) (names_are_ascii xs both.1)
+
+-- and the host is ASCII
+pub authority_is_ascii : (text host : List ℕ) (port : ℕ) → IsAuthority text host port → IsAscii host
+authority_is_ascii text host port h = by_host h.is_host
+  where
+    by_host : IsHostText h.host_text host → IsAscii host
+    by_host (inl (bracketed, spelled)) = address_is_ascii host (V6 spelled.0) spelled.1
+    by_host (inr (same, name)) = names_are_ascii host (and_parts _ (list_all is_name_octet host) name).1

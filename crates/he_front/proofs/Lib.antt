@@ -1,4 +1,5 @@
 mod AddressOctets
+mod Appended
 mod Authorities
 mod Begun
 mod Cuts

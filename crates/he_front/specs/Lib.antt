@@ -6,4 +6,5 @@ pub mod Openings
 pub mod Pages
 pub mod Reading
 pub mod Replies
+pub mod Responses
 pub mod Socks

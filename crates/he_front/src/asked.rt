@@ -3,7 +3,6 @@
 ghost use Rattle.std.specs.Prelude.{◌≡◌, IfOk, IsAscii, MatchOption, None, Some, string_bytes};
 ghost use Rattle.std.specs.List.{list_all};
 ghost use Rattle.std.specs.Char.{is_ascii_graphic};
-ghost use Rattle.he_addr.specs.Ip.{InRange};
 ghost use Rattle.he_addr.specs.Printing.{printed};
 ghost use Rattle.he_front.specs.Asked.{asked_in, host_in, is_printable};
 ghost use Rattle.he_front.specs.Authority.{IsAuthority, IsNoAuthority};
@@ -70,6 +69,7 @@ impl<A: Allocator + Copy> Asked<A> {
 fn address_text<A: Allocator + Copy>(alloc: A, ip: Ip) -> Result<String<A>, Memory>
     ensures { IfOk result (λ text. string_bytes text ≡ printed ip) }
 {
+    let _usable = ip.is_usable();
     let mut octets = Vec::new(alloc);
     write_ip(ip, &mut octets)?;
     text(alloc, &octets)

@@ -11,6 +11,13 @@ pub fn method_reply(offers_none: bool) -> [u8; 2]
     [5, if offers_none { 0 } else { 0xff }]
 }
 
+/// The reply to a request of SOCKS 4: refused (SOCKS 4 protocol, a version of 0 and the code 91).
+pub fn old_socks_reply() -> [u8; 8]
+    ensures { result ≡ 0 ∷ 91 ∷ 0 ∷ 0 ∷ 0 ∷ 0 ∷ 0 ∷ 0 ∷ [] }
+{
+    [0, 91, 0, 0, 0, 0, 0, 0]
+}
+
 /// How what a client asked for ended.
 #[derive(Clone, Copy, Debug, PartialEq, Eq)]
 pub enum Ended {
