@@ -30,7 +30,7 @@ impl<'f, F: Write> Log<'f, F> {
 
     /// Writes the line of a session that has ended: `time=2026-11-26T16:34:40.123Z client=127.0.0.1:53422
     /// host=example.org port=443 winner=2001:db8::1 ms=23 lost=0 sent=517 received=4096 end=closed`, or an object with
-    /// the same members.
+    /// the same members. A text with spaces is quoted.
     pub fn tell<R: Clock>(&self, rt: &R, end: &SessionEnd<'_>) {
         let is_json = match self.form {
             LogForm::Silent => return,
@@ -106,7 +106,7 @@ impl Line {
 
     fn put_text(&mut self, name: &str, value: &[u8]) -> Result<(), Memory> {
         self.put_name(name)?;
-        if self.is_json {
+        if self.is_json || value.contains(&b' ') {
             return write_string(value, &mut self.text);
         }
         self.text.extend_from_slice(value)?;

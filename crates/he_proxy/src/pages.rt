@@ -3,7 +3,7 @@
 use crate::access::Place;
 use crate::recent::Recent;
 use he_addr::Memory;
-use he_front::{Ended, Media, Page, page_asked, write_advice, write_config, write_page};
+use he_front::{Ended, Page, page_asked, write_advice, write_config, write_page};
 use std::alloc::Global;
 
 /// A GET that is answered: its target, and the value of its field Host.
@@ -39,10 +39,7 @@ pub fn write_answer(
     if let Some(place) = own.first() {
         write_advice(place.ip, place.port, &mut advice)?;
     }
-    match str::from_utf8(&advice) {
-        Ok(advice) => Ended::Command.write_response(advice, out),
-        Err(_) => Ended::Command.write_response("", out),
-    }
+    Ended::Command.write_response(&advice, out)
 }
 
 fn write_own(
@@ -54,13 +51,8 @@ fn write_own(
 ) -> Result<(), Memory> {
     let mut body = Vec::new(alloc);
     match page {
-        Page::Config => {
-            write_config(place.ip, place.port, &mut body)?;
-            write_page(Media::Config, &body, out)
-        }
-        Page::Races => {
-            recent.write_page(&mut body)?;
-            write_page(Media::Html, &body, out)
-        }
+        Page::Config => write_config(place.ip, place.port, &mut body)?,
+        Page::Races => recent.write_page(&mut body)?,
     }
+    write_page(page, &body, out)
 }

@@ -83,5 +83,6 @@ where
     let connector = LoopConnector::new(rt, handle.reactor(), setup.to, reach, steps);
     let steps = noted.steps.share()?;
     let ticker = LiveTicker::new(rt, handle.time(), start, steps, Quiet);
-    Ok(ResolvingRace::new(alloc, &setup.start, connector, source, ticker)?)
+    let race = ResolvingRace::new(alloc, &setup.start, connector, source, ticker)?;
+    Ok(race)
 }
