@@ -1,5 +1,5 @@
 -- What is read of a target is what it names, and a target that names something is read.
-use Rattle.std.proofs.Common.{◌≡◌, ◌⊎◌, inl, inr, ℕ, ◌≤◌, Bool, true, false, cond, eqb, List, [], ◌∷◌, ◌++◌, Option, Some, None, IfNone, IfSome, IsAscii, ◌<◌, option_map, drop, nat_le, ◌&&◌, refl, sym, ◌∙◌, ap, subst, arith, append_assoc, length}
+use Rattle.std.proofs.Common.{◌≡◌, inl, inr, ℕ, ◌≤◌, true, false, cond, eqb, List, [], ◌∷◌, ◌++◌, Option, Some, None, IfNone, IfSome, IsAscii, ◌<◌, option_map, nat_le, ◌&&◌, refl, sym, ◌∙◌, ap, subst, arith, append_assoc, length}
 use Rattle.std.proofs.lemmas.Bool.{and_parts, eq-eqb, eqb-true, false≢true, leb-true, lt-ltb, ne_eqb, cond-false, cond-true}
 use Rattle.std.proofs.lemmas.Bool.Decides.{nat_tests}
 use Rattle.std.proofs.lemmas.Option.{cond_some, none-some, option_and_then_some, same_Some, some_pair_parts}
@@ -11,7 +11,7 @@ use Rattle.he_addr.specs.declared.ip.Family.TheVariants as families
 use Rattle.he_addr.specs.declared.ip.Ip.{Ip}
 use Rattle.he_addr.specs.declared.ip.Ip.TheVariants.{V4, V6}
 use Rattle.he_addr.specs.Ip.{is_of}
-use Rattle.he_addr.specs.Reading.{◌>>=◌, cut_in, ip_in, ip_of_in, number_in}
+use Rattle.he_addr.specs.Reading.{cut_in, ip_in, ip_of_in, number_in}
 use Rattle.he_addr.specs.Text.{Lacks, Spells}
 use Rattle.he_addr.proofs.ReadLaws.{read_address_spells, read_number_spells, spelled_address_reads, spelled_number_reads}
 use Rattle.he_front.specs.Authority.{IsAuthority, IsHostText, IsNoAuthority, SpellsPort, is_name, is_name_octet}
@@ -23,9 +23,9 @@ port_found : (text : List ℕ) (port : ℕ) → port_in text ≡ Some port → S
 unfolding port_in
 port_found text port h =
     option_and_then_some _ (number_in text) port h (λ number read fits.
-      let both = cond_some (nat_le 1 number && nat_le number 65535) number port fits in
-      let within = and_parts (nat_le 1 number) (nat_le number 65535) both.0 in
-      subst (SpellsPort text) both.1 (read_number_spells text number read, leb-true 1 number within.0, leb-true number 65535 within.1))
+    let both = cond_some (nat_le 1 number && nat_le number 65535) number port fits in
+    let within = and_parts (nat_le 1 number) (nat_le number 65535) both.0 in
+    subst (SpellsPort text) both.1 (read_number_spells text number read, leb-true 1 number within.0, leb-true number 65535 within.1))
 
 port_read : (text : List ℕ) (port : ℕ) → SpellsPort text port → port_in text ≡ Some port
 unfolding port_in
@@ -40,16 +40,16 @@ named_found : (text host : List ℕ) (port : ℕ) → named_in text ≡ Some (ho
 unfolding named_in
 named_found text host port h =
     option_and_then_some _ (cut_in 58 text) (host, port) h (λ cut is_cut h1.
-      option_and_then_some _ (port_in cut.1) (host, port) h1 (λ number is_port h2.
-        let both = cond_some (is_name cut.0) (cut.0, number) (host, port) h2 in
-        let P : List ℕ × ℕ → Type 0 = λ named. IsAuthority text named.0 named.1 in
-        subst P both.1 (record {
-          host_text = cut.0;
-          port_text = cut.1;
-          parts = cut_some 58 text cut is_cut;
-          is_host = inr (refl, both.0);
-          is_port = port_found cut.1 number is_port;
-        })))
+    option_and_then_some _ (port_in cut.1) (host, port) h1 (λ number is_port h2.
+    let both = cond_some (is_name cut.0) (cut.0, number) (host, port) h2 in
+    let P : List ℕ × ℕ → Type 0 = λ named. IsAuthority text named.0 named.1 in
+    subst P both.1 (record {
+      host_text = cut.0;
+      port_text = cut.1;
+      parts = cut_some 58 text cut is_cut;
+      is_host = inr (refl, both.0);
+      is_port = port_found cut.1 number is_port;
+    })))
 
 of_v6 : (ip : Ip) (found : Ip) → cond (is_of families.V6 ip) (Some ip) None ≡ Some found → (n : ℕ) × (ip ≡ V6 n)
 of_v6 (V4 n) found h = cc
@@ -59,8 +59,8 @@ v6_found : (text : List ℕ) (found : Ip) → ip_of_in families.V6 text ≡ Some
 unfolding ip_of_in
 v6_found text found h =
     option_and_then_some _ (ip_in text) found h (λ ip read is.
-      let of = of_v6 ip found is in
-      (of.0, subst (Spells text) of.1 (read_address_spells text ip read)))
+    let of = of_v6 ip found is in
+    (of.0, subst (Spells text) of.1 (read_address_spells text ip read)))
 
 v6_read : (text : List ℕ) (n : ℕ) → Spells text (V6 n) → ip_of_in families.V6 text ≡ Some (V6 n)
 unfolding ip_of_in
@@ -87,18 +87,18 @@ bracketed_found : (text host : List ℕ) (port : ℕ) → bracketed_in text ≡ 
 unfolding bracketed_in
 bracketed_found text host port h =
     option_and_then_some _ (cut_in 93 text) (host, port) h (λ cut is_cut h1.
-      option_and_then_some _ (ip_of_in families.V6 cut.0) (host, port) h1 (λ ip is_ip h2.
-        option_and_then_some _ (after 58 cut.1) (host, port) h2 (λ rest is_rest h3.
-          option_and_then_some _ (port_in rest) (host, port) h3 (λ number is_port h4.
-            let P : List ℕ × ℕ → Type 0 = λ named. IsAuthority (91 ∷ text) named.0 named.1 in
-            let parts : text ≡ cut.0 ++ 93 ∷ 58 ∷ rest = cut_some 93 text cut is_cut ∙ ap (λ more. cut.0 ++ 93 ∷ more) (after_found 58 cut.1 rest is_rest) in
-            subst P (same_Some (cut.0, number) (host, port) h4) (record {
-              host_text = 91 ∷ cut.0 ++ 93 ∷ [];
-              port_text = rest;
-              parts = ap (λ more. 91 ∷ more) (parts ∙ sym (append_assoc cut.0 (93 ∷ []) (58 ∷ rest)));
-              is_host = inl (refl, v6_found cut.0 ip is_ip);
-              is_port = port_found rest number is_port;
-            })))))
+    option_and_then_some _ (ip_of_in families.V6 cut.0) (host, port) h1 (λ ip is_ip h2.
+    option_and_then_some _ (after 58 cut.1) (host, port) h2 (λ rest is_rest h3.
+    option_and_then_some _ (port_in rest) (host, port) h3 (λ number is_port h4.
+    let P : List ℕ × ℕ → Type 0 = λ named. IsAuthority (91 ∷ text) named.0 named.1 in
+    let parts : text ≡ cut.0 ++ 93 ∷ 58 ∷ rest = cut_some 93 text cut is_cut ∙ ap (λ more. cut.0 ++ 93 ∷ more) (after_found 58 cut.1 rest is_rest) in
+    subst P (same_Some (cut.0, number) (host, port) h4) (record {
+      host_text = 91 ∷ cut.0 ++ 93 ∷ [];
+      port_text = rest;
+      parts = ap (λ more. 91 ∷ more) (parts ∙ sym (append_assoc cut.0 (93 ∷ []) (58 ∷ rest)));
+      is_host = inl (refl, v6_found cut.0 ip is_ip);
+      is_port = port_found rest number is_port;
+    })))))
 
 -- what is read is named
 pub authority_found : (text host : List ℕ) (port : ℕ) → authority_in text ≡ Some (host, port) → IsAuthority text host port
@@ -153,7 +153,7 @@ authority_read text host port h = by_host h.is_host
     by_host : IsHostText h.host_text host → option_map_or bracketed_in (after 91 text) (named_in text) ≡ Some (host, port)
     by_host (inl (bracketed, spelled)) =
         let parts : text ≡ 91 ∷ host ++ 93 ∷ 58 ∷ h.port_text =
-          h.parts ∙ ap (λ octets. octets ++ 58 ∷ h.port_text) bracketed ∙ ap (λ more. 91 ∷ more) (append_assoc host (93 ∷ []) (58 ∷ h.port_text)) in
+        h.parts ∙ ap (λ octets. octets ++ 58 ∷ h.port_text) bracketed ∙ ap (λ more. 91 ∷ more) (append_assoc host (93 ∷ []) (58 ∷ h.port_text)) in
         subst (λ octets. option_map_or bracketed_in (after 91 octets) (named_in octets) ≡ Some (host, port)) (sym parts)
         (rw (after_read 91 (host ++ 93 ∷ 58 ∷ h.port_text)) (bracketed_read host h.port_text spelled.0 port spelled.1 h.is_port))
     by_host (inr (same, name)) =

@@ -1,14 +1,13 @@
 -- What octets begin, and what may follow them.
-use Rattle.std.proofs.Common.{◌≡◌, ◌⊎◌, ℕ, zero, suc, ◌+◌, ◌-◌, ◌<◌, ◌≤◌, drop, Bool, true, false, eqb, not, List, [], ◌∷◌, ◌++◌, length, replicate, Some, None, refl, sym, ◌∙◌, ap, subst, arith, inl, inr, slice_get, slice_index_or, slice_range, length-append}
+use Rattle.std.proofs.Common.{◌≡◌, ◌⊎◌, ℕ, zero, suc, ◌+◌, ◌-◌, ◌<◌, ◌≤◌, drop, true, false, eqb, not, List, [], ◌∷◌, ◌++◌, length, replicate, Some, refl, sym, ◌∙◌, ap, subst, arith, inl, inr, slice_get, slice_index_or, slice_range, length-append}
 use Rattle.std.proofs.lemmas.Bool.{cases_Bool, eq-eqb, eqb-true, false≢true, not_from_false, not-false}
 use Rattle.std.proofs.lemmas.List.{length-drop, length-replicate, length-take}
-use Rattle.std.proofs.lemmas.Option.{get_or_from_slice_get, none-some, same_Some, slice_get_within}
+use Rattle.std.proofs.lemmas.Option.{get_or_from_slice_get, same_Some, slice_get_within}
 use Rattle.std.specs.Borrow.{Bor}
 use Rattle.std.specs.Int.{w16, w32, w128, from_be_bytes}
 use Rattle.he_addr.specs.declared.ip.Ip.TheVariants.{V4, V6}
 use Rattle.he_front.specs.declared.socks.Refusal.{Refusal}
 use Rattle.he_front.specs.declared.socks.Refusal.TheVariants as refusals
-use Rattle.he_front.specs.declared.socks.Request.{Request}
 use Rattle.he_front.specs.declared.socks.Target.{Target}
 use Rattle.he_front.specs.declared.socks.Target.TheVariants as targets
 use Rattle.he_front.specs.Messages.{HasNone, MayBecome}

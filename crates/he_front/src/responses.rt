@@ -169,8 +169,14 @@ pub fn write_config<A: Allocator + Copy>(
     ensures { OnOk result (out.new.items ≡ out.old.items ++ config_text ip port) }
 {
     write_octets(b"function FindProxyForURL(url, host) {\n", out)?;
-    write_octets(b"  if (isPlainHostName(host) || dnsDomainIs(host, \".localhost\") ||\n", out)?;
-    write_octets(b"      shExpMatch(host, \"127.*\") || host == \"::1\" || host == \"[::1]\")\n", out)?;
+    write_octets(
+        b"  if (isPlainHostName(host) || dnsDomainIs(host, \".localhost\") ||\n",
+        out,
+    )?;
+    write_octets(
+        b"      shExpMatch(host, \"127.*\") || host == \"::1\" || host == \"[::1]\")\n",
+        out,
+    )?;
     write_octets(b"    return \"DIRECT\";\n  return \"SOCKS5 ", out)?;
     write_socket(ip, port, out)?;
     write_octets(b"; DIRECT\";\n}\n", out)
@@ -189,18 +195,17 @@ pub fn write_advice<A: Allocator + Copy>(
 ) -> Result<(), Memory>
     ensures { OnOk result (out.new.items ≡ out.old.items ++ advice_text ip port) }
 {
-    write_octets(b"he proxy speaks SOCKS 5 and CONNECT: set ALL_PROXY=socks5h://", out)?;
+    write_octets(
+        b"he proxy speaks SOCKS 5 and CONNECT: set ALL_PROXY=socks5h://",
+        out,
+    )?;
     write_socket(ip, port, out)?;
     write_octets(b", or for https alone https_proxy=http://", out)?;
     write_socket(ip, port, out)
 }
 
 // An address and a port, as in the authority of a URL (RFC 3986 section 3.2).
-fn write_socket<A: Allocator + Copy>(
-    ip: Ip,
-    port: u16,
-    out: &mut Vec<u8, A>,
-) -> Result<(), Memory>
+fn write_socket<A: Allocator + Copy>(ip: Ip, port: u16, out: &mut Vec<u8, A>) -> Result<(), Memory>
     ensures { OnOk result (out.new.items ≡ out.old.items ++ socket_text ip port) }
 {
     write_url_host(ip, out)?;

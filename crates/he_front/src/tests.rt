@@ -93,7 +93,9 @@ fn a_connect_names_its_target(rt: HostRuntime) -> Result<(), Fail> {
     };
     assert!(rt; len + 2 == CONNECT.len());
     let asked = Asked::by_connect(rt.alloc(), target.of(CONNECT))?;
-    assert!(rt; asked.is_some_and(|asked| asked.host.as_str() == "example.org" && asked.port == 443));
+    assert!(rt;
+        asked.is_some_and(|asked| asked.host.as_str() == "example.org" && asked.port == 443)
+    );
     Ok(())
 }
 
@@ -125,9 +127,13 @@ fn a_response_has_its_reason(rt: HostRuntime) -> Result<(), Fail> {
     Ended::Connected.write_response(b"", &mut out)?;
     Ended::TimedOut.write_response(b"no answer", &mut out)?;
     assert!(rt; Ended::Refused.socks_reply() == [5, 5, 0, 1, 0, 0, 0, 0, 0, 0]);
-    assert!(rt; out.as_slice() == b"HTTP/1.1 200 Connection established\r\n\r\n\
+    assert!(rt;
+        out.as_slice()
+            == b"HTTP/1.1 200 Connection established\r\n\r\n\
         HTTP/1.1 504 Gateway Timeout\r\nContent-Type: text/plain\r\nContent-Length: 10\r\n\
-        Connection: close\r\n\r\nno answer\n".as_slice());
+        Connection: close\r\n\r\nno answer\n"
+                .as_slice()
+    );
     Ok(())
 }
 
@@ -141,7 +147,9 @@ fn a_page_has_its_text(rt: HostRuntime) -> Result<(), Fail> {
     assert!(rt; body.ends_with(b"\n  return \"SOCKS5 127.0.0.1:1080; DIRECT\";\n}\n".as_slice()));
     let mut out = Vec::new(rt.alloc());
     write_page(Page::Config, &body, &mut out)?;
-    assert!(rt; out.starts_with(b"HTTP/1.1 200 OK\r\nContent-Type: application/x-ns-proxy".as_slice()));
+    assert!(rt;
+        out.starts_with(b"HTTP/1.1 200 OK\r\nContent-Type: application/x-ns-proxy".as_slice())
+    );
     assert!(rt; out.ends_with(body.as_slice()));
     Ok(())
 }

@@ -1,5 +1,6 @@
 -- What octets of a client ask for.
 use Rattle.std.specs.Prelude.{◌≡◌, ℕ, ⊤, List, Some, string_bytes}
+use Rattle.std.specs.declared.alloc.Global.{Global}
 use Rattle.httparse.specs.declared.spans.Span.{Span}
 use Rattle.httparse.specs.Spans.{span_bytes}
 use Rattle.he_front.specs.declared.asked.Asked.{Asked}
@@ -18,7 +19,7 @@ use Rattle.he_sessions.specs.declared.asking.Protocol.TheVariants as protocols
 
 -- The octets begin with a request of so many octets for a tunnel to this host and port: a request of SOCKS 5 (RFC 1928
 -- section 4), or the head of a CONNECT with its target (RFC 9110 section 9.3.6).
-abbrev pub AsksTunnel : List ℕ → Protocol → Asked → ℕ → Type 0
+abbrev pub AsksTunnel : List ℕ → Protocol → Asked Global → ℕ → Type 0
 AsksTunnel octets protocols.OldSocks asked len = ⊥
 AsksTunnel octets protocols.Socks asked len =
     (request : Request) × IsRequest octets request len × (asked_in request ≡ Some (string_bytes asked.host, asked.port))

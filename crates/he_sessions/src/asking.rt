@@ -43,11 +43,7 @@ pub enum Ask {
 }
 
 // What the octets ask for. A client of SOCKS 5 that was greeted asks by a request.
-pub(crate) fn read_ask(
-    alloc: Global,
-    octets: &[u8],
-    was_greeted: bool,
-) -> Result<Ask, AllocError>
+pub(crate) fn read_ask(alloc: Global, octets: &[u8], was_greeted: bool) -> Result<Ask, AllocError>
     ensures { IfOk result (Asks octets.now) }
 {
     if was_greeted {
@@ -115,12 +111,7 @@ fn read_http(alloc: Global, octets: &[u8]) -> Result<Ask, AllocError>
 }
 
 // The tunnel to the target that stands here.
-fn read_connect(
-    alloc: Global,
-    octets: &[u8],
-    target: Span,
-    len: usize,
-) -> Result<Ask, AllocError>
+fn read_connect(alloc: Global, octets: &[u8], target: Span, len: usize) -> Result<Ask, AllocError>
     requires { HasHead octets.now (heads.Tunnel target) len }
     ensures { IfOk result (Asks octets.now) }
 {

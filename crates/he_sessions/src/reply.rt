@@ -12,7 +12,11 @@ pub(crate) fn success(alloc: Global, protocol: Protocol) -> Result<BytesMut, All
 }
 
 // The reply to a client whose tunnel could not be opened.
-pub(crate) fn failure(alloc: Global, protocol: Protocol, ended: Ended) -> Result<BytesMut, AllocError>
+pub(crate) fn failure(
+    alloc: Global,
+    protocol: Protocol,
+    ended: Ended,
+) -> Result<BytesMut, AllocError>
     requires { IsFailure ended }
 {
     reply_of(alloc, protocol, ended)

@@ -1,5 +1,5 @@
 //! One connection of a client: what it asks for is read, raced for, answered and relayed.
-ghost use Rattle.std.specs.Prelude.{◌≡◌, ◌×◌, ◌<◌, Ok, IfOk, Result, drop, string_bytes, vec_len};
+ghost use Rattle.std.specs.Prelude.{◌≡◌, ◌<◌, Ok, IfOk, Result, drop, string_bytes, vec_len};
 ghost use Rattle.futures.specs.Poll.{OnPending};
 ghost use Rattle.futures.specs.Task.{IsArmed, Keeps};
 ghost use Rattle.he_front.specs.declared.replies.Ended.{Ended};
@@ -252,7 +252,9 @@ impl<'q, K: Clock, Q: Racer> Session<'q, K, Q> {
             Ok(early) => early,
             Err(AllocError) => return Next::Ends(Ending::Failed),
         };
-        let begun = self.racer.race(self.address, asked.host.as_str(), asked.port);
+        let begun = self
+            .racer
+            .race(self.address, asked.host.as_str(), asked.port);
         self.asked = asked;
         match begun {
             Ok(race) => {
@@ -434,6 +436,9 @@ impl<'q, K: Clock, Q: Racer> Session<'q, K, Q> {
             reply: _,
         } = answering;
         let Won { stream, winner: _ } = won;
+        // What one end sends goes to the other at once, however little it is (RFC 9293 section 3.7.4).
+        let _ = client.set_nodelay(true);
+        let _ = stream.set_nodelay(true);
         match Tunnel::new(self.alloc, client, stream, early) {
             Ok(tunnel) => {
                 if let Some(limit) = self.limits.idle {

@@ -65,34 +65,93 @@ fn socks_is_refused_by_its_replies(rt: HostRuntime) -> Result<(), Fail> {
     // BIND is another command.
     let bind = b"\x05\x01\x00\x05\x02\x00\x01\x7f\x00\x00\x01\x00\x50";
     let reply = b"\x05\x00\x05\x07\x00\x01\x00\x00\x00\x00\x00\x00";
-    assert!(rt; is_answered(&rt, Course::Wins, bind, reply, Ending::Refused)?);
+    assert!(rt; is_answered(&rt, Course::GoesOn, bind, reply, Ending::Refused)?);
     Ok(())
 }
 
 #[test]
 fn other_methods_and_versions_are_refused(rt: HostRuntime) -> Result<(), Fail> {
     // User name and password alone.
-    assert!(rt; is_answered(&rt, Course::Wins, b"\x05\x01\x02", b"\x05\xff", Ending::Refused)?);
+    assert!(rt;
+        is_answered(
+            &rt,
+            Course::GoesOn,
+            b"\x05\x01\x02",
+            b"\x05\xff",
+            Ending::Refused
+        )?
+    );
     let old = b"\x04\x01\x00\x50\x7f\x00\x00\x01\x00";
-    assert!(rt; is_answered(&rt, Course::Wins, old, b"\x00\x5b\x00\x00\x00\x00\x00\x00", Ending::Refused)?);
+    assert!(rt;
+        is_answered(
+            &rt,
+            Course::GoesOn,
+            old,
+            b"\x00\x5b\x00\x00\x00\x00\x00\x00",
+            Ending::Refused
+        )?
+    );
     // TLS.
-    assert!(rt; is_answered(&rt, Course::Wins, b"\x16\x03\x01", b"", Ending::Unknown)?);
+    assert!(rt; is_answered(&rt, Course::GoesOn, b"\x16\x03\x01", b"", Ending::Unknown)?);
     Ok(())
 }
 
 #[test]
 fn http_is_answered_by_its_status(rt: HostRuntime) -> Result<(), Fail> {
-    assert!(rt; is_response(&rt, Course::Ends(Ended::Refused), CONNECTS, b"HTTP/1.1 502 ")?);
-    assert!(rt; is_response(&rt, Course::Ends(Ended::TimedOut), CONNECTS, b"HTTP/1.1 504 ")?);
-    assert!(rt; is_response(&rt, Course::IsRefused(Ended::Forbidden), CONNECTS, b"HTTP/1.1 403 ")?);
-    assert!(rt; is_response(&rt, Course::Wins, b"POST / HTTP/1.1\r\n\r\n", b"HTTP/1.1 501 ")?);
-    assert!(rt; is_response(&rt, Course::Wins, b"CONNECT example.org HTTP/1.1\r\n\r\n", b"HTTP/1.1 400 ")?);
+    assert!(rt;
+        is_response(
+            &rt,
+            Course::Ends(Ended::Refused),
+            CONNECTS,
+            b"HTTP/1.1 502 "
+        )?
+    );
+    assert!(rt;
+        is_response(
+            &rt,
+            Course::Ends(Ended::TimedOut),
+            CONNECTS,
+            b"HTTP/1.1 504 "
+        )?
+    );
+    assert!(rt;
+        is_response(
+            &rt,
+            Course::IsRefused(Ended::Forbidden),
+            CONNECTS,
+            b"HTTP/1.1 403 "
+        )?
+    );
+    assert!(rt;
+        is_response(
+            &rt,
+            Course::GoesOn,
+            b"POST / HTTP/1.1\r\n\r\n",
+            b"HTTP/1.1 501 "
+        )?
+    );
+    assert!(rt;
+        is_response(
+            &rt,
+            Course::GoesOn,
+            b"CONNECT example.org HTTP/1.1\r\n\r\n",
+            b"HTTP/1.1 400 "
+        )?
+    );
     Ok(())
 }
 
 #[test]
 fn pages_are_asked_of_the_racer(rt: HostRuntime) -> Result<(), Fail> {
     let get = b"GET /proxy.pac HTTP/1.1\r\nHost: localhost:1080\r\n\r\n";
-    assert!(rt; is_answered(&rt, Course::Wins, get, b"/proxy.pac at localhost:1080", Ending::Page)?);
+    assert!(rt;
+        is_answered(
+            &rt,
+            Course::GoesOn,
+            get,
+            b"/proxy.pac at localhost:1080",
+            Ending::Page
+        )?
+    );
     Ok(())
 }

@@ -22,16 +22,19 @@ use tokio::runtime::{Handle, LocalRuntime};
 use tokio::time::Sleep;
 
 /// What a session is lent.
-pub trait Lender:
-    Wait + Clock + RandomSource + AllocGlobal + Net<Listener = TcpListener, Stream = std::net::TcpStream>
-{
-}
+pub trait Lender: Wait
+    + Clock
+    + RandomSource
+    + AllocGlobal
+    + Net<Listener = TcpListener, Stream = std::net::TcpStream> {}
 
 impl<
-    R: Wait + Clock + RandomSource + AllocGlobal + Net<Listener = TcpListener, Stream = std::net::TcpStream>,
-> Lender for R
-{
-}
+    R: Wait
+        + Clock
+        + RandomSource
+        + AllocGlobal
+        + Net<Listener = TcpListener, Stream = std::net::TcpStream>,
+> Lender for R {}
 
 pub const WINNER: Winner = Winner {
     ip: Ip::V4(0x7f00_0001),
@@ -268,7 +271,9 @@ fn race_of<R: Lender>(
         Course::Wins => Ok(Race::Won(stream)),
         Course::Ends(ended) => Ok(Race::Ended(ended)),
         Course::IsRefused(ended) => Err(ended),
-        Course::GoesOn => Ok(Race::Waiting(handle.time().sleep(rt, Duration::from_secs(PATIENCE))?)),
+        Course::GoesOn => Ok(Race::Waiting(
+            handle.time().sleep(rt, Duration::from_secs(PATIENCE))?,
+        )),
     })
 }
 
@@ -301,7 +306,9 @@ pub fn run<R: Lender>(
         Peer::new(rt.alloc(), near, client),
         Peer::new(rt.alloc(), far, server),
     );
-    let timed = handle.time().timeout(rt, Duration::from_secs(PATIENCE), peers)?;
+    let timed = handle
+        .time()
+        .timeout(rt, Duration::from_secs(PATIENCE), peers)?;
     match runtime.block_on(rt, timed)? {
         Ok((_, client_got, server_got)) => Ok(Outcome {
             client_got,

@@ -7,4 +7,4 @@ use Rattle.he_front.proofs.asked.address_text.Goals as goal
 pub text-requires : goal.text-requires
 text-requires g c =
     let ascii : IsAscii (printed c.args.ip) = address_is_ascii (printed c.args.ip) c.args.ip (addresses_read_back c.args.ip c.is_usable-usable.ensures.range).0 in
-    subst IsAscii (ap (λ (items : List ℕ). items ++ printed c.args.ip) (sym c.new-octets.ensures.items) ∙ sym c.in_ok-write_ip.ensures.ok ∙ sym c.deref.ensures.value) ascii
+    subst IsAscii (ap (λ (items : List ℕ). items ++ printed c.args.ip) (sym {A = List ℕ} c.new-octets.ensures.items) ∙ sym {A = List ℕ} c.in_ok-write_ip.ensures.ok ∙ sym {A = List ℕ} c.deref.ensures.value) ascii

@@ -1,5 +1,4 @@
-use Rattle.std.proofs.Common.{◌≡◌, drop, find}
-use Rattle.httparse.specs.Spans.{span_bytes}
+use Rattle.std.proofs.Common.{◌≡◌, drop}
 use Rattle.he_front.specs.Http.{field_named}
 use Rattle.he_front.proofs.http.field_named.Given as goal
 

@@ -1,6 +1,6 @@
-use Rattle.std.proofs.Common.{◌≡◌, ◌∙◌, List, ℕ, Option, ap, codes, map, refl, sym, take}
+use Rattle.std.proofs.Common.{◌≡◌, ◌∙◌, ap, codes, map, sym}
 use Rattle.std.specs.Option.{option_map}
-use Rattle.httparse.specs.Spans.{IsRequestOf, header_bytes, name_and_value, span_bytes}
+use Rattle.httparse.specs.Spans.{name_and_value, span_bytes}
 use Rattle.he_front.specs.Http.{value_of}
 use Rattle.he_front.proofs.http.head_of.Goals as goal
 

@@ -1,4 +1,4 @@
-use Rattle.std.proofs.Common.{◌≡◌, ◌∙◌, Option, ap, sym}
+use Rattle.std.proofs.Common.{◌∙◌, Option, ap, sym}
 use Rattle.std.specs.Option.{option_map}
 use Rattle.httparse.specs.declared.spans.HeaderSpan.{HeaderSpan}
 use Rattle.httparse.specs.Spans.{span_bytes}

@@ -1,4 +1,4 @@
-use Rattle.std.proofs.Common.{◌≡◌, ◌<◌, ◌++◌, length, arith, refl}
+use Rattle.std.proofs.Common.{◌<◌, ◌++◌, length, arith, refl}
 use Rattle.he_front.proofs.Begun.{is-there, may-become, no-address, none-yet, refused, refused-more}
 use Rattle.he_front.proofs.socks.read_request.Goals as goal
 
