@@ -49,7 +49,7 @@ impl<'h, N: Net> LoopConnector<'h, N> {
         steps: Steps,
     ) -> LoopConnector<'h, N>
         ensures to { result.to ≡ to }
-        ensures reach { result.reach ≡ reach }
+        ensures reach { result.reach ≡ reach.entry }
     {
         LoopConnector {
             net,

@@ -7,7 +7,7 @@ use crate::access::Reach;
 use crate::dial::Joined;
 use crate::recent::{Recent, Shown};
 use crate::record::{RecordName, Records};
-use crate::sockets::Noted;
+use crate::sockets::{Noted, SharedLoop};
 use he_addr::Memory;
 use he_connect::Families;
 use he_course::Course;
@@ -27,9 +27,9 @@ use std::rt::Files;
 /// What is to be known of a race at its end.
 #[derive(Drop)]
 pub struct Keeping<'h, R> {
-    pub alloc: Global,
+    pub shared: SharedLoop<'h, R>,
     /// Where its record goes.
-    pub records: Option<&'h Records<'h, R>>,
+    pub records: Option<&'h Records>,
     /// Where it is shown.
     pub recent: &'h Recent,
     /// When it began, as the name of its record has it.
@@ -47,7 +47,7 @@ impl<'h, R: Files + RandomSource + AllocGlobal + Copy> Keeping<'h, R> {
         ensures { IfOk result (IsWonOf raced) }
     {
         let ended = self.ended(&raced.transcript);
-        let winner = winner_of(self.alloc, &raced);
+        let winner = winner_of(self.shared.alloc, &raced);
         let _ = self.keep(&raced.recorded);
         let Raced {
             transcript,
@@ -77,21 +77,21 @@ impl<'h, R: Files + RandomSource + AllocGlobal + Copy> Keeping<'h, R> {
         let Some(records) = self.records else {
             return Ok(());
         };
-        let mut text = Vec::new(self.alloc);
+        let mut text = Vec::new(self.shared.alloc);
         write_timeline(recorded, &mut text)?;
         let name = RecordName {
             began: self.began.as_str(),
             host: self.host.as_str(),
             port: self.port,
         };
-        let _ = records.keep(name, text.as_slice());
+        let _ = records.keep(self.shared.rt, name, text.as_slice());
         Ok(())
     }
 
     // Shows the race on the page of the last ones.
     fn show(&self, recorded: Timeline) {
         let (began, host, port) = (&self.began, &self.host, self.port);
-        match format!(in self.alloc; "{host} port {port}, {began}") {
+        match format!(in self.shared.alloc; "{host} port {port}, {began}") {
             Ok(name) => self.recent.add(Shown { name, recorded }),
             Err(_) => drop(recorded),
         }

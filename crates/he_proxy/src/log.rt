@@ -13,14 +13,14 @@ use std::time::Clock;
 
 /// Where the log's lines go. What can't be written is passed over.
 #[derive(Drop)]
-pub struct Log<'f, F> {
+pub struct Log<F: Drop> {
     alloc: Global,
     form: LogForm,
-    out: Cell<Option<&'f mut F>>,
+    out: Cell<Option<F>>,
 }
 
-impl<'f, F: Write> Log<'f, F> {
-    pub fn new(alloc: Global, form: LogForm, out: &'f mut F) -> Log<'f, F> {
+impl<F: Write + Drop> Log<F> {
+    pub fn new(alloc: Global, form: LogForm, out: F) -> Log<F> {
         Log {
             alloc,
             form,
@@ -55,7 +55,7 @@ impl<'f, F: Write> Log<'f, F> {
     }
 
     fn write(&self, line: &[u8]) {
-        if let Some(out) = self.out.replace(None) {
+        if let Some(mut out) = self.out.replace(None) {
             let _ = out.write_all(line);
             self.out.set(Some(out));
         }

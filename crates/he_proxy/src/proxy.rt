@@ -1,8 +1,10 @@
 //! The proxy: its sockets, and the loop that serves.
 
+ghost use Rattle.futures.specs.Runs.{AllItems};
+
 use crate::access::{Place, is_loopback};
 use crate::beginning::Beginning;
-use crate::clients::Clients;
+use crate::clients::{Clients, Service};
 use crate::fault::ProxyFault;
 use crate::log::Log;
 use crate::racer::LoopRacer;
@@ -11,19 +13,18 @@ use crate::record::Records;
 use crate::request::{DEFAULT_PORT, ProxyRequest};
 use crate::server::Server;
 use crate::sockets::SharedLoop;
-use futures::StreamExt;
 use futures::stream::SelectAll;
-use he_resolver::SystemResolver;
+use futures::{Future, Stream, StreamExt};
 use he_sessions::Limits;
 use std::alloc::{AllocGlobal, Global};
+use std::io;
 use std::io::Write;
 use std::net::{IpAddr, Ipv4Addr, Ipv6Addr, Net, SocketAddr};
 use std::random::RandomSource;
 use std::rt::Files;
 use std::sync::Wait;
-use std::thread::Threads;
 use std::time::{Clock, Duration};
-use tokio::net::{Incoming, TcpListener};
+use tokio::net::{Incoming, TcpListener, TcpStream};
 use tokio::runtime::{Handle, LocalRuntime};
 
 // How many seconds a client has for its request.
@@ -35,31 +36,31 @@ const REQUEST: u64 = 10;
 /// # Errors
 ///
 /// Those of [`ProxyFault`]. With any but `Runtime` and `Memory` no client was served.
-pub fn serve<R, F>(
-    rt: &R,
+pub fn serve<'a, R, F>(
+    rt: &'a R,
     alloc: Global,
-    request: &ProxyRequest<'_>,
-    faults: &mut F,
+    request: &'a ProxyRequest<'a>,
+    faults: F,
 ) -> Result<(), ProxyFault>
 where
-    F: Write,
-    R: Threads + Wait + Clock + RandomSource + AllocGlobal + Net + Files + Sync,
-    R: SystemResolver + Copy + Send + 'static,
+    F: Write + Drop,
+    R: Wait + Clock + RandomSource + AllocGlobal + Net + Files + Copy,
 {
     refuse_open(request)?;
     let mut runtime = LocalRuntime::new(rt)?;
     let handle = runtime.handle().clone()?;
-    let (sockets, own) = listen(rt, alloc, &handle, request.listen)?;
+    let shared = SharedLoop {
+        rt,
+        alloc,
+        handle: &handle,
+    };
+    let (sockets, own) = listen(shared, request.listen)?;
     let records = open_records(rt, alloc, request)?;
     let log = Log::new(alloc, request.log, faults);
     let recent = Recent::new(alloc);
     let beginning = Beginning::new();
     let racer = LoopRacer {
-        shared: SharedLoop {
-            rt,
-            alloc,
-            handle: &handle,
-        },
+        shared,
         request,
         own: own.as_slice(),
         records: records.as_ref(),
@@ -68,9 +69,7 @@ where
         log: &log,
     };
     let server = Server {
-        clock: rt,
-        alloc,
-        timers: handle.time(),
+        shared,
         racer: &racer,
         allow: request.allow,
         limits: Limits {
@@ -80,10 +79,46 @@ where
         beginning: &beginning,
         log: &log,
     };
-    let clients = Clients::new(rt, handle.time(), &server, sockets)?;
-    let sessions = clients.for_each_concurrent(alloc, request.most as usize, |session| session)?;
-    runtime.block_on(rt, sessions)?;
+    serve_sockets(&mut runtime, shared, &server, sockets, request.most)?;
     Err(ProxyFault::Runtime)
+}
+
+// Serves the clients of the sockets, so many at once.
+fn serve_sockets<'q, R, V, S>(
+    runtime: &mut LocalRuntime,
+    shared: SharedLoop<'q, R>,
+    service: &'q V,
+    sockets: S,
+    most: u32,
+) -> io::Result<()>
+where
+    R: Wait + Clock + RandomSource + AllocGlobal,
+    V: Service,
+    S: Stream<Item = io::Result<TcpStream>>,
+    requires { S.can_poll sockets }
+{
+    let SharedLoop { rt, alloc, handle } = shared;
+    let clients = Clients::new(rt, handle.time(), service, sockets)?;
+    run(rt, alloc, runtime, clients, most)
+}
+
+// Runs the sessions as they come, so many at once.
+fn run<R, S, F>(
+    rt: &R,
+    alloc: Global,
+    runtime: &mut LocalRuntime,
+    sessions: S,
+    most: u32,
+) -> io::Result<()>
+where
+    R: Wait + Clock + RandomSource + AllocGlobal,
+    S: Stream<Item = F>,
+    F: Future<Output = ()>,
+    requires stream { S.can_poll sessions }
+    requires items { AllItems (S.yields sessions) F.can_poll }
+{
+    let running = sessions.for_each_concurrent(alloc, most as usize, |session| session)?;
+    runtime.block_on(rt, running)
 }
 
 // That an address is open to others only where some are allowed.
@@ -98,11 +133,10 @@ fn refuse_open(request: &ProxyRequest<'_>) -> Result<(), ProxyFault> {
 
 // Listens at the addresses; with none, at loopback's, of which one is enough.
 fn listen<R: Net>(
-    rt: &R,
-    alloc: Global,
-    handle: &Handle,
+    shared: SharedLoop<'_, R>,
     addresses: &[SocketAddr],
 ) -> Result<(SelectAll<Incoming>, Vec<Place>), ProxyFault> {
+    let SharedLoop { rt, alloc, handle } = shared;
     let mut sockets = SelectAll::new(alloc)?;
     let mut own = Vec::new(alloc);
     if addresses.is_empty() {
@@ -136,11 +170,11 @@ fn add_socket<R: Net>(
     Ok(())
 }
 
-fn open_records<'a, R: Files + RandomSource + AllocGlobal + Copy>(
-    rt: &'a R,
+fn open_records<R: Files + AllocGlobal + Copy>(
+    rt: &R,
     alloc: Global,
-    request: &ProxyRequest<'a>,
-) -> Result<Option<Records<'a, R>>, ProxyFault> {
+    request: &ProxyRequest<'_>,
+) -> Result<Option<Records>, ProxyFault> {
     let Some(dir) = request.record else {
         return Ok(None);
     };

@@ -17,7 +17,6 @@ use futures::Future;
 use he_addr::Memory;
 use he_connect::{ConnectFault, ConnectRequest, Setup, set_up};
 use he_front::Ended;
-use he_resolver::SystemResolver;
 use he_sessions::{Racer, SessionEnd};
 use std::alloc::{AllocError, AllocGlobal};
 use std::io;
@@ -26,28 +25,25 @@ use std::mem::drop;
 use std::net::{Net, SocketAddr};
 use std::random::RandomSource;
 use std::rt::Files;
-use std::sync::Wait;
-use std::thread::Threads;
 use std::time::Clock;
 
 /// What races for the sessions, and tells of them.
 #[derive(Drop)]
-pub struct LoopRacer<'h, R, F> {
+pub struct LoopRacer<'h, R, F: Drop> {
     pub shared: SharedLoop<'h, R>,
     pub request: &'h ProxyRequest<'h>,
     /// The places that the proxy listens at.
     pub own: &'h [Place],
-    pub records: Option<&'h Records<'h, R>>,
+    pub records: Option<&'h Records>,
     pub recent: &'h Recent,
     pub beginning: &'h Beginning,
-    pub log: &'h Log<'h, F>,
+    pub log: &'h Log<F>,
 }
 
 impl<'h, R, F> LoopRacer<'h, R, F>
 where
-    R: Threads + Wait + Clock + RandomSource + AllocGlobal + Net + Files + Sync,
-    R: SystemResolver + Copy + Send + 'static,
-    F: Write,
+    R: Clock + RandomSource + AllocGlobal + Net + Files + Copy,
+    F: Write + Drop,
 {
     // What the client's races may connect to.
     fn reach_of(&self, client: SocketAddr) -> Reach<'h>
@@ -122,7 +118,7 @@ where
             return Err(ConnectFault::Runtime);
         };
         Ok(Keeping {
-            alloc,
+            shared: self.shared,
             records: self.records,
             recent: self.recent,
             began,
@@ -137,9 +133,8 @@ where
 
 impl<'h, R, F> Racer for LoopRacer<'h, R, F>
 where
-    R: Threads + Wait + Clock + RandomSource + AllocGlobal + Net + Files + Sync,
-    R: SystemResolver + Copy + Send + 'static,
-    F: Write,
+    R: Clock + RandomSource + AllocGlobal + Net + Files + Copy,
+    F: Write + Drop,
 {
     type Race = LoopRace<'h, R, SocketRace<'h, R>>;
 

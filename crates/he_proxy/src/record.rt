@@ -20,10 +20,9 @@ const MOST_TWINS: u32 = 1_000;
 
 /// The directory of the records: `DIR/2026-11-26/16-34-40.123-example.org-443.timeline`, days and times in UTC.
 #[derive(Drop)]
-pub struct Records<'a, R> {
-    rt: &'a R,
+pub struct Records {
     alloc: Global,
-    dir: &'a str,
+    dir: String,
     most: u32,
     count: Cell<u32>,
 }
@@ -37,13 +36,18 @@ pub struct RecordName<'a> {
     pub port: u16,
 }
 
-impl<'a, R: Files + RandomSource + AllocGlobal + Copy> Records<'a, R> {
+impl Records {
     /// The records in this directory, which is made where it is missing, of which at most so many are kept.
     ///
     /// # Errors
     ///
     /// Those of the system.
-    pub fn open(rt: &'a R, alloc: Global, dir: &'a str, most: u32) -> io::Result<Records<'a, R>> {
+    pub fn open<R: Files + AllocGlobal + Copy>(
+        rt: &R,
+        alloc: Global,
+        dir: &str,
+        most: u32,
+    ) -> io::Result<Records> {
         create_dir_all(rt, dir)?;
         let mut count = 0u32;
         for day in days_in(rt, alloc, dir)?.iter() {
@@ -51,9 +55,8 @@ impl<'a, R: Files + RandomSource + AllocGlobal + Copy> Records<'a, R> {
             count = count.saturating_add(records.min(u32::MAX as usize) as u32);
         }
         Ok(Records {
-            rt,
             alloc,
-            dir,
+            dir: String::from_str(alloc, dir)?,
             most,
             count: Cell::new(count),
         })
@@ -65,37 +68,42 @@ impl<'a, R: Files + RandomSource + AllocGlobal + Copy> Records<'a, R> {
     /// # Errors
     ///
     /// Those of the system, and `InvalidInput` where the name has no time.
-    pub fn keep(&self, name: RecordName<'_>, text: &[u8]) -> io::Result<()> {
+    pub fn keep<R: Files + RandomSource + AllocGlobal + Copy>(
+        &self,
+        rt: &R,
+        name: RecordName<'_>,
+        text: &[u8],
+    ) -> io::Result<()> {
         let (Some(date), Some(time)) = (name.began.get(..10), name.began.get(11..23)) else {
             return Err(ErrorKind::InvalidInput.into());
         };
         let alloc = self.alloc;
-        let dir = self.dir;
+        let dir = self.dir.as_str();
         let day = format!(in alloc; "{dir}/{date}")?;
-        make_day(self.rt, day.as_str())?;
+        make_day(rt, day.as_str())?;
         let stem = stem_of(alloc, day.as_str(), time, name)?;
-        let path = free_path(self.rt, alloc, stem.as_str())?;
-        write_file(self.rt, alloc, path.as_str(), text)?;
+        let path = free_path(rt, alloc, stem.as_str())?;
+        write_file(rt, alloc, path.as_str(), text)?;
         self.count.set(self.count.get().saturating_add(1));
-        self.make_room()
+        self.make_room(rt)
     }
 
     // Removes the oldest records, where there are too many.
-    fn make_room(&self) -> io::Result<()> {
+    fn make_room<R: Files + AllocGlobal + Copy>(&self, rt: &R) -> io::Result<()> {
         if self.count.get() <= self.most {
             return Ok(());
         }
         let left = self.most.saturating_sub(self.most / 10);
-        for day in days_in(self.rt, self.alloc, self.dir)?.iter() {
-            for record in records_in(self.rt, self.alloc, day.as_str())?.iter() {
+        for day in days_in(rt, self.alloc, self.dir.as_str())?.iter() {
+            for record in records_in(rt, self.alloc, day.as_str())?.iter() {
                 if self.count.get() <= left {
                     return Ok(());
                 }
-                remove_file(self.rt, record.as_str())?;
+                remove_file(rt, record.as_str())?;
                 self.count.set(self.count.get().saturating_sub(1));
             }
             // What else is there stays, and its directory with it.
-            let _ = remove_dir(self.rt, day.as_str());
+            let _ = remove_dir(rt, day.as_str());
         }
         Ok(())
     }

@@ -39,7 +39,8 @@ pub struct ProxyRequest<'a> {
     pub settings: Settings,
     /// Where each race has its `source`, `route` and `policy` lines from.
     pub lines: Lines<'a>,
-    /// Which resolver is asked for the addresses of hosts.
+    /// Which name servers are asked for the addresses of hosts. The system's resolver is not called: with it a name that
+    /// the file of hosts lacks has no address.
     pub resolver: Choice,
     /// The directory of the records of the races; with none, no race is recorded.
     pub record: Option<&'a str>,

@@ -5,47 +5,37 @@ use crate::access::{ip_of, is_served};
 use crate::beginning::Beginning;
 use crate::clients::Service;
 use crate::log::Log;
+use crate::sockets::SharedLoop;
 use he_addr::Prefix;
 use he_live::Reason;
 use he_sessions::{Limits, Racer, Session};
-use std::alloc::Global;
 use std::io::Write;
 use std::net::SocketAddr;
 use std::time::Clock;
 use tokio::net::TcpStream;
-use tokio::time::Handle;
 
 /// What each session is made with.
 #[derive(Drop)]
-pub struct Server<'q, K, Q, F> {
-    pub clock: &'q K,
-    pub alloc: Global,
-    pub timers: &'q Handle,
+pub struct Server<'q, K, Q, F: Drop> {
+    pub shared: SharedLoop<'q, K>,
     pub racer: &'q Q,
     /// From where clients may come, beside this machine.
     pub allow: &'q [Prefix],
     pub limits: Limits,
     pub beginning: &'q Beginning,
-    pub log: &'q Log<'q, F>,
+    pub log: &'q Log<F>,
 }
 
-impl<'q, K: Clock, Q: Racer, F: Write> Service for Server<'q, K, Q, F> {
+impl<'q, K: Clock, Q: Racer, F: Write + Drop> Service for Server<'q, K, Q, F> {
     type Session = Session<'q, K, Q>;
 
     fn begin(&self, client: TcpStream, address: SocketAddr) -> Option<Session<'q, K, Q>> {
         if !is_served(ip_of(address.ip()), self.allow) {
             return None;
         }
-        let (clock, alloc, timers) = (self.clock, self.alloc, self.timers);
-        match Session::new(
-            clock,
-            alloc,
-            timers,
-            self.racer,
-            client,
-            address,
-            self.limits,
-        ) {
+        let SharedLoop { rt, alloc, handle } = self.shared;
+        let (timers, racer) = (handle.time(), self.racer);
+        match Session::new(rt, alloc, timers, racer, client, address, self.limits) {
             Ok(session) => {
                 self.beginning.add();
                 Some(session)

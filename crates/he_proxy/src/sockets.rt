@@ -1,20 +1,21 @@
 //! The race of a session over the sockets of the event loop.
 ghost use Rattle.std.specs.Prelude.{◌≡◌, IfOk, Ok};
+ghost use Rattle.he_connect.specs.Races.{only_of};
+ghost use Rattle.he_resolver.specs.Begins.{BeginsFor};
+ghost use Rattle.he_resolver.specs.Heard.{IsSound};
 ghost use Rattle.he_proxy.specs.Races.{RunsFrom};
 
 use crate::access::Reach;
 use crate::dial::LoopConnector;
 use futures::Future;
-use he_connect::{ConnectFault, HostAnswers, LookupFaults, Setup, look_up};
+use he_connect::{ConnectFault, ConnectRequest, HostAnswers, LookupFaults, Setup};
 use he_live::{LiveTicker, Quiet, Steps};
 use he_race::ResolvingRace;
-use he_resolver::SystemResolver;
+use he_resolver::{Lookup, Wanted};
 use std::alloc::{AllocError, AllocGlobal, Global};
 use std::net::Net;
 use std::random::RandomSource;
 use std::rt::Files;
-use std::sync::Wait;
-use std::thread::Threads;
 use std::time::{Clock, Instant};
 use tokio::runtime::Handle;
 
@@ -56,6 +57,27 @@ impl Noted {
     }
 }
 
+// A look-up of the request's host by name servers, which waits in the event loop.
+fn look_up<'h, R>(
+    shared: SharedLoop<'h, R>,
+    request: &ConnectRequest<'_>,
+) -> Result<Lookup<'h, R>, ConnectFault>
+where
+    R: Clock + RandomSource + AllocGlobal + Net + Files + Copy,
+    ensures begins { IfOk result (λ lookup. BeginsFor request.now.host.now request.now.resolver (only_of
+        request.now.families) lookup.source) }
+    ensures sound { IfOk result (λ lookup. IsSound lookup.source) }
+{
+    let SharedLoop { rt, alloc, handle } = shared;
+    let wanted = Wanted {
+        host: request.host,
+        only: request.families.only(),
+        choice: request.resolver,
+    };
+    let (reactor, timers) = (handle.reactor(), handle.time());
+    Ok(Lookup::by_servers(rt, alloc, reactor, timers, wanted)?)
+}
+
 /// The race that is set up, before its first turn.
 ///
 /// # Errors
@@ -68,15 +90,14 @@ pub fn socket_race<'h, R>(
     noted: &Noted,
 ) -> Result<SocketRace<'h, R>, ConnectFault>
 where
-    R: Threads + Wait + Clock + RandomSource + AllocGlobal + Net + Files + Sync,
-    R: SystemResolver + Copy + Send + 'static,
+    R: Clock + RandomSource + AllocGlobal + Net + Files + Copy,
     ensures can { IfOk result ⟦<SocketRace<'h, R> as Future>⟧.can_poll }
     ensures runs { IfOk result (λ race. (raced : _) → ⟦<SocketRace<'h, R> as Future>⟧.gives race (Ok raced)
         → RunsFrom setup.now.request setup.now.start setup.now.to reach raced) }
 {
     let SharedLoop { rt, alloc, handle } = shared;
     let start = Instant::now(rt)?;
-    let lookup = look_up(rt, alloc, handle, &setup.request)?;
+    let lookup = look_up(shared, &setup.request)?;
     let machine = if setup.brings_lines { Some(rt) } else { None };
     let source = HostAnswers::new(alloc, lookup, machine, noted.why.share()?, Quiet)?;
     let steps = noted.steps.share()?;
