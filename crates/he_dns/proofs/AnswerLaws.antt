@@ -108,7 +108,7 @@ response_stands m id name family h at is =
       question = question_stands m name family at question.0;
     })
 
-response_found : (m : List ℕ) (id : ℕ) (name : List ℕ) (family : Family) (flags answers at : ℕ) → Responds m id name family flags answers at
+pub response_found : (m : List ℕ) (id : ℕ) (name : List ℕ) (family : Family) (flags answers at : ℕ) → Responds m id name family flags answers at
     → response_in m id name family ≡ Some (record { id = id; flags = flags; questions = 1; answers = answers }, at)
 unfolding response_in
 response_found m id name family flags answers at is =
@@ -157,7 +157,7 @@ chain_goes_on zero entries name fault h =
     (same, (name, refl))
 chain_goes_on (suc n) entries name fault h = too_long_by n entries name fault (alias_of entries name) refl (λ target is. chain_goes_on n entries target fault is) h
 
-chain_found : (count n : ℕ) (entries : List Entry) (name host : List ℕ) → count < n → Leads entries count name host → alias_of entries host ≡ None
+pub chain_found : (count n : ℕ) (entries : List Entry) (name host : List ℕ) → count < n → Leads entries count name host → alias_of entries host ≡ None
     → chain_end n entries name ≡ Ok host
 unfolding Leads
 chain_found zero zero entries name host lt leads own = absurd (omega arith)
@@ -215,7 +215,7 @@ by_response m id name family ips None is answer = cc
 by_response m id name family ips (Some (h, at)) is answer =
     by_flags m id name family h at ips (flags_fault h.flags) (response_stands m id name family h at is) refl answer
 
-answer_stands : (m : List ℕ) (id : ℕ) (name : List ℕ) (family : Family) (ips : List Ip) → answer_of m id name family ≡ Ok ips → Answers m id name family ips
+pub answer_stands : (m : List ℕ) (id : ℕ) (name : List ℕ) (family : Family) (ips : List Ip) → answer_of m id name family ≡ Ok ips → Answers m id name family ips
 unfolding answer_of
 answer_stands m id name family ips h = by_response m id name family ips (response_in m id name family) refl h
 

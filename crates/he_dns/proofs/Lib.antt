@@ -2,8 +2,10 @@ mod AnswerLaws
 mod Chained
 mod Gathered
 mod Labels
+mod Lesser
 mod NameLaws
 mod Named
 mod Numerals
 mod RecordLaws
 mod ServerLaws
+mod TtlLaws

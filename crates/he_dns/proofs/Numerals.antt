@@ -5,8 +5,8 @@ use Rattle.std.proofs.lemmas.Bool.{ltb-true, ltb-false, leb-true, eqb-true, eqb-
 use Rattle.he_dns.specs.declared.parts.NamePart.{NamePart}
 use Rattle.he_dns.specs.declared.parts.NamePart.TheVariants.{Root, Label, Pointer}
 use Rattle.he_dns.specs.Names.{IsPartAt}
-use Rattle.he_dns.specs.Numbers.{IsWordAt}
-use Rattle.he_dns.specs.Reading.{label_at, octet_at, part_at, word_at}
+use Rattle.he_dns.specs.Numbers.{IsTtlAt, IsWordAt, counted_ttl}
+use Rattle.he_dns.specs.Reading.{label_at, octet_at, part_at, ttl_at, word_at}
 
 -- a step and what follows it
 pub bind_some : {A B : Type 0} (o : Option A) (f : A → Option B) (y : B) → option_and_then f o ≡ Some y → (x : A) × (o ≡ Some x) × (f x ≡ Some y)
@@ -43,6 +43,26 @@ word_stands m at word h =
 pub word_found : (m : List ℕ) (at word : ℕ) → IsWordAt m at word → word_at m at ≡ Some word
 unfolding word_at
 word_found m at word w = rw (lt-ltb (at + 1) (length m) w.within) (ap Some (sym w.value))
+
+pub ttl_stands : (m : List ℕ) (at ttl : ℕ) → ttl_at m at ≡ Some ttl → IsTtlAt m at ttl
+unfolding ttl_at
+ttl_stands m at ttl h =
+    let high = bind_some _ _ ttl h in
+    let low = bind_some _ _ ttl high.2 in
+    record {
+      high = high.0;
+      low = low.0;
+      high_word = word_stands m at high.0 high.1;
+      low_word = word_stands m (at + 2) low.0 low.1;
+      value = sym (some_same (counted_ttl (high.0 * 65536 + low.0)) ttl low.2);
+    }
+
+pub ttl_found : (m : List ℕ) (at ttl : ℕ) → IsTtlAt m at ttl → ttl_at m at ≡ Some ttl
+unfolding ttl_at
+ttl_found m at ttl is =
+    let high = word_found m at is.high is.high_word in
+    let low = word_found m (at + 2) is.low is.low_word in
+    rw (high, low) (ap Some (sym is.value))
 
 -- a part, by the tests of its first octet
 by_first : (m : List ℕ) (at x : ℕ) (part : NamePart) (z l p : Bool) → at < length m → get_or m at 0 ≡ x → eqb x 0 ≡ z → leb x 63 ≡ l → ltb x 192 ≡ p

@@ -17,7 +17,7 @@ use Rattle.he_dns.specs.Numbers.{type_of}
 use Rattle.he_dns.specs.Reading.{address_of, alias_at, content_of, entries_from, entry_at, record_at}
 use Rattle.he_dns.specs.Records.{AreEntries, IsAddress, IsEntryAt, IsRecordAt, Says, record_end}
 use Rattle.he_dns.proofs.NameLaws.{name_found, name_stands}
-use Rattle.he_dns.proofs.Numerals.{allowed, bind_some, not_refused, some_same, word_found, word_stands}
+use Rattle.he_dns.proofs.Numerals.{allowed, bind_some, not_refused, some_same, ttl_found, ttl_stands, word_found, word_stands}
 
 pub record_stands : (m : List ℕ) (at : ℕ) (r : Record) → record_at m at ≡ Some r → IsRecordAt m at r
 unfolding record_at
@@ -25,14 +25,16 @@ record_stands m at r h =
     let name = bind_some _ _ r h in
     let kind = bind_some _ _ r name.2 in
     let class = bind_some _ _ r kind.2 in
-    let size = bind_some _ _ r class.2 in
-    let made : Record = record { owner = name.0.0; kind = kind.0; class = class.0; place = name.0.1 + 10; size = size.0 } in
+    let ttl = bind_some _ _ r class.2 in
+    let size = bind_some _ _ r ttl.2 in
+    let made : Record = record { owner = name.0.0; kind = kind.0; class = class.0; ttl = ttl.0; place = name.0.1 + 10; size = size.0 } in
     let within = not_refused (ltb (length m) (name.0.1 + 10 + size.0)) (Some made) r size.2 in
     subst (λ (x : Record). IsRecordAt m at x) (some_same made r within.1) (record {
       after = name.0.1;
       owner = name_stands m at name.0.0 name.0.1 name.1;
       kind = word_stands m name.0.1 kind.0 kind.1;
       class = word_stands m (name.0.1 + 2) class.0 class.1;
+      ttl = ttl_stands m (name.0.1 + 4) ttl.0 ttl.1;
       size = word_stands m (name.0.1 + 8) size.0 size.1;
       place = refl;
       within = ltb-false (length m) (name.0.1 + 10 + size.0) within.0;
@@ -44,10 +46,11 @@ record_found m at r is =
     let name = name_found m at r.owner is.after is.owner in
     let kind = word_found m is.after r.kind is.kind in
     let class = word_found m (is.after + 2) r.class is.class in
+    let ttl = ttl_found m (is.after + 4) r.ttl is.ttl in
     let size = word_found m (is.after + 8) r.size is.size in
     let fits : is.after + 10 + r.size ≤ length m = omega (arith, is.place, is.within) in
     let within = le-ltb (length m) (is.after + 10 + r.size) fits in
-    rw (name, kind, class, size, within) (ap (λ (place : ℕ). Some (record r { place = place })) (sym is.place))
+    rw (name, kind, class, ttl, size, within) (ap (λ (place : ℕ). Some (record r { place = place })) (sym is.place))
 
 -- the data of an alias, and of an address
 alias_stands : (m : List ℕ) (place size : ℕ) (content : Content) → alias_at m place size ≡ Some content
@@ -128,11 +131,12 @@ unfolding entry_at
 entry_stands m family at found h =
     let source = bind_some _ _ found h in
     let content = bind_some _ _ found source.2 in
-    let made : Entry × ℕ = (record { owner = source.0.owner; content = content.0 }, source.0.place + source.0.size) in
+    let made : Entry × ℕ = (record { owner = source.0.owner; ttl = source.0.ttl; content = content.0 }, source.0.place + source.0.size) in
     subst (λ (x : Entry × ℕ). IsEntryAt m family at x.0 x.1) (some_same made found content.2) (record {
       source = source.0;
       stands = record_stands m at source.0 source.1;
       owner = refl;
+      ttl = refl;
       says = content_stands m family source.0 content.0 content.1;
       ends = refl;
     })
@@ -142,7 +146,8 @@ unfolding entry_at
 entry_found m family at entry end is =
     let source = record_found m at is.source is.stands in
     let content = content_found m family is.source entry.content is.says in
-    rw (source, content) (ap (λ (owner : List ℕ). Some (record { owner = owner; content = entry.content }, record_end is.source)) (sym is.owner)
+    rw (source, content) (ap (λ (owner : List ℕ). Some (record { owner = owner; ttl = is.source.ttl; content = entry.content }, record_end is.source)) (sym is.owner)
+    ∙ ap (λ (ttl : ℕ). Some (record { owner = entry.owner; ttl = ttl; content = entry.content }, record_end is.source)) (sym is.ttl)
     ∙ ap (λ (e : ℕ). Some (entry, e)) (sym is.ends))
 
 map_some : {A B : Type 0} (f : A → B) (o : Option A) (y : B) → option_map f o ≡ Some y → (x : A) × (o ≡ Some x) × (y ≡ f x)

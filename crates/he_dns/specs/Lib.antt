@@ -7,3 +7,4 @@ pub mod Queries
 pub mod Reading
 pub mod Records
 pub mod Texts
+pub mod Ttls

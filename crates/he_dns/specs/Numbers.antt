@@ -1,5 +1,5 @@
 -- Numbers of a message (RFC 1035 section 2.3.2), and the numbers that the RFC gives to things.
-use Rattle.std.specs.Prelude.{◌≡◌, ℕ, ◌+◌, ◌*◌, ◌<◌, List, length, slice_index}
+use Rattle.std.specs.Prelude.{◌≡◌, ℕ, ◌+◌, ◌*◌, ◌<◌, List, length, nat_lt, slice_index, if◌then◌else◌}
 use Rattle.he_addr.specs.declared.ip.Family.{Family}
 use Rattle.he_addr.specs.declared.ip.Family.TheVariants.{V4, V6}
 
@@ -7,6 +7,19 @@ use Rattle.he_addr.specs.declared.ip.Family.TheVariants.{V4, V6}
 pub record IsWordAt (message : List ℕ) (at word : ℕ) : Type 0 where
   pub within : at + 1 < length message
   pub value : word ≡ slice_index message at * 256 + slice_index message (at + 1)
+
+-- how long a record may be kept, in seconds, by its TTL: the greatest is 2^31 - 1, and one above it counts as 0
+-- (RFC 2181 section 8)
+abbrev pub counted_ttl : ℕ → ℕ
+counted_ttl ttl = if nat_lt 0x7fffffff ttl then 0 else ttl
+
+-- a TTL that stands at a place: four octets, the first the highest (section 3.2.1)
+pub record IsTtlAt (message : List ℕ) (at ttl : ℕ) : Type 0 where
+  pub high : ℕ
+  pub low : ℕ
+  pub high_word : IsWordAt message at high
+  pub low_word : IsWordAt message (at + 2) low
+  pub value : ttl ≡ counted_ttl (high * 65536 + low)
 
 -- the most octets of a label (section 2.3.4)
 abbrev pub max_label : ℕ

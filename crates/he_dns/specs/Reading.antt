@@ -1,7 +1,7 @@
 -- Mirrors the code: what the readers answer, as functions on lists. What stands in a message is said in `Names`,
 -- `Header`,
 -- `Records`, `Chains` and `Answers`.
-use Rattle.std.specs.Prelude.{◌≡◌, ℕ, zero, suc, ◌+◌, ◌-◌, ◌*◌, ◌<◌, ◌/◌, ◌%◌, ◌==◌, ◌&&◌, Bool, List, [], ◌∷◌, ◌++◌, Option, Some, None, Result, Ok, Err, length, slice_index, slice_range, take, drop, nat_lt, nat_le, false, not, if◌then◌else◌}
+use Rattle.std.specs.Prelude.{◌≡◌, ℕ, zero, suc, ◌+◌, ◌-◌, ◌*◌, ◌<◌, ◌/◌, ◌%◌, ◌==◌, ◌&&◌, Bool, List, [], ◌∷◌, ◌++◌, Option, Some, None, Result, Ok, Err, length, min, slice_index, slice_range, take, drop, nat_lt, nat_le, false, not, if◌then◌else◌}
 use Rattle.std.specs.Int.{w32, w128, from_be_bytes}
 use Rattle.std.specs.Option.{option_and_then, option_map, option_map_or, option_or, unwrap_or}
 use Rattle.he_addr.specs.declared.ip.Family.{Family}
@@ -19,10 +19,11 @@ use Rattle.he_dns.specs.declared.header.Header.{Header}
 use Rattle.he_dns.specs.declared.parts.NamePart.{NamePart}
 use Rattle.he_dns.specs.declared.parts.NamePart.TheVariants.{Root, Label, Pointer}
 use Rattle.he_dns.specs.declared.records.Record.{Record}
-use Rattle.he_dns.specs.Chains.{addresses_of, alias_of}
+use Rattle.he_dns.specs.Chains.{address_for, addresses_of, alias_of}
 use Rattle.he_dns.specs.Header.{flags_fault, is_lame_by}
 use Rattle.he_dns.specs.Names.{is_same}
-use Rattle.he_dns.specs.Numbers.{class_in, type_cname, type_of}
+use Rattle.he_dns.specs.Numbers.{class_in, counted_ttl, type_cname, type_of}
+use Rattle.he_dns.specs.Ttls.{alias_ttl}
 
 infixl 10 ◌>>=◌
 abbrev pub ◌>>=◌ : {A B : Type 0} → Option A → (A → Option B) → Option B
@@ -46,6 +47,11 @@ unfoldable pub word_at : List ℕ → ℕ → Option ℕ
 word_at message at =
     if nat_lt (at + 1) (length message) then Some (slice_index message at * 256 + slice_index message (at + 1))
     else None
+
+-- a TTL
+unfoldable pub ttl_at : List ℕ → ℕ → Option ℕ
+ttl_at message at = word_at message at >>= λ high. word_at message (at + 2) >>= λ low.
+    Some (counted_ttl (high * 65536 + low))
 
 -- what stands at a place of a name
 unfoldable pub label_at : List ℕ → ℕ → ℕ → Option NamePart
@@ -118,9 +124,9 @@ response_in message id name family = header_at message >>= λ header.
 unfoldable pub record_at : List ℕ → ℕ → Option Record
 record_at message at =
     name_at message at >>= λ owner. word_at message owner.1 >>= λ kind. word_at message (owner.1 + 2) >>= λ class.
-    word_at message (owner.1 + 8) >>= λ size.
+    ttl_at message (owner.1 + 4) >>= λ ttl. word_at message (owner.1 + 8) >>= λ size.
     if nat_lt (length message) (owner.1 + 10 + size) then None
-    else Some (record { owner = owner.0; kind = kind; class = class; place = owner.1 + 10; size = size })
+    else Some (record { owner = owner.0; kind = kind; class = class; ttl = ttl; place = owner.1 + 10; size = size })
 
 -- what a record says
 unfoldable pub alias_at : List ℕ → ℕ → ℕ → Option Content
@@ -141,7 +147,7 @@ content_of message family r =
 
 unfoldable pub entry_at : List ℕ → Family → ℕ → Option (Entry × ℕ)
 entry_at message family at = record_at message at >>= λ r. content_of message family r >>= λ content.
-    Some (record { owner = r.owner; content = content }, r.place + r.size)
+    Some (record { owner = r.owner; ttl = r.ttl; content = content }, r.place + r.size)
 
 -- what so many records say from a place on
 unfoldable pub entries_from : ℕ → List ℕ → Family → ℕ → Option (List Entry)
@@ -155,6 +161,38 @@ unfoldable pub chain_end : ℕ → List Entry → List ℕ → Result (List ℕ)
 chain_end zero entries name = Err faults.ChainTooLong
 chain_end (suc left) entries name =
     option_map_or (λ target. chain_end left entries target) (alias_of entries name) (Ok name)
+
+-- the lesser of two TTLs, where there are two
+abbrev pub lesser : Option ℕ → Option ℕ → Option ℕ
+lesser None other = other
+lesser (Some ttl) None = Some ttl
+lesser (Some ttl) (Some other) = Some (min ttl other)
+
+-- the least TTL of the aliases of the chain, and of the addresses at its end
+unfoldable pub chain_ttl : ℕ → List Entry → List ℕ → Option ℕ
+chain_ttl zero entries name = None
+chain_ttl (suc left) entries name =
+    option_map_or (λ target. lesser (alias_ttl entries name) (chain_ttl left entries target)) (alias_of entries name)
+    None
+
+abbrev pub address_ttl : List ℕ → Entry → Option ℕ
+address_ttl host entry = option_map (λ ip. entry.ttl) (address_for host entry)
+
+abbrev pub addresses_ttl : List Entry → List ℕ → Option ℕ
+addresses_ttl [] host = None
+addresses_ttl (entry ∷ more) host = lesser (address_ttl host entry) (addresses_ttl more host)
+
+abbrev pub ttl_at_end : List Entry → List ℕ → Result (List ℕ) AnswerFault → Option ℕ
+ttl_at_end entries name (Ok host) = lesser (chain_ttl 17 entries name) (addresses_ttl entries host)
+ttl_at_end entries name (Err fault) = None
+
+unfoldable pub section_ttl : List ℕ → Header → ℕ → List ℕ → Family → Option ℕ
+section_ttl message header at name family =
+    entries_from header.answers message family at >>= λ entries. ttl_at_end entries name (chain_end 17 entries name)
+
+unfoldable pub ttl_of : List ℕ → ℕ → List ℕ → Family → Option ℕ
+ttl_of message id name family =
+    response_in message id name family >>= λ response. section_ttl message response.0 response.1 name family
 
 -- the addresses at the end of the chain
 abbrev pub addresses_at : List Entry → Result (List ℕ) AnswerFault → Result (List Ip) AnswerFault

@@ -10,14 +10,15 @@ use Rattle.he_dns.specs.declared.entries.Content.TheVariants.{Alias, Address, Ot
 use Rattle.he_dns.specs.declared.entries.Entry.{Entry}
 use Rattle.he_dns.specs.declared.records.Record.{Record}
 use Rattle.he_dns.specs.Names.{IsNameAt}
-use Rattle.he_dns.specs.Numbers.{IsWordAt, class_in, type_cname, type_of}
+use Rattle.he_dns.specs.Numbers.{IsTtlAt, IsWordAt, class_in, type_cname, type_of}
 
--- the record at a place: NAME, TYPE, CLASS, TTL of four octets, RDLENGTH, and RDATA, which lies within the message
+-- the record at a place: NAME, TYPE, CLASS, TTL, RDLENGTH, and RDATA, which lies within the message
 pub record IsRecordAt (message : List ℕ) (at : ℕ) (r : Record) : Type 0 where
   pub after : ℕ
   pub owner : IsNameAt message at r.owner after
   pub kind : IsWordAt message after r.kind
   pub class : IsWordAt message (after + 2) r.class
+  pub ttl : IsTtlAt message (after + 4) r.ttl
   pub size : IsWordAt message (after + 8) r.size
   pub place : r.place ≡ after + 10
   pub within : r.place + r.size ≤ length message
@@ -47,6 +48,7 @@ pub record IsEntryAt (message : List ℕ) (family : Family) (at : ℕ) (entry : 
   pub source : Record
   pub stands : IsRecordAt message at source
   pub owner : entry.owner ≡ source.owner
+  pub ttl : entry.ttl ≡ source.ttl
   pub says : Says message family source entry.content
   pub ends : end ≡ record_end source
 

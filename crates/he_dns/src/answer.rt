@@ -4,16 +4,27 @@ ghost use Rattle.std.specs.Prelude.{◌≡◌, ◌⊎◌, Err, IfErr, IfOk, List
 ghost use Rattle.he_addr.specs.declared.ip.Ip.{Ip};
 ghost use Rattle.he_dns.specs.declared.fault.AnswerFault.TheVariants as faults;
 ghost use Rattle.he_dns.specs.Answers.{Answers, HasFault};
-ghost use Rattle.he_dns.specs.Reading.{answer_of, response_in, section_addresses};
+ghost use Rattle.he_dns.specs.Reading.{answer_of, response_in, section_addresses, section_ttl, ttl_of};
+ghost use Rattle.he_dns.specs.Ttls.{MayKeep};
 
-use crate::chain::{addresses_of, chain_end};
+use crate::chain::{addresses_of, addresses_ttl, chain_end, lesser};
 use crate::entries::read_entries;
 use crate::fault::AnswerFault;
 use crate::header::{Header, read_header};
 use crate::name::Name;
 use crate::question::behind_question;
 use he_addr::{Family, Ip};
-use std::alloc::Allocator;
+use std::alloc::{Allocator, Global};
+
+/// What a message answers for a host.
+#[derive(Drop)]
+pub struct Answer<A: Allocator = Global> {
+    /// The host's addresses of the family that was asked for, in the order in which they stand.
+    pub addresses: Vec<Ip, A>,
+    /// The seconds for which they may be kept, at most 2^31 - 1: the least TTL of the aliases that were followed and
+    /// of the addresses (RFC 1035 section 3.2.1). None where there is no such record.
+    pub ttl: Option<u32>,
+}
 
 // The header of a response to this query, and where its answer section begins.
 #[tactic(auto, unfolding(crate::specs::Reading::response_in))]
@@ -28,8 +39,8 @@ fn read_response(message: &[u8], id: u16, name: &[u8], family: Family) -> Option
     Some((header, at))
 }
 
-// The addresses of a name in the answer section of a response.
-#[tactic(auto, unfolding(crate::specs::Reading::section_addresses, crate::specs::Reading::chain_addresses))]
+// What the answer section of a response has for a name.
+#[tactic(auto, unfolding(crate::specs::Reading::section_addresses, crate::specs::Reading::chain_addresses, crate::specs::Reading::section_ttl))]
 fn read_section<A: Allocator + Copy>(
     alloc: A,
     message: &[u8],
@@ -37,27 +48,33 @@ fn read_section<A: Allocator + Copy>(
     at: usize,
     name: &[u8],
     family: Family,
-) -> Result<Vec<Ip, A>, AnswerFault>
-    ensures { MatchResult result (λ found. section_addresses message.now header at name.now family
-        ≡ Ok found.items) (λ fault. (fault ≡ faults.Memory) ⊎
+) -> Result<Answer<A>, AnswerFault>
+    ensures addresses { MatchResult result (λ found. section_addresses message.now header at name.now family
+        ≡ Ok found.addresses.items) (λ fault. (fault ≡ faults.Memory) ⊎
         (section_addresses message.now header at name.now family ≡ Err fault)) }
+    ensures ttl { IfOk result (λ found. found.ttl ≡ section_ttl message.now header at name.now family) }
 {
     let entries = read_entries(alloc, message, at, header.answers(), family)?;
-    let host = chain_end(&entries, name)?;
-    addresses_of(alloc, &entries, host)
+    let (host, ttl) = chain_end(&entries, name)?;
+    Ok(Answer {
+        addresses: addresses_of(alloc, &entries, host)?,
+        ttl: lesser(ttl, addresses_ttl(&entries, host)),
+    })
 }
 
-// The addresses that a message answers for a name.
-#[tactic(auto, unfolding(crate::specs::Reading::answer_of))]
-fn read_addresses<A: Allocator + Copy>(
+// What a message answers for a name.
+#[tactic(auto, unfolding(crate::specs::Reading::answer_of, crate::specs::Reading::ttl_of))]
+fn find_answer<A: Allocator + Copy>(
     alloc: A,
     message: &[u8],
     id: u16,
     name: &[u8],
     family: Family,
-) -> Result<Vec<Ip, A>, AnswerFault>
-    ensures { MatchResult result (λ found. answer_of message.now id name.now family
-        ≡ Ok found.items) (λ fault. (fault ≡ faults.Memory) ⊎ (answer_of message.now id name.now family ≡ Err fault)) }
+) -> Result<Answer<A>, AnswerFault>
+    ensures addresses { MatchResult result (λ found. answer_of message.now id name.now family
+        ≡ Ok found.addresses.items) (λ fault. (fault ≡ faults.Memory)
+        ⊎ (answer_of message.now id name.now family ≡ Err fault)) }
+    ensures ttl { IfOk result (λ found. found.ttl ≡ ttl_of message.now id name.now family) }
 {
     let Some((header, at)) = read_response(message, id, name, family) else {
         return Err(AnswerFault::NotOurs);
@@ -66,7 +83,7 @@ fn read_addresses<A: Allocator + Copy>(
     read_section(alloc, message, header, at, name, family)
 }
 
-/// The addresses of this family that a response has for a host.
+/// The addresses of this family that a response has for a host, and for how long they may be kept.
 ///
 /// A response to the query has its id, QR set, OPCODE 0, one question, and in it the name without regard to case, the
 /// type of the family's addresses and class IN. Its answer section is as many records as the header says. From the
@@ -90,11 +107,12 @@ pub fn read_answer<A: Allocator + Copy, B: Allocator>(
     id: u16,
     name: &Name<B>,
     family: Family,
-) -> Result<Vec<Ip, A>, AnswerFault>
-    ensures found { IfOk result (λ found. Answers message.now id name.now.octets family found.items) }
+) -> Result<Answer<A>, AnswerFault>
+    ensures found { IfOk result (λ found. Answers message.now id name.now.octets family found.addresses.items) }
+    ensures ttl { IfOk result (λ found. MayKeep message.now id name.now.octets family found.ttl) }
     ensures fault { IfErr result (λ fault. HasFault message.now id name.now.octets family fault) }
     ensures none { IfErr result (λ fault. (fault ≡ faults.Memory → ⊥) → (addresses : List Ip)
         → Answers message.now id name.now.octets family addresses → ⊥) }
 {
-    read_addresses(alloc, message, id, name.octets(), family)
+    find_answer(alloc, message, id, name.octets(), family)
 }

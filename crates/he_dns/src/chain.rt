@@ -5,7 +5,8 @@ ghost use Rattle.std.specs.Option.{option_map};
 ghost use Rattle.std.specs.Result.{IfErr};
 ghost use Rattle.he_dns.specs.declared.fault.AnswerFault.TheVariants as faults;
 ghost use Rattle.he_dns.specs.Chains.{address_for, addresses_of, alias_of, target_for};
-ghost use Rattle.he_dns.specs.Reading.{chain_end};
+ghost use Rattle.he_dns.specs.Reading.{address_ttl, addresses_ttl, chain_end, chain_ttl, lesser};
+ghost use Rattle.he_dns.specs.Ttls.{alias_ttl};
 
 use crate::entries::{Content, Entry};
 use crate::fault::AnswerFault;
@@ -37,31 +38,71 @@ fn address_for(name: &[u8], entry: &Entry) -> Option<Ip>
     }
 }
 
-// The name of which this one is an alias, by the first record that says so.
-fn alias_of<'e>(entries: &'e [Entry], name: &[u8]) -> Option<&'e [u8]>
-    ensures { option_map (λ target. target.now) result ≡ alias_of entries.now name.now }
+// The name of which this one is an alias, by the first record that says so, and the TTL of that record.
+fn alias_of<'e>(entries: &'e [Entry], name: &[u8]) -> Option<(&'e [u8], u32)>
+    ensures target { option_map (λ alias. alias.0.now) result ≡ alias_of entries.now name.now }
+    ensures ttl { option_map (λ alias. alias.1) result ≡ alias_ttl entries.now name.now }
 {
     for entry in entries {
         if let Some(target) = target_for(name, entry) {
-            return Some(target);
+            return Some((target, entry.ttl));
         }
     }
     None
 }
 
-// The name at the end of the chain.
-pub(crate) fn chain_end<'e>(entries: &'e [Entry], name: &'e [u8]) -> Result<&'e [u8], AnswerFault>
-    ensures { MatchResult result (λ host. chain_end 17 entries.now name.now
-        ≡ Ok host.now) (λ fault. chain_end 17 entries.now name.now ≡ Err fault) }
+// The name at the end of the chain, and the least TTL of the aliases that lead to it, where there are any.
+pub(crate) fn chain_end<'e>(
+    entries: &'e [Entry],
+    name: &'e [u8],
+) -> Result<(&'e [u8], Option<u32>), AnswerFault>
+    ensures host { MatchResult result (λ end. chain_end 17 entries.now name.now
+        ≡ Ok end.0.now) (λ fault. chain_end 17 entries.now name.now ≡ Err fault) }
+    ensures ttl { IfOk result (λ end. end.1 ≡ chain_ttl 17 entries.now name.now) }
 {
     let mut current = name;
+    let mut least = None;
     'names: for passed in 0..MAX_NAMES {
         match alias_of(entries, current) {
-            Some(target) => current = target,
-            None => return Ok(current),
+            Some((target, ttl)) => {
+                current = target;
+                least = lesser(least, Some(ttl));
+            }
+            None => return Ok((current, least)),
         }
     }
     Err(AnswerFault::ChainTooLong)
+}
+
+// The lesser of two TTLs, where there are two.
+pub(crate) fn lesser(ttl: Option<u32>, other: Option<u32>) -> Option<u32>
+    ensures { result ≡ lesser ttl other }
+{
+    match (ttl, other) {
+        (Some(ttl), Some(other)) => Some(ttl.min(other)),
+        _ => ttl.or(other),
+    }
+}
+
+// The least TTL of the addresses of a name, where it has any.
+pub(crate) fn addresses_ttl(entries: &[Entry], name: &[u8]) -> Option<u32>
+    ensures { result ≡ addresses_ttl entries.now name.now }
+{
+    let mut least = None;
+    for entry in entries {
+        least = lesser(least, address_ttl(name, entry));
+    }
+    least
+}
+
+// The TTL of the address of this name that the entry has.
+fn address_ttl(name: &[u8], entry: &Entry) -> Option<u32>
+    ensures { result ≡ address_ttl name.now entry.now }
+{
+    match address_for(name, entry) {
+        Some(_) => Some(entry.ttl),
+        None => None,
+    }
 }
 
 // The addresses of a name, in the order in which they stand.

@@ -25,6 +25,8 @@ pub(crate) enum Content {
 #[derive(Drop)]
 pub(crate) struct Entry {
     pub(crate) owner: Octets,
+    // The seconds for which it may be kept.
+    pub(crate) ttl: u32,
     pub(crate) content: Content,
 }
 
@@ -80,6 +82,7 @@ fn read_entry(message: &[u8], at: usize, family: Family) -> Option<(Entry, usize
     Some((
         Entry {
             owner: source.owner,
+            ttl: source.ttl,
             content,
         },
         end,

@@ -14,7 +14,9 @@
 //! query (`specs/Header.antt`), the answer section is as many records as the header says (`specs/Records.antt`), its
 //! names are those of RFC 1035 section 4.1.4 with pointers to earlier places alone (`specs/Names.antt`), and the
 //! addresses are those of the name at the end of the chain of aliases (`specs/Chains.antt`). A fault is the message's,
-//! and no message that answers addresses has one.
+//! and no message that answers addresses has one;
+//! - the TTL of an answer is the least of those of the aliases that were followed and of the addresses
+//! (`specs/Ttls.antt`).
 //!
 //! [`read_refusal`] and [`is_lame`] tell what a message says of the server that sent it (`specs/Header.antt`).
 //!
@@ -41,7 +43,7 @@ mod server;
 mod tests;
 mod words;
 
-pub use answer::read_answer;
+pub use answer::{Answer, read_answer};
 pub use fault::{AnswerFault, NameFault};
 pub use name::Name;
 pub use queries::write_query;

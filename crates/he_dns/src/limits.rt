@@ -14,6 +14,9 @@ pub const MAX_PARTS: usize = 255;
 /// The most aliases (CNAME records) that are followed to a host's addresses.
 pub const MAX_ALIASES: usize = 16;
 
+/// The greatest TTL, in seconds: one above it counts as 0 (RFC 2181 section 8).
+pub const MAX_TTL: u32 = 0x7fff_ffff;
+
 // A pointer's first octet is at least this one (RFC 1035 section 4.1.4).
 pub(crate) const POINTER: u8 = 0xc0;
 

@@ -5,7 +5,7 @@ ghost use Rattle.he_dns.specs.Reading.{record_at};
 
 use crate::names::read_name;
 use crate::octets::Octets;
-use crate::words::word_at;
+use crate::words::{ttl_at, word_at};
 
 // What stands before a record's data, and where the data stands.
 #[derive(Drop)]
@@ -16,6 +16,8 @@ pub(crate) struct Record {
     pub(crate) kind: u16,
     // CLASS
     pub(crate) class: u16,
+    // TTL
+    pub(crate) ttl: u32,
     // The place of RDATA.
     pub(crate) place: usize,
     // RDLENGTH
@@ -31,6 +33,7 @@ pub(crate) fn read_record(message: &[u8], at: usize) -> Option<Record>
     let (owner, end) = read_name(message, at)?;
     let kind = word_at(message, end)?;
     let class = word_at(message, end + 2)?;
+    let ttl = ttl_at(message, end + 4)?;
     let size = word_at(message, end + 8)? as usize;
     let place = end + 10;
     if message.len() - place < size {
@@ -40,6 +43,7 @@ pub(crate) fn read_record(message: &[u8], at: usize) -> Option<Record>
         owner,
         kind,
         class,
+        ttl,
         place,
         size,
     })

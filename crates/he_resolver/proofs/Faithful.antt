@@ -1,17 +1,13 @@
 -- What was heard stays heard.
-use Rattle.std.proofs.Common.{◌≡◌, ◌⊎◌, Bool, List, Option, Some, None, Ok, Err, Vec, Global, ap, inl, inr, subst, sym, ◌∙◌}
+use Rattle.std.proofs.Common.{◌≡◌, ◌⊎◌, Bool, List, Option, Some, None, Err, ap, inl, inr, subst, sym, ◌∙◌}
 use Rattle.he_addr.specs.declared.ip.Family.{Family}
-use Rattle.he_addr.specs.declared.ip.Family.TheVariants as families
-use Rattle.he_addr.specs.declared.ip.Ip.{Ip}
 use Rattle.he_dns.specs.Texts.{HostName}
 use Rattle.he_resolver.specs.Asking.{IsSame}
-use Rattle.he_resolver.specs.Heard.{AreHeard, IsFaithful, IsHeardOfOne, IsPart, Told, names_of}
-use Rattle.he_resolver.specs.Needs.{family_of}
+use Rattle.he_resolver.specs.Heard.{Heard, IsHeardOfOne, IsPart}
 use Rattle.he_resolver.specs.declared.family_lookup.FamilyLookup.{FamilyLookup}
 use Rattle.he_resolver.specs.declared.fault.NamesFault.TheVariants as faults
-use Rattle.he_resolver.specs.declared.resolver.Resolver.{Resolver}
 
-lacking : (names : List HostName) (family : Family) (old new : Option Told)
+lacking : (names : List HostName) (family : Family) (old new : Option Heard)
     → ((new ≡ old) ⊎ (new ≡ Some (Err faults.NoSuchName))) → IsHeardOfOne names family old → IsHeardOfOne names family new
 lacking names family old new (inl same) heard = subst (IsHeardOfOne names family) (sym same) heard
 lacking names family old new (inr told) heard = subst (IsHeardOfOne names family) (sym told) tt
@@ -39,9 +35,3 @@ part_settled names family old new settled same part = (
   ap (λ (a : FamilyLookup). a.family) same ∙ part.0,
   subst (IsHeardOfOne names family) (sym (ap (λ (a : FamilyLookup). a.told) same)) part.1,
 )
-
--- the addresses that a family was told
-pub told_heard : {R : Type 0} (resolver : Resolver R) (family : Family) (ips : Vec Ip Global) → IsFaithful resolver
-    → (family_of resolver family).told ≡ Some (Ok ips) → AreHeard (names_of resolver) family ips.items
-told_heard resolver families.V6 ips faithful told = subst (IsHeardOfOne (names_of resolver) families.V6) told faithful.0.1
-told_heard resolver families.V4 ips faithful told = subst (IsHeardOfOne (names_of resolver) families.V4) told faithful.1.1

@@ -1,7 +1,7 @@
 -- How a family's look-up goes on: a server that fails leaves it to the next one, and any other answer ends it.
 use Rattle.std.specs.Prelude.{◌≡◌, ◌⊎◌, ◌≤◌, ⊤, true, false, Option, Some, None, Ok, Err, length, vec_len}
 use Rattle.he_resolver.specs.Faults.{is_of_server}
-use Rattle.he_resolver.specs.Heard.{Told}
+use Rattle.he_resolver.specs.Heard.{Heard}
 use Rattle.he_resolver.specs.declared.family_lookup.FamilyLookup.{FamilyLookup}
 use Rattle.he_resolver.specs.declared.family_lookup.NextServer.TheVariants.{Now}
 use Rattle.he_resolver.specs.declared.plan.QueryPlan.{QueryPlan}
@@ -15,15 +15,15 @@ abbrev pub GoesOn : FamilyLookup → FamilyLookup → Type 0
 GoesOn old new = (new.told ≡ old.told) × (new.next ≡ Now)
 
 -- where another server may tell more, the next one is asked; else this is told
-abbrev pub Takes : Told → FamilyLookup → FamilyLookup → Type 0
-Takes (Ok ips) old new = new.told ≡ Some (Ok ips)
+abbrev pub Takes : Heard → FamilyLookup → FamilyLookup → Type 0
+Takes (Ok answer) old new = new.told ≡ Some (Ok answer)
 Takes (Err fault) old new =
     ((is_of_server fault ≡ true) × GoesOn old new) ⊎ ((is_of_server fault ≡ false) × (new.told ≡ Some (Err fault)))
 
 -- that no server tells anything is told only where each of them was asked and none is waited for
-abbrev pub AsksNext : QueryPlan → FamilyLookup → Option Told → Type 0
+abbrev pub AsksNext : QueryPlan → FamilyLookup → Option Heard → Type 0
 AsksNext plan old None = ⊤
-AsksNext plan old (Some (Ok ips)) = old.told ≡ Some (Ok ips)
+AsksNext plan old (Some (Ok answer)) = old.told ≡ Some (Ok answer)
 AsksNext plan old (Some (Err fault)) =
     (is_of_server fault ≡ false) ⊎ (old.told ≡ Some (Err fault))
     ⊎ ((length plan.servers.items ≤ old.begun) × (vec_len old.queries ≡ 0))

@@ -1,6 +1,6 @@
 -- What is told of a name comes of a message that a name server sent (RFC 1035 section 4.1), by what he_dns says of it.
 use Rattle.std.specs.Prelude.{◌≡◌, ◌⊎◌, ⊤, ℕ, List, [], ◌++◌, Option, Some, None, Result, Ok, Err, length, slice_get}
-use Rattle.std.specs.Global.{Vec}
+use Rattle.std.specs.Global.{Global, Vec}
 use Rattle.std.specs.Int.{w16, to_be_bytes}
 use Rattle.he_addr.specs.declared.ip.Family.{Family}
 use Rattle.he_addr.specs.declared.ip.Family.TheVariants as families
@@ -8,6 +8,8 @@ use Rattle.he_addr.specs.declared.ip.Ip.{Ip}
 use Rattle.he_dns.specs.Answers.{Answers}
 use Rattle.he_dns.specs.Queries.{query_of}
 use Rattle.he_dns.specs.Texts.{HostName}
+use Rattle.he_dns.specs.Ttls.{MayKeep}
+use Rattle.he_dns.specs.declared.answer.Answer.{Answer}
 use Rattle.he_names.specs.Answers.{cleaned}
 use Rattle.he_resolver.specs.declared.datagrams.Datagrams.{Datagrams}
 use Rattle.he_resolver.specs.declared.family_lookup.FamilyLookup.{FamilyLookup}
@@ -28,9 +30,15 @@ use Rattle.he_resolver.specs.declared.streams.Stage.TheVariants as stages
 abbrev pub IsAnswered : ℕ → List ℕ → Family → List Ip → Type 0
 IsAnswered id octets family ips = (message : List ℕ) × Answers message id octets family ips
 
+-- and with its addresses, for how long they may be kept
+abbrev pub IsAnswer : ℕ → List ℕ → Family → Answer Global → Type 0
+IsAnswer id octets family answer =
+    (message : List ℕ) × Answers message id octets family answer.addresses.items
+    × MayKeep message id octets family answer.ttl
+
 -- the addresses of a reply are those that a message with the id answers
 abbrev pub RepliesTo : ℕ → List ℕ → Family → Reply → Type 0
-RepliesTo id octets family (replies.Addresses ips) = IsAnswered id octets family ips.items
+RepliesTo id octets family (replies.Addresses answer) = IsAnswer id octets family answer
 RepliesTo id octets family other = ⊤
 
 -- ---- what was sent
@@ -53,16 +61,17 @@ id_of (transports.Stream stream) = stream.id
 
 -- ---- one family of a name
 
-abbrev pub Told : Type 0
-Told = Result (Vec Ip) NamesFault
+-- what a name server told, or why none told anything
+abbrev pub Heard : Type 0
+Heard = Result (Answer Global) NamesFault
 
--- addresses that are told are those that some message answers to the query for the name with these octets
-abbrev pub IsHeardOf : List ℕ → Family → Told → Type 0
-IsHeardOf octets family (Ok ips) = (id : ℕ) × IsAnswered id octets family ips.items
+-- what was heard is what some message answers to the query for the name with these octets
+abbrev pub IsHeardOf : List ℕ → Family → Heard → Type 0
+IsHeardOf octets family (Ok answer) = (id : ℕ) × IsAnswer id octets family answer
 IsHeardOf octets family (Err fault) = ⊤
 
 -- what was told is as it was, or is now heard
-abbrev pub HearsOf : List ℕ → Family → Option Told → Option Told → Type 0
+abbrev pub HearsOf : List ℕ → Family → Option Heard → Option Heard → Type 0
 HearsOf octets family old None = ⊤
 HearsOf octets family old (Some told) = (Some told ≡ old) ⊎ IsHeardOf octets family told
 
@@ -73,9 +82,10 @@ AreHeard names family ips =
     × IsAnswered id name.octets family ips
 
 -- so is what was told so far
-abbrev pub IsHeardOfOne : List HostName → Family → Option Told → Type 0
+abbrev pub IsHeardOfOne : List HostName → Family → Option Heard → Type 0
 IsHeardOfOne names family None = ⊤
-IsHeardOfOne names family (Some (Ok ips)) = AreHeard names family ips.items
+IsHeardOfOne names family (Some (Ok answer)) =
+    (place : ℕ) × (name : HostName) × (slice_get names place ≡ Some name) × IsHeardOf name.octets family (Ok answer)
 IsHeardOfOne names family (Some (Err fault)) = ⊤
 
 -- the family's part of a look-up, which was told so
@@ -84,11 +94,26 @@ IsPart names family asking = (asking.family ≡ family) × IsHeardOfOne names fa
 
 -- ---- what is told
 
+abbrev pub Told : Type 0
+Told = Result (Vec Ip) NamesFault
+
 -- the family's addresses, cleaned, of all that a message answers for one of the names
 abbrev pub TellsHeard : List HostName → Family → Told → Type 0
 TellsHeard names family (Ok ips) =
     (all : List Ip) × AreHeard names family all × (ips.items ≡ cleaned family all)
 TellsHeard names family (Err fault) = ⊤
+
+-- the addresses are those of the answer that was heard, cleaned
+abbrev pub AreOwn : Option Heard → Family → List Ip → Type 0
+AreOwn None family ips = ⊥
+AreOwn (Some (Ok answer)) family ips = ips ≡ cleaned family answer.addresses.items
+AreOwn (Some (Err fault)) family ips = ⊥
+
+-- and the TTL is that of this answer
+abbrev pub ttl_of : Option Heard → Option ℕ
+ttl_of None = None
+ttl_of (Some (Ok answer)) = answer.ttl
+ttl_of (Some (Err fault)) = None
 
 -- the family's addresses, cleaned, of all that is known without asking a name server
 abbrev pub TellsKnown : Told → Family → Told → Type 0
@@ -101,6 +126,11 @@ TellsKnown known family (Err fault) = ⊤
 module _ {R : Type 0} where
   abbrev pub names_of : Resolver R → List HostName
   names_of resolver = resolver.setup.plan.names.items
+
+  -- what was heard of a family so far
+  abbrev pub heard_of : Resolver R → Family → Option Heard
+  heard_of resolver families.V6 = resolver.v6.told
+  heard_of resolver families.V4 = resolver.v4.told
 
   -- each family has been told what was heard of one of the names that are to be asked
   abbrev pub IsFaithful : Resolver R → Type 0
@@ -123,3 +153,12 @@ module _ {R : Type 0} where
   Tells (sources.Known known) family told = TellsKnown known family told
   Tells (sources.Servers resolver) family told = TellsHeard (names_of resolver) family told
   Tells (sources.System query) family told = ⊥
+
+  -- where name servers were asked, the addresses are those of the answer that was heard, and the TTL is that of it
+  abbrev pub AreOwnOf : Source R → Family → List Ip → Type 0
+  AreOwnOf (sources.Servers resolver) family ips = AreOwn (heard_of resolver family) family ips
+  AreOwnOf other family ips = ⊤
+
+  abbrev pub ttl_in : Source R → Family → Option ℕ
+  ttl_in (sources.Servers resolver) family = ttl_of (heard_of resolver family)
+  ttl_in other family = None

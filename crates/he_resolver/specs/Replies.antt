@@ -1,11 +1,13 @@
 -- What a message comes to that may answer a question, by what he_dns says of it.
 use Rattle.std.specs.Prelude.{◌≡◌, ◌<◌, ◌⊎◌, ◌==◌, ℕ, List, [], Option, Some, None, length, if◌then◌else◌}
+use Rattle.std.specs.Global.{Global}
 use Rattle.he_addr.specs.declared.ip.Family.{Family}
-use Rattle.he_addr.specs.declared.ip.Ip.{Ip}
+use Rattle.he_dns.specs.declared.answer.Answer.{Answer}
 use Rattle.he_dns.specs.declared.fault.AnswerFault.{AnswerFault}
 use Rattle.he_dns.specs.declared.fault.AnswerFault.TheVariants as answers
 use Rattle.he_dns.specs.Answers.{Answers, HasFault}
 use Rattle.he_dns.specs.Header.{IsLame, IsRefusal}
+use Rattle.he_dns.specs.Ttls.{MayKeep}
 use Rattle.he_resolver.specs.declared.failure.Failure.{Failure}
 use Rattle.he_resolver.specs.declared.failure.Failure.TheVariants as failures
 use Rattle.he_resolver.specs.declared.replies.Reply.{Reply}
@@ -30,11 +32,12 @@ fault_reply (answers.OtherCode code) = replies.Failure (failure_of code)
 fault_reply fault = replies.Failure failures.Malformed
 
 -- the addresses; or that there are none, unless the server is lame
-abbrev pub TellsAddresses : List ℕ → List Ip → Reply → Type 0
-TellsAddresses message ips (replies.Addresses told) = (told.items ≡ ips) × (0 < length ips)
-TellsAddresses message ips replies.NoAddress = (ips ≡ []) × (IsLame message → ⊥)
-TellsAddresses message ips (replies.Failure failure) = (ips ≡ []) × IsLame message × (failure ≡ failures.Lame)
-TellsAddresses message ips other = ⊥
+abbrev pub TellsAnswer : List ℕ → Answer Global → Reply → Type 0
+TellsAnswer message answer (replies.Addresses told) = (told ≡ answer) × (0 < length answer.addresses.items)
+TellsAnswer message answer replies.NoAddress = (answer.addresses.items ≡ []) × (IsLame message → ⊥)
+TellsAnswer message answer (replies.Failure failure) =
+    (answer.addresses.items ≡ []) × IsLame message × (failure ≡ failures.Lame)
+TellsAnswer message answer other = ⊥
 
 -- a message of another question, or none, is passed over, unless the server refuses without its question
 abbrev pub StrangeReply : List ℕ → ℕ → Option Reply → Type 0
@@ -49,6 +52,6 @@ FaultReply message id fault reply = reply ≡ Some (fault_reply fault)
 -- the message answers addresses, or has a fault
 abbrev pub ComesTo : List ℕ → ℕ → List ℕ → Family → Option Reply → Type 0
 ComesTo message id name family reply =
-    ((ips : List Ip) × (told : Reply) × Answers message id name family ips × TellsAddresses message ips told
-    × (reply ≡ Some told))
+    ((answer : Answer Global) × (told : Reply) × Answers message id name family answer.addresses.items
+    × MayKeep message id name family answer.ttl × TellsAnswer message answer told × (reply ≡ Some told))
     ⊎ ((fault : AnswerFault) × HasFault message id name family fault × FaultReply message id fault reply)

@@ -16,7 +16,8 @@ use crate::query::Query;
 use crate::replies::Question;
 use crate::setup::Setup;
 use futures::task::{Context, Poll};
-use he_addr::{Family, Ip};
+use he_addr::Family;
+use he_dns::Answer;
 use std::alloc::Global;
 use std::net::{Net, SocketAddr};
 use std::random::RandomSource;
@@ -43,7 +44,7 @@ pub(crate) struct FamilyLookup {
     next: NextServer,
     // Why the first server that failed told nothing.
     lack: Option<NamesFault>,
-    told: Option<Result<Vec<Ip>, NamesFault>>,
+    told: Option<Result<Answer, NamesFault>>,
     // Whether no other name can change what is told.
     is_settled: bool,
 }
@@ -104,7 +105,7 @@ impl FamilyLookup {
     }
 
     // The addresses, or why there are none, once that was told.
-    pub(crate) fn told(&self) -> Option<&Result<Vec<Ip>, NamesFault>>
+    pub(crate) fn told(&self) -> Option<&Result<Answer, NamesFault>>
         ensures { option_map (λ told. told.now) result ≡ self.now.told }
     {
         self.told.as_ref()
@@ -125,7 +126,7 @@ impl FamilyLookup {
     }
 
     // Ends the asking, which was told this.
-    pub(crate) fn tell(&mut self, told: Result<Vec<Ip>, NamesFault>)
+    pub(crate) fn tell(&mut self, told: Result<Answer, NamesFault>)
         ensures told { self.new.told ≡ Some told }
         ensures same { IsSame self.old self.new }
     {
@@ -252,7 +253,7 @@ impl FamilyLookup {
         &mut self,
         setup: &Setup<'_, R>,
         server: SocketAddr,
-        answer: Result<Vec<Ip>, NamesFault>,
+        answer: Result<Answer, NamesFault>,
     )
         ensures same { IsSame self.old self.new }
         ensures takes { Takes answer self.old self.new }
@@ -298,7 +299,7 @@ fn poll_any<R: Net + RandomSource + Clock>(
     setup: &Setup<'_, R>,
     question: Question<'_>,
     cx: &mut Context<'_>,
-) -> Poll<(usize, Result<Vec<Ip>, NamesFault>)>
+) -> Poll<(usize, Result<Answer, NamesFault>)>
     requires some { 0 < vec_len queries.old }
     ensures within { IfReady result (λ (at, answer). at < vec_len queries.new) }
     ensures heard { IfReady result (λ (at, answer). IsHeardOf question.entry.name.now.octets question.entry.family

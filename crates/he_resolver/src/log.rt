@@ -6,7 +6,8 @@ ghost use Rattle.he_resolver.specs.Events.{event_of};
 use crate::failure::{Failure, ServerFault, ShownServer};
 use crate::fault::NamesFault;
 use crate::limits::{ALONE, MOST_EVENTS};
-use he_addr::{Family, Ip};
+use he_addr::Family;
+use he_dns::Answer;
 use std::alloc::{AllocError, Global};
 use std::cell::Cell;
 use std::fmt;
@@ -50,12 +51,12 @@ impl LookupEventKind {
     // What a server's answer is an event of; None where the machine failed.
     pub(crate) fn of_answer(
         server: SocketAddr,
-        answer: &Result<Vec<Ip>, NamesFault>,
+        answer: &Result<Answer, NamesFault>,
     ) -> Option<LookupEventKind>
         ensures { result ≡ event_of server answer.now }
     {
         match answer {
-            Ok(ips) => Some(LookupEventKind::Addresses(ips.len(), server)),
+            Ok(answer) => Some(LookupEventKind::Addresses(answer.addresses.len(), server)),
             Err(NamesFault::NoAddress) => Some(LookupEventKind::NoAddress(server)),
             Err(NamesFault::NoSuchName) => Some(LookupEventKind::NoSuchName(server)),
             Err(NamesFault::NoAnswer) => Some(LookupEventKind::Silent(server)),

@@ -5,7 +5,7 @@ ghost use Rattle.futures.specs.Poll.{IfReady, OnPending};
 ghost use Rattle.futures.specs.Task.{Covers, Keeps};
 ghost use Rattle.he_names.specs.Answers.{IsAnswer};
 ghost use Rattle.he_resolver.specs.Begins.{BeginsFor};
-ghost use Rattle.he_resolver.specs.Heard.{IsSound, Tells, TellsKnown, asked_names};
+ghost use Rattle.he_resolver.specs.Heard.{AreOwnOf, IsSound, Tells, TellsKnown, asked_names, ttl_in};
 ghost use Rattle.he_resolver.specs.Needs.{lookup_needs};
 
 use crate::choice::Choice;
@@ -197,6 +197,7 @@ impl<'h, R: Net + RandomSource + Clock> Lookup<'h, R> {
     ) -> Poll<Result<Vec<Ip>, NamesFault>>
         ensures answer { IfReady result (λ told. IfOk told (λ ips. IsAnswer family ips.items)) }
         ensures told { IsSound self.old.source → IfReady result (Tells self.new.source family) }
+        ensures own { IfReady result (λ told. IfOk told (λ ips. AreOwnOf self.new.source family ips.items)) }
         ensures sound { IsSound self.old.source → IsSound self.new.source }
         ensures names { asked_names self.new.source ≡ asked_names self.old.source }
         ensures waits { OnPending result (Covers cx.new (lookup_needs self.new family)) }
@@ -222,6 +223,18 @@ impl<'h, R: Net + RandomSource + Clock> Lookup<'h, R> {
                     Poll::Ready(answer)
                 }
             },
+        }
+    }
+
+    /// The seconds for which the addresses of the family may be kept, once [`poll_answer`](Lookup::poll_answer) has
+    /// told them: the TTL of the name server's answer, at most 2^31 - 1. None where they are of no name server, or
+    /// there are none.
+    pub fn ttl(&self, family: Family) -> Option<u32>
+        ensures { result ≡ ttl_in self.now.source family }
+    {
+        match &self.source {
+            Source::Servers(resolver) => resolver.ttl(family),
+            _ => None,
         }
     }
 }

@@ -14,7 +14,7 @@ use crate::replies::{Question, Reply};
 use crate::setup::Setup;
 use crate::streams::StreamQuery;
 use futures::task::{Context, Poll};
-use he_addr::Ip;
+use he_dns::Answer;
 use std::alloc::Global;
 use std::net::{Net, SocketAddr};
 use std::random::RandomSource;
@@ -87,7 +87,7 @@ impl Query {
         setup: &Setup<'_, R>,
         question: Question<'_>,
         cx: &mut Context<'_>,
-    ) -> Poll<Result<Vec<Ip>, NamesFault>>
+    ) -> Poll<Result<Answer, NamesFault>>
         ensures heard { IfReady result (IsHeardOf question.entry.name.now.octets question.entry.family) }
         ensures waits { OnPending result (Covers cx.new (query_needs self.new)) }
         ensures kept { Keeps cx.old cx.new }
@@ -131,12 +131,12 @@ impl Query {
         reply: Reply,
         setup: &Setup<'_, R>,
         question: Question<'_>,
-    ) -> Option<Result<Vec<Ip>, NamesFault>>
+    ) -> Option<Result<Answer, NamesFault>>
         ensures { (id : _) → RepliesTo id question.entry.name.now.octets question.entry.family reply
             → IfSome result (IsHeardOf question.entry.name.now.octets question.entry.family) }
     {
         match reply {
-            Reply::Addresses(ips) => Some(Ok(ips)),
+            Reply::Addresses(answer) => Some(Ok(answer)),
             Reply::NoAddress => Some(Err(NamesFault::NoAddress)),
             Reply::NoSuchName => Some(Err(NamesFault::NoSuchName)),
             Reply::Memory => Some(Err(NamesFault::Memory)),

@@ -2,11 +2,11 @@
 
 ghost use Rattle.std.specs.Prelude.{◌≡◌, IfSome};
 ghost use Rattle.he_resolver.specs.Heard.{RepliesTo};
-ghost use Rattle.he_resolver.specs.Replies.{ComesTo, TellsAddresses, failure_of, fault_reply};
+ghost use Rattle.he_resolver.specs.Replies.{ComesTo, TellsAnswer, failure_of, fault_reply};
 
 use crate::failure::Failure;
-use he_addr::{Family, Ip};
-use he_dns::{AnswerFault, Name, is_lame, read_answer, read_refusal};
+use he_addr::Family;
+use he_dns::{Answer, AnswerFault, Name, is_lame, read_answer, read_refusal};
 use std::alloc::Global;
 
 // What is asked of a name server.
@@ -19,7 +19,7 @@ pub(crate) struct Question<'n> {
 // What a name server told.
 #[derive(Drop)]
 pub(crate) enum Reply {
-    Addresses(Vec<Ip>),
+    Addresses(Answer),
     NoAddress,
     NoSuchName,
     // Cut off: to be asked again over TCP.
@@ -39,7 +39,7 @@ pub(crate) fn read_reply(
     ensures heard { IfSome result (RepliesTo id question.entry.name.now.octets question.entry.family) }
 {
     match read_answer(alloc, message, id, question.name, question.family) {
-        Ok(ips) => Some(reply_of(message, ips)),
+        Ok(answer) => Some(reply_of(message, answer)),
         Err(AnswerFault::NotOurs) => {
             let code = read_refusal(message, id)?;
             Some(Reply::Failure(failure_of(code)))
@@ -48,11 +48,11 @@ pub(crate) fn read_reply(
     }
 }
 
-fn reply_of(message: &[u8], ips: Vec<Ip>) -> Reply
-    ensures { TellsAddresses message.now ips.items result }
+fn reply_of(message: &[u8], answer: Answer) -> Reply
+    ensures { TellsAnswer message.now answer result }
 {
-    if !ips.is_empty() {
-        return Reply::Addresses(ips);
+    if !answer.addresses.is_empty() {
+        return Reply::Addresses(answer);
     }
     if is_lame(message) {
         Reply::Failure(Failure::Lame)

@@ -7,7 +7,7 @@ ghost use Rattle.he_names.specs.Answers.{IsAnswer};
 ghost use Rattle.he_resolver.specs.declared.fault.NamesFault.TheVariants.{NoSuchName};
 ghost use Rattle.he_resolver.specs.Asking.{IsSame};
 ghost use Rattle.he_resolver.specs.Begins.{AsksFor};
-ghost use Rattle.he_resolver.specs.Heard.{IsFaithful, TellsHeard, names_of};
+ghost use Rattle.he_resolver.specs.Heard.{AreOwn, IsFaithful, TellsHeard, heard_of, names_of, ttl_of};
 ghost use Rattle.he_resolver.specs.Needs.{IsTold, family_of, is_settled, names_needs, other_of, resolver_needs};
 
 use crate::family_lookup::FamilyLookup;
@@ -79,11 +79,22 @@ impl<'h, R: Net + RandomSource + Clock> Resolver<'h, R> {
     pub(crate) fn answer(&self, family: Family) -> Result<Vec<Ip>, NamesFault>
         ensures answer { IfOk result (λ ips. IsAnswer family ips.items) }
         ensures told { IsFaithful self.now → TellsHeard (names_of self.now) family result }
+        ensures own { IfOk result (λ ips. AreOwn (heard_of self.now family) family ips.items) }
     {
         match self.asking(family).told() {
-            Some(Ok(ips)) => Ok(clean_of(self.setup.alloc, family, ips)?),
+            Some(Ok(answer)) => Ok(clean_of(self.setup.alloc, family, &answer.addresses)?),
             Some(Err(fault)) => Err(*fault),
             None => Err(NamesFault::NoAnswer),
+        }
+    }
+
+    // The TTL of the answer that the addresses of the family are of.
+    pub(crate) fn ttl(&self, family: Family) -> Option<u32>
+        ensures { result ≡ ttl_of (heard_of self.now family) }
+    {
+        match self.asking(family).told() {
+            Some(Ok(answer)) => answer.ttl,
+            _ => None,
         }
     }
 

@@ -1,0 +1,5 @@
+use Rattle.std.proofs.Common.{inl, refl}
+use Rattle.he_resolver.proofs.replies.read_reply.Goals as goal
+
+pub returns-in-Ok-clause-comes : goal.returns-in-Ok-clause-comes
+returns-in-Ok-clause-comes c = inl (c.in-Ok.answer, c.reply_of.result, c.in-Ok.ensures.found, c.in-Ok.ensures.ttl, c.reply_of.ensures, refl)
