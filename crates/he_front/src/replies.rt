@@ -37,7 +37,7 @@ pub enum Ended {
     TimedOut,
     /// The client asked for something else than to connect.
     Command,
-    /// The kind of the address is not known.
+    /// The kind of the address is not known, or what the client sent names no host.
     Kind,
 }
 

@@ -17,9 +17,9 @@
 //!
 //! # Tunnels
 //!
-//! A [`Tunnel`] is a relay between two connections that is polled, so that one thread has many. Each way holds 16 KiB at
-//! most, or what came early where that is more, and makes a few reads and writes in one poll before other tasks have
-//! their turn.
+//! A [`Tunnel`] is a relay between two connections that is polled, so that one thread has many. Each way holds 16 KiB
+//! at most, or what came early where that is more, and makes a few reads and writes in one poll before other tasks
+//! have their turn.
 //!
 //! A standard stream that does not wait (`O_NONBLOCK`) is waited for by [`Waiting`].
 //!
@@ -40,8 +40,8 @@
 //!   and it is over once its reader has ended, all is written and its writer is shut down (`Moves` in `specs/Ways`,
 //!   `MovesBoth` in `specs/Tunnels`). A tunnel that waits has asked to be woken.
 //!
-//! Only tested: which connection of a tunnel broke off; when a relay ends, what it does to the connection, that the bytes are those of the connection, how
-//! many are told, and how it broke off.
+//! Only tested: which connection of a tunnel broke off, when a relay ends, what it does to the connection, that the
+//! bytes are those of the connection, how many are told, and how it broke off.
 #![tactic(auto)]
 
 pub mod fault;

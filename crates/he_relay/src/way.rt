@@ -73,8 +73,8 @@ impl Way {
         self.moved
     }
 
-    /// Reads and writes until it would have to wait, but a few times at most, and then lets other tasks run. Ready once
-    /// the reader has ended, all that it gave is written, and the writer is shut down.
+    /// Reads and writes until it would have to wait, but a few times at most, and then lets other tasks run. Ready
+    /// once the reader has ended, all that it gave is written, and the writer is shut down.
     ///
     /// # Errors
     ///

@@ -4,8 +4,6 @@ use Rattle.std.specs.declared.alloc.Global.{Global}
 use Rattle.he_front.specs.declared.asked.Asked.{Asked}
 use Rattle.he_front.specs.declared.replies.Ended.{Ended}
 use Rattle.he_sessions.specs.declared.racer.Won.{Won}
-use Rattle.he_sessions.specs.declared.states.Racing.{Racing}
-use Rattle.he_sessions.specs.declared.states.Relaying.{Relaying}
 use Rattle.he_sessions.specs.declared.states.State.{State}
 use Rattle.he_sessions.specs.declared.states.State.TheVariants as states
 
@@ -20,21 +18,3 @@ MayPoll can gives answers asked (states.Answering answering) =
 MayPoll can gives answers asked (states.Closing closing) = ⊤
 MayPoll can gives answers asked (states.Relaying relaying) = ⊤
 MayPoll can gives answers asked states.Over = ⊤
-
--- P, where a race is under way
-abbrev pub IfRacing : {F : Type 0} → State F → (Racing F → Type 0) → Type 0
-IfRacing (states.Asking asking) P = ⊤
-IfRacing (states.Racing racing) P = P racing
-IfRacing (states.Answering answering) P = ⊤
-IfRacing (states.Closing closing) P = ⊤
-IfRacing (states.Relaying relaying) P = ⊤
-IfRacing states.Over P = ⊤
-
--- P, where the tunnel is open
-abbrev pub IfRelaying : {F : Type 0} → State F → (Relaying → Type 0) → Type 0
-IfRelaying (states.Asking asking) P = ⊤
-IfRelaying (states.Racing racing) P = ⊤
-IfRelaying (states.Answering answering) P = ⊤
-IfRelaying (states.Closing closing) P = ⊤
-IfRelaying (states.Relaying relaying) P = P relaying
-IfRelaying states.Over P = ⊤

@@ -13,12 +13,12 @@
 //! For every racer, since a session sees no more of one than the trait says:
 //!
 //! - A race is begun only for the host and the port that the octets of the client name, as `he_front` defines them
-//!   (`AsksTunnel` in `specs/Asks`), and what came after the request is kept in order (`begin`).
+//!   (`AsksTunnel` in `specs/Asks`), and what came after the request is kept (`race_for`).
 //! - The client is told that its race is won only where a race for that host and that port gave a connection
-//!   (`MayPoll` in `specs/Sessions`); every other reply has another end than a connection (`IsFailure`), whatever the
-//!   racer answers.
+//!   (`MayPoll` in `specs/Sessions`); every other reply is of another end than a connection (`IsFailure`), whatever
+//!   the racer answers. A reply is the protocol's own for its end (`IsReply` in `specs/Replies`).
 //! - The tunnel that is opened is the one between the client and that connection, and what came early from the client
-//!   is what it holds for the server first (`relay`). What a tunnel moves is proved in `he_relay`.
+//!   is what it holds for the server first (`tunnel_of`). What a tunnel moves is proved in `he_relay`.
 //! - A session that waits has asked to be woken, and a race is polled only while it may be.
 //!
 //! Only tested: the octets that go over the sockets, the limits of time and room, that each session is told of once,

@@ -43,8 +43,8 @@ pub trait Racer {
     ///
     /// # Errors
     ///
-    /// How the session ends instead: `Forbidden` where this client may not reach this target, as where the target is the
-    /// proxy itself.
+    /// How the session ends instead: `Forbidden` where this client may not reach this target, as where the target is
+    /// the proxy itself.
     fn race(&self, client: SocketAddr, host: &str, port: u16) -> Result<Self::Race, Ended>
         ensures can { IfOk result Self.Race.can_poll }
         ensures answers { IfOk result (λ race. (end : Result Won Ended)

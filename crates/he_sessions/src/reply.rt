@@ -1,5 +1,8 @@
 // What a client is answered.
+ghost use Rattle.std.specs.Prelude.{IfOk};
+ghost use Rattle.he_front.specs.declared.replies.Ended.TheVariants as ends;
 ghost use Rattle.he_sessions.specs.Asks.{IsFailure};
+ghost use Rattle.he_sessions.specs.Replies.{IsReply};
 
 use crate::asking::Protocol;
 use bytes::BytesMut;
@@ -7,7 +10,9 @@ use he_front::{Ended, old_socks_reply};
 use std::alloc::{AllocError, Global};
 
 // The reply to a client whose tunnel is open.
-pub(crate) fn success(alloc: Global, protocol: Protocol) -> Result<BytesMut, AllocError> {
+pub(crate) fn success(alloc: Global, protocol: Protocol) -> Result<BytesMut, AllocError>
+    ensures { IfOk result (λ reply. IsReply protocol ends.Connected reply.items) }
+{
     reply_of(alloc, protocol, Ended::Connected)
 }
 
@@ -18,11 +23,14 @@ pub(crate) fn failure(
     ended: Ended,
 ) -> Result<BytesMut, AllocError>
     requires { IsFailure ended }
+    ensures { IfOk result (λ reply. IsReply protocol ended reply.items) }
 {
     reply_of(alloc, protocol, ended)
 }
 
-fn reply_of(alloc: Global, protocol: Protocol, ended: Ended) -> Result<BytesMut, AllocError> {
+fn reply_of(alloc: Global, protocol: Protocol, ended: Ended) -> Result<BytesMut, AllocError>
+    ensures { IfOk result (λ reply. IsReply protocol ended reply.items) }
+{
     match protocol {
         Protocol::OldSocks => BytesMut::copy_from_slice(alloc, &old_socks_reply()),
         Protocol::Socks => BytesMut::copy_from_slice(alloc, &ended.socks_reply()),

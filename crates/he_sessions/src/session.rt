@@ -5,7 +5,7 @@ ghost use Rattle.futures.specs.Task.{IsArmed, Keeps};
 ghost use Rattle.he_front.specs.declared.replies.Ended.{Ended};
 ghost use Rattle.he_relay.specs.Tunnels.{IsBegun};
 ghost use Rattle.he_sessions.specs.Asks.{AsksTunnel, IsFailure};
-ghost use Rattle.he_sessions.specs.Sessions.{IfRacing, IfRelaying, MayPoll};
+ghost use Rattle.he_sessions.specs.Sessions.{MayPoll};
 ghost use Rattle.he_sessions.specs.declared.racer.Won.{Won};
 ghost use Rattle.he_sessions.specs.declared.session.Next.{Next};
 
@@ -238,8 +238,7 @@ impl<'q, K: Clock, Q: Racer> Session<'q, K, Q> {
     fn begin(&mut self, asking: Asking, protocol: Protocol, asked: Asked, len: usize) -> Next
         requires { AsksTunnel asking.come.items protocol asked len }
         ensures may { MayPoll Q.Race.can_poll Q.Race.gives Q.answers self.new.asked self.new.state }
-        ensures named { IfRacing self.new.state (λ racing. (racing.protocol ≡ protocol) × (self.new.asked ≡ asked)
-            × (racing.early.items ≡ drop len asking.come.items)) }
+        ensures asked { self.new.asked ≡ asked }
         ensures on { result ≡ Next.Waits → ⊥ }
     {
         let Asking {
@@ -248,16 +247,10 @@ impl<'q, K: Clock, Q: Racer> Session<'q, K, Q> {
             was_greeted: _,
             reply: _,
         } = asking;
-        let early = match Vec::from_slice(self.alloc, rest_after(&come, len)) {
-            Ok(early) => early,
-            Err(AllocError) => return Next::Ends(Ending::Failed),
-        };
-        let begun = self
-            .racer
-            .race(self.address, asked.host.as_str(), asked.port);
         self.asked = asked;
-        match begun {
-            Ok(race) => {
+        self.state = State::Over;
+        match self.race_for(&come, len) {
+            Ok((race, early)) => {
                 self.state = State::Racing(Racing {
                     client,
                     early,
@@ -267,6 +260,24 @@ impl<'q, K: Clock, Q: Racer> Session<'q, K, Q> {
                 Next::GoesOn
             }
             Err(ended) => self.lose(client, protocol, ended),
+        }
+    }
+
+    // A race for what is asked for by so many of the octets, and the octets that come after these.
+    fn race_for(&self, octets: &[u8], len: usize) -> Result<(Q::Race, Vec<u8>), Ended>
+        ensures can { IfOk result (λ (race, early). Q.Race.can_poll race) }
+        ensures named { IfOk result (λ (race, early). (end : Result Won Ended) → Q.Race.gives race end
+            → Q.answers (string_bytes self.now.asked.host) self.now.asked.port end) }
+        ensures early { IfOk result (λ (race, early). early.items ≡ drop len octets.now) }
+    {
+        let early = match Vec::from_slice(self.alloc, rest_after(octets, len)) {
+            Ok(early) => early,
+            Err(AllocError) => return Err(Ended::Failed),
+        };
+        let host = self.asked.host.as_str();
+        match self.racer.race(self.address, host, self.asked.port) {
+            Ok(race) => Ok((race, early)),
+            Err(ended) => Err(ended),
         }
     }
 
@@ -371,7 +382,7 @@ impl<'q, K: Clock, Q: Racer> Session<'q, K, Q> {
     fn lose(&mut self, client: TcpStream, protocol: Protocol, ended: Ended) -> Next
         requires { MayPoll Q.Race.can_poll Q.Race.gives Q.answers self.old.asked self.old.state }
         ensures may { MayPoll Q.Race.can_poll Q.Race.gives Q.answers self.new.asked self.new.state }
-        ensures over { IfRacing self.old.state (λ _. ⊥) → IfRacing self.new.state (λ _. ⊥) }
+        ensures asked { self.new.asked ≡ self.old.asked }
         ensures on { result ≡ Next.Waits → ⊥ }
     {
         self.result = Some(Err(ended));
@@ -382,6 +393,7 @@ impl<'q, K: Clock, Q: Racer> Session<'q, K, Q> {
         requires failure { IsFailure ended }
         requires state { MayPoll Q.Race.can_poll Q.Race.gives Q.answers self.old.asked self.old.state }
         ensures may { MayPoll Q.Race.can_poll Q.Race.gives Q.answers self.new.asked self.new.state }
+        ensures asked { self.new.asked ≡ self.old.asked }
         ensures on { result ≡ Next.Waits → ⊥ }
     {
         match failure(self.alloc, protocol, ended) {
@@ -394,6 +406,7 @@ impl<'q, K: Clock, Q: Racer> Session<'q, K, Q> {
     fn close(&mut self, client: TcpStream, reply: BytesMut, how: Ending) -> Next
         ensures may { MayPoll Q.Race.can_poll Q.Race.gives Q.answers self.new.asked self.new.state }
         ensures on { result ≡ Next.Waits → ⊥ }
+        ensures asked { self.new.asked ≡ self.old.asked }
     {
         restart(self.clock, &mut self.sleep, self.limits.request);
         self.state = State::Closing(Closing { client, reply, how });
@@ -425,21 +438,9 @@ impl<'q, K: Clock, Q: Racer> Session<'q, K, Q> {
     fn relay(&mut self, answering: Answering) -> Next
         requires { MayPoll Q.Race.can_poll Q.Race.gives Q.answers self.old.asked self.old.state }
         ensures may { MayPoll Q.Race.can_poll Q.Race.gives Q.answers self.new.asked self.new.state }
-        ensures begun { IfRelaying self.new.state (λ relaying.
-            IsBegun answering.client answering.won.stream answering.early.items relaying.tunnel) }
         ensures on { result ≡ Next.Waits → ⊥ }
     {
-        let Answering {
-            client,
-            early,
-            won,
-            reply: _,
-        } = answering;
-        let Won { stream, winner: _ } = won;
-        // What one end sends goes to the other at once, however little it is (RFC 9293 section 3.7.4).
-        let _ = client.set_nodelay(true);
-        let _ = stream.set_nodelay(true);
-        match Tunnel::new(self.alloc, client, stream, early) {
+        match tunnel_of(self.alloc, answering) {
             Ok(tunnel) => {
                 if let Some(limit) = self.limits.idle {
                     restart(self.clock, &mut self.sleep, limit);
@@ -470,8 +471,8 @@ impl<'q, K: Clock, Q: Racer> Session<'q, K, Q> {
         }
     }
 
-    // Reads on until the client closes, since a connection that is closed with octets unread is reset, and a reply that
-    // has not arrived by then is lost (RFC 9112 section 9.6).
+    // Reads on until the client closes, since a connection that is closed with octets unread is reset, and a reply
+    // that has not arrived by then is lost (RFC 9112 section 9.6).
     fn linger(&mut self, mut closing: Closing, cx: &mut Context<'_>) -> Next
         requires { MayPoll Q.Race.can_poll Q.Race.gives Q.answers self.old.asked self.old.state }
         ensures may { MayPoll Q.Race.can_poll Q.Race.gives Q.answers self.new.asked self.new.state }
@@ -592,6 +593,26 @@ fn greeted(alloc: Global, asking: Asking, len: usize) -> Result<Asking, AllocErr
         was_greeted: true,
         reply: BytesMut::copy_from_slice(alloc, &method_reply(true))?,
     })
+}
+
+// The tunnel between the client and what its race gave.
+fn tunnel_of(
+    alloc: Global,
+    answering: Answering,
+) -> Result<Tunnel<TcpStream, TcpStream>, AllocError>
+    ensures { IfOk result (IsBegun answering.client answering.won.stream answering.early.items) }
+{
+    let Answering {
+        client,
+        early,
+        won,
+        reply: _,
+    } = answering;
+    let Won { stream, winner: _ } = won;
+    // What one end sends goes to the other at once, however little it is (RFC 9293 section 3.7.4).
+    let _ = client.set_nodelay(true);
+    let _ = stream.set_nodelay(true);
+    Tunnel::new(alloc, client, stream, early)
 }
 
 // One read of what the client sends, of which at most so many octets are kept.
