@@ -1,5 +1,5 @@
 -- What a line asks for of a proxy, as he_proxy has it.
-use Rattle.std.specs.Prelude.{◌≡◌}
+use Rattle.std.specs.Prelude.{◌≡◌, ℕ}
 use Rattle.std.specs.Option.{unwrap_or}
 use Rattle.he_proxy.specs.declared.request.LogForm.{LogForm}
 use Rattle.he_proxy.specs.declared.request.LogForm.TheVariants as forms
@@ -8,12 +8,23 @@ use Rattle.he_proxy.specs.declared.request.TheConstants.{DEFAULT_RECORDS, DEFAUL
 use Rattle.he_request.specs.declared.proxy.Proxy.{Proxy}
 use Rattle.he_request.specs.declared.proxy.SessionLog.{SessionLog}
 use Rattle.he_request.specs.declared.proxy.SessionLog.TheVariants as logs
+use Rattle.he_request.specs.declared.resolver.Resolver.{Resolver}
+use Rattle.he_request.specs.declared.resolver.Resolver.TheVariants as resolvers
+use Rattle.he_tasks.specs.declared.reports.TheConstants.{FAULT, USAGE}
 use Rattle.he_command.specs.Connection.{choice_of, families_of, lines_of}
 
 abbrev pub log_of : SessionLog → LogForm
 log_of logs.Nothing = forms.Silent
 log_of logs.Line = forms.Text
 log_of logs.Json = forms.Json
+
+-- it serves until a fault; the system's resolver is not asked, which is a wrong line
+abbrev pub status_by : Resolver → ℕ
+status_by resolvers.System = USAGE
+status_by other = FAULT
+
+abbrev pub status_of_proxy : Proxy → ℕ
+status_of_proxy proxy = status_by proxy.resolver
 
 -- what is served is what the line gives; where it doesn't say how many, the number that he_proxy has
 pub record IsServed (proxy : Proxy) (request : ProxyRequest) : Type 0 where

@@ -1,35 +1,53 @@
 //! `he proxy`.
 ghost use Rattle.std.specs.Prelude.{◌≡◌};
-ghost use Rattle.he_command.specs.Proxies.{IsServed, log_of};
+ghost use Rattle.he_command.specs.Proxies.{IsServed, log_of, status_of_proxy};
 ghost use Rattle.he_tasks.specs.declared.reports.TheConstants.{FAULT};
 
 use crate::race_request::{choice_of, families_of, lines_of};
 use crate::system::System;
 use he_proxy::{DEFAULT_RECORDS, DEFAULT_SESSIONS, LogForm, ProxyFault, ProxyRequest, serve};
-use he_request::{Proxy, SessionLog};
+use he_request::{Proxy, Resolver, SessionLog};
 use he_stream::OutputStream;
 use he_tasks::reports::{report, report_path};
-use he_tasks::{FAULT, Session};
+use he_tasks::{FAULT, Session, USAGE};
 use std::io::Write;
+
+const NOT_SYSTEM: &[u8] =
+    b"he: a proxy asks name servers alone: `--resolver system` does not go with it\n";
 
 // Serves what the line asks for, until a fault or a signal ends it.
 pub(crate) fn run_proxy<R: System, O: OutputStream, F: Write>(
     session: &mut Session<'_, '_, R, O, F>,
     proxy: &Proxy<'_>,
 ) -> u8
-    ensures status { result ≡ FAULT }
+    ensures status { result ≡ status_of_proxy proxy.now }
     ensures output { session.new.output ≡ session.old.output }
 {
+    if let Resolver::System = proxy.resolver {
+        let _ = session.faults.write_all(NOT_SYSTEM);
+        return USAGE;
+    }
     let request = request_of(proxy);
     match serve(session.system, session.alloc, &request, &mut session.faults) {
         Ok(()) => FAULT,
-        Err(ProxyFault::Record(error)) => report_path(
-            session.alloc,
-            proxy.record.unwrap_or(""),
-            error,
-            &mut session.faults,
-        ),
-        Err(fault) => report(fault, &mut session.faults),
+        Err(fault) => report_fault(session, fault, proxy.record),
+    }
+}
+
+// Says why it does not serve; a fault of the records has the name of their directory.
+fn report_fault<R, O: OutputStream, F: Write>(
+    session: &mut Session<'_, '_, R, O, F>,
+    fault: ProxyFault,
+    record: Option<&str>,
+) -> u8
+    ensures status { result ≡ FAULT }
+    ensures output { session.new.output ≡ session.old.output }
+{
+    match (fault, record) {
+        (ProxyFault::Record(_), Some(path)) => {
+            report_path(session.alloc, path, fault, &mut session.faults)
+        }
+        _ => report(fault, &mut session.faults),
     }
 }
 

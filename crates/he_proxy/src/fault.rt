@@ -4,6 +4,7 @@ use he_connect::ConnectFault;
 use he_live::Reason;
 use std::alloc::{AllocError, AllocFailed};
 use std::io;
+use std::io::ErrorKind;
 use std::net::SocketAddr;
 use thiserror::Error;
 
@@ -11,14 +12,14 @@ use thiserror::Error;
 #[derive(Clone, Copy, Debug, PartialEq, Eq, Error)]
 pub enum ProxyFault {
     /// The address can't be listened at.
-    #[error("cannot listen at {0}")]
-    Listen(SocketAddr),
+    #[error("cannot listen at {0}: {1}")]
+    Listen(SocketAddr, ErrorKind),
     /// The address is open to others, and nobody else is allowed.
     #[error("{0} is open to other machines: say which may come by --allow NETWORK")]
     Open(SocketAddr),
     /// The directory of the records can't be made or read.
-    #[error("cannot make or read the directory of --record")]
-    Record,
+    #[error("cannot keep records there: {0}")]
+    Record(ErrorKind),
     /// The lines of the races can't be read.
     #[error("{0}")]
     Lines(ConnectFault),

@@ -74,7 +74,9 @@ where
         allow: request.allow,
         limits: Limits {
             request: Duration::from_secs(REQUEST),
-            idle: None,
+            idle: request
+                .idle
+                .map(|seconds| Duration::from_secs(u64::from(seconds))),
         },
         beginning: &beginning,
         log: &log,
@@ -142,10 +144,10 @@ fn listen<R: Net>(
     if addresses.is_empty() {
         let first = SocketAddr::new(IpAddr::V4(Ipv4Addr::LOCALHOST), DEFAULT_PORT);
         let second = SocketAddr::new(IpAddr::V6(Ipv6Addr::LOCALHOST), DEFAULT_PORT);
-        let is_first = add_socket(rt, handle, first, &mut sockets, &mut own);
-        let is_second = add_socket(rt, handle, second, &mut sockets, &mut own);
-        if is_first.is_err() && is_second.is_err() {
-            return Err(ProxyFault::Listen(first));
+        let of_first = add_socket(rt, handle, first, &mut sockets, &mut own);
+        let of_second = add_socket(rt, handle, second, &mut sockets, &mut own);
+        if of_second.is_err() {
+            of_first?;
         }
     }
     for address in addresses {
@@ -161,8 +163,9 @@ fn add_socket<R: Net>(
     sockets: &mut SelectAll<Incoming>,
     own: &mut Vec<Place>,
 ) -> Result<(), ProxyFault> {
-    let Ok(listener) = TcpListener::bind(rt, address, handle.reactor()) else {
-        return Err(ProxyFault::Listen(address));
+    let listener = match TcpListener::bind(rt, address, handle.reactor()) {
+        Ok(listener) => listener,
+        Err(error) => return Err(ProxyFault::Listen(address, error.kind())),
     };
     let local = listener.local_addr()?;
     own.push(Place::of(local))?;
@@ -180,6 +183,6 @@ fn open_records<R: Files + AllocGlobal + Copy>(
     };
     match Records::open(rt, alloc, dir, request.record_most) {
         Ok(records) => Ok(Some(records)),
-        Err(_) => Err(ProxyFault::Record),
+        Err(error) => Err(ProxyFault::Record(error.kind())),
     }
 }

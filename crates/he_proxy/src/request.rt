@@ -49,4 +49,6 @@ pub struct ProxyRequest<'a> {
     pub log: LogForm,
     /// How many sessions there are at once, at least 1.
     pub most: u32,
+    /// After how many seconds, at least 1, a tunnel in which no byte moved is closed; with none, none is.
+    pub idle: Option<u32>,
 }
