@@ -153,48 +153,6 @@ impl<'h, R: Net + RandomSource + Clock> Lookup<'h, R> {
         }
     }
 
-    /// The same by name servers, for callers that start no thread: the system's resolver is not called.
-    ///
-    /// # Errors
-    ///
-    /// As those of [`new`](Lookup::new), and `System` where a name is to be asked of the system's resolver.
-    pub fn by_servers(
-        rt: &'h R,
-        alloc: Global,
-        reactor: &'h Handle,
-        timers: &'h tokio::time::Handle,
-        wanted: Wanted<'_>,
-    ) -> Result<Lookup<'h, R>, NamesFault>
-    where
-        R: Files + AllocGlobal,
-        ensures begins { IfOk result (λ lookup. BeginsFor wanted.entry.host.now wanted.entry.choice wanted.entry.only
-            lookup.source) }
-        ensures sound { IfOk result (λ lookup. IsSound lookup.source) }
-    {
-        let log = LookupLog::new(rt, alloc)?;
-        let target = read_host(alloc, wanted.host)?;
-        if let Some(known) = known_to(rt, alloc, &target, wanted.choice)? {
-            note_known(rt, &log, &known);
-            return Ok(Lookup::with(rt, alloc, Source::Known(Ok(known)), log));
-        }
-        match (target, wanted.choice) {
-            (_, Choice::System) => Err(NamesFault::System),
-            (Target::Name(name), choice) => {
-                let setup = Setup {
-                    rt,
-                    alloc,
-                    reactor,
-                    timers,
-                    plan: plan_for(rt, alloc, name.as_bytes(), choice)?,
-                    log: log.share()?,
-                };
-                let resolver = Resolver::new(setup, wanted.only);
-                Ok(Lookup::with(rt, alloc, Source::Servers(resolver), log))
-            }
-            _ => Err(NamesFault::Host(HostFault::Special(SpecialUse::Local))),
-        }
-    }
-
     fn with(rt: &'h R, alloc: Global, source: Source<'h, R>, log: LookupLog) -> Lookup<'h, R>
         ensures { result.source ≡ source.entry }
     {
