@@ -50,6 +50,7 @@ pub mod request;
 pub mod server;
 pub mod sockets;
 mod stamp;
+pub mod state;
 #[cfg(test)]
 mod tests;
 

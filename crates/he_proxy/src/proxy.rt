@@ -1,5 +1,6 @@
 //! The proxy: its sockets, and the loop that serves.
 
+ghost use Rattle.std.specs.Prelude.{IfOk};
 ghost use Rattle.futures.specs.Runs.{AllItems};
 
 use crate::access::{Place, is_loopback};
@@ -13,6 +14,7 @@ use crate::record::Records;
 use crate::request::{DEFAULT_PORT, ProxyRequest};
 use crate::server::Server;
 use crate::sockets::SharedLoop;
+use crate::state::ProxyState;
 use futures::stream::SelectAll;
 use futures::{Future, Stream, StreamExt};
 use he_sessions::Limits;
@@ -49,24 +51,40 @@ where
     refuse_open(request)?;
     let mut runtime = LocalRuntime::new(rt)?;
     let handle = runtime.handle().clone()?;
+    let (sockets, own) = listen(rt, alloc, &handle, request.listen)?;
+    let state = ProxyState {
+        own,
+        records: open_records(rt, alloc, request)?,
+        recent: Recent::new(alloc),
+        beginning: Beginning::new(),
+        log: Log::new(alloc, request.log, faults),
+    };
     let shared = SharedLoop {
-        rt,
+        rt: &*rt,
         alloc,
         handle: &handle,
     };
-    let (sockets, own) = listen(shared, request.listen)?;
-    let records = open_records(rt, alloc, request)?;
-    let log = Log::new(alloc, request.log, faults);
-    let recent = Recent::new(alloc);
-    let beginning = Beginning::new();
+    race_sessions(&mut runtime, shared, &*request, &state, sockets)?;
+    Err(ProxyFault::Runtime)
+}
+
+// Serves the clients of the sockets, with races over them.
+fn race_sessions<'x, R, F>(
+    runtime: &mut LocalRuntime,
+    shared: SharedLoop<'x, R>,
+    request: &'x ProxyRequest<'x>,
+    state: &'x ProxyState<F>,
+    sockets: SelectAll<Incoming>,
+) -> io::Result<()>
+where
+    F: Write + Drop,
+    R: Wait + Clock + RandomSource + AllocGlobal + Net + Files + Copy,
+    requires { ⟦<SelectAll<Incoming> as Stream>⟧.can_poll sockets }
+{
     let racer = LoopRacer {
         shared,
         request,
-        own: own.as_slice(),
-        records: records.as_ref(),
-        recent: &recent,
-        beginning: &beginning,
-        log: &log,
+        state,
     };
     let server = Server {
         shared,
@@ -76,11 +94,9 @@ where
             request: Duration::from_secs(REQUEST),
             idle: None,
         },
-        beginning: &beginning,
-        log: &log,
+        state: &*state,
     };
-    serve_sockets(&mut runtime, shared, &server, sockets, request.most)?;
-    Err(ProxyFault::Runtime)
+    serve_sockets(runtime, shared, &server, sockets, request.most)
 }
 
 // Serves the clients of the sockets, so many at once.
@@ -133,10 +149,13 @@ fn refuse_open(request: &ProxyRequest<'_>) -> Result<(), ProxyFault> {
 
 // Listens at the addresses; with none, at loopback's, of which one is enough.
 fn listen<R: Net>(
-    shared: SharedLoop<'_, R>,
+    rt: &R,
+    alloc: Global,
+    handle: &Handle,
     addresses: &[SocketAddr],
-) -> Result<(SelectAll<Incoming>, Vec<Place>), ProxyFault> {
-    let SharedLoop { rt, alloc, handle } = shared;
+) -> Result<(SelectAll<Incoming>, Vec<Place>), ProxyFault>
+    ensures { IfOk result (λ listening. ⟦<SelectAll<Incoming> as Stream>⟧.can_poll listening.0) }
+{
     let mut sockets = SelectAll::new(alloc)?;
     let mut own = Vec::new(alloc);
     if addresses.is_empty() {
@@ -160,7 +179,10 @@ fn add_socket<R: Net>(
     address: SocketAddr,
     sockets: &mut SelectAll<Incoming>,
     own: &mut Vec<Place>,
-) -> Result<(), ProxyFault> {
+) -> Result<(), ProxyFault>
+    requires { ⟦<SelectAll<Incoming> as Stream>⟧.can_poll sockets.old }
+    ensures { ⟦<SelectAll<Incoming> as Stream>⟧.can_poll sockets.new }
+{
     let Ok(listener) = TcpListener::bind(rt, address, handle.reactor()) else {
         return Err(ProxyFault::Listen(address));
     };
