@@ -32,8 +32,8 @@ use tokio::runtime::{Handle, LocalRuntime};
 // How many seconds a client has for its request.
 const REQUEST: u64 = 10;
 
-/// Serves clients of SOCKS 5 and HTTP CONNECT: what they ask for is raced for by RFC 8305 and relayed. It goes on until
-/// a signal ends the process. What becomes of sessions is written to `faults`, as the request says.
+/// Serves clients of SOCKS 5 and HTTP CONNECT: what they ask for is raced for by RFC 8305 and relayed. It goes on
+/// until a signal ends the process. What becomes of sessions is written to `faults`, as the request says.
 ///
 /// # Errors
 ///

@@ -91,7 +91,8 @@ where
         reach: Reach<'h>,
     ) -> Result<LoopRace<'h, R, SocketRace<'h, R>>, ConnectFault>
         ensures can { IfOk result (λ race. ⟦<SocketRace<'h, R> as Future>⟧.can_poll race.race) }
-        ensures runs { IfOk result (λ race. (raced : _) → ⟦<SocketRace<'h, R> as Future>⟧.gives race.race (Ok raced)
+        ensures runs { IfOk result (λ race. (raced : _)
+            → ⟦<SocketRace<'h, R> as Future>⟧.gives race.race (Ok raced)
             → RunsFrom setup.now.request setup.now.start setup.now.to reach raced) }
     {
         let noted = Noted::new(self.shared.alloc)?;
