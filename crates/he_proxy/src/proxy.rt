@@ -2,6 +2,7 @@
 
 ghost use Rattle.std.specs.Prelude.{IfOk};
 ghost use Rattle.futures.specs.Runs.{AllItems};
+ghost use Rattle.he_proxy.specs.Sockets.{MayAccept};
 
 use crate::access::{Place, is_loopback};
 use crate::beginning::Beginning;
@@ -79,7 +80,7 @@ fn race_sessions<'x, R, F>(
 where
     F: Write + Drop,
     R: Wait + Clock + RandomSource + AllocGlobal + Net + Files + Copy,
-    requires { ⟦<SelectAll<Incoming> as Stream>⟧.can_poll sockets }
+    requires { MayAccept sockets }
 {
     let racer = LoopRacer {
         shared,
@@ -154,7 +155,7 @@ fn listen<R: Net>(
     handle: &Handle,
     addresses: &[SocketAddr],
 ) -> Result<(SelectAll<Incoming>, Vec<Place>), ProxyFault>
-    ensures { IfOk result (λ listening. ⟦<SelectAll<Incoming> as Stream>⟧.can_poll listening.0) }
+    ensures { IfOk result (λ listening. MayAccept listening.0) }
 {
     let mut sockets = SelectAll::new(alloc)?;
     let mut own = Vec::new(alloc);
@@ -180,8 +181,8 @@ fn add_socket<R: Net>(
     sockets: &mut SelectAll<Incoming>,
     own: &mut Vec<Place>,
 ) -> Result<(), ProxyFault>
-    requires { ⟦<SelectAll<Incoming> as Stream>⟧.can_poll sockets.old }
-    ensures { ⟦<SelectAll<Incoming> as Stream>⟧.can_poll sockets.new }
+    requires { MayAccept sockets.old }
+    ensures { MayAccept sockets.new }
 {
     let Ok(listener) = TcpListener::bind(rt, address, handle.reactor()) else {
         return Err(ProxyFault::Listen(address));
