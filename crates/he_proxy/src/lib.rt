@@ -16,16 +16,22 @@
 //!
 //! # What is proved
 //!
+//! The crate is not checked as a whole yet. Proved by itself is:
+//!
 //! - Which clients are served, and which addresses their races reach: [`is_served`](access::is_served) and
 //!   [`Reach::has`](access::Reach::has) answer what `specs/Access` says, in the RFCs' networks.
+//! - The stream of clients that is pending has registered for what it waits for, or asked to be polled again; each
+//!   session that it gives may be polled.
+//!
+//! Stated in contracts, and not proved yet:
+//!
 //! - What a session is handed out is the winner of a race for the host and the port that it names, which began as
 //!   `he_connect` has it, with the settings, families, lines and resolver of the proxy: its record keeps what it began
 //!   with and replays to its transcript, and its answers are of the names that are asked for the host. The address,
 //!   the time and what was lost are those of that record, and the connection was asked for at that address and port,
 //!   which the client's races reach: never the proxy itself, and none that is not public for a client from elsewhere
 //!   (`IsWonBy` in `specs/Races`, `GoesTo` in `specs/Dials`).
-//! - A race, and the stream of clients, that is pending has registered for what it waits for, or asked to be polled
-//!   again.
+//! - A race that is pending has registered for what it waits for, or asked to be polled again.
 //!
 //! All promise this if they return: they wait for the system.
 //!
