@@ -93,7 +93,7 @@ where
         ensures can { IfOk result (λ race. ⟦<SocketRace<'h, R> as Future>⟧.can_poll race.race) }
         ensures runs { IfOk result (λ race. (raced : _)
             → ⟦<SocketRace<'h, R> as Future>⟧.gives race.race (Ok raced)
-            → RunsFrom setup.now.request setup.now.start setup.now.to reach raced) }
+            → RunsFrom setup.now.request setup.now.start setup.now.to reach.entry raced) }
     {
         let noted = Noted::new(self.shared.alloc)?;
         let race = socket_race(self.shared, setup, reach, &noted)?;
