@@ -1,3 +1,4 @@
 pub mod Access
 pub mod Dials
 pub mod Races
+pub mod Sockets

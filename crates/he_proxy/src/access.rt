@@ -46,8 +46,8 @@ fn loopback_networks() -> [Prefix; 2]
 }
 
 /// The networks of this machine, its links and its site: this host (RFC 1122 section 3.2.1.3), private (RFC 1918),
-/// link-local (RFC 3927), shared (RFC 6598); and of IPv6 the unspecified address, unique local (RFC 4193) and link-local
-/// (RFC 4291 section 2.5.6).
+/// link-local (RFC 3927), shared (RFC 6598); and of IPv6 the unspecified address, unique local (RFC 4193) and
+/// link-local (RFC 4291 section 2.5.6).
 fn private_networks() -> [Prefix; 9]
     ensures { result ≡ private_networks }
 {
@@ -78,7 +78,8 @@ pub fn is_loopback(ip: Ip) -> bool
     is_within(ip, &loopback_networks())
 }
 
-/// Whether a client of this address is served: each of this machine is, others where a network that is allowed has them.
+/// Whether a client of this address is served: each of this machine is, others where a network that is allowed has
+/// them.
 pub fn is_served(client: Ip, allow: &[Prefix]) -> bool
     ensures { result ≡ is_served client allow.now }
 {

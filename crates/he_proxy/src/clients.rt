@@ -13,8 +13,8 @@ use std::time::{Clock, Duration, Instant};
 use tokio::net::TcpStream;
 use tokio::time::{Handle, Sleep};
 
-// How many milliseconds nobody is accepted where this machine could make no socket for a client, as where no descriptor
-// is left.
+// How many milliseconds nobody is accepted where this machine could make no socket for a client, as where no
+// descriptor is left.
 const REST: u64 = 1_000;
 
 // And where as many sessions begin as may.

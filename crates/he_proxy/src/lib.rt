@@ -1,30 +1,37 @@
 //! A proxy for SOCKS 5 (RFC 1928) and HTTP CONNECT (RFC 9110 section 9.3.6) that races the addresses of what its
 //! clients ask for by RFC 8305, and relays.
 //!
-//! [`serve`] listens, and runs each client's session (`he_sessions`) as one task of many in one event loop. A session's
-//! race is the one that `he connect` runs: it begins as `he_connect` sets it up, takes its ticks from `he_live`, and its
-//! turns are those of `he_race`. Its record is a file of its own in the directory that is asked for, which `he replay`
-//! reads. Each session is a line on standard error; `GET /` has the last hundred races as a page, and `GET /proxy.pac`
-//! the auto-config text of the proxy.
+//! [`serve`] listens, and runs each client's session (`he_sessions`) as one task of many in one event loop. A
+//! session's race is the one that `he connect` runs: it begins as `he_connect` sets it up, takes its ticks from
+//! `he_live`, and its turns are those of `he_race`. Its record is a file of its own in the directory that is asked
+//! for, which `he replay` reads. Each session is a line on standard error; `GET /` has the last hundred races as a
+//! page, and `GET /proxy.pac` the auto-config text of the proxy.
 //!
 //! # Whom it serves, and what it reaches
 //!
 //! Clients of this machine, and those of the networks that are allowed; others are closed at once. An address that is
 //! open to others is listened at only where a network is allowed. No race connects to the proxy itself. A client from
-//! elsewhere reaches public addresses alone, unless private ones are allowed; also where a name leads to a private one.
+//! elsewhere reaches public addresses alone, unless private ones are allowed; also where a name leads to a private
+//! one.
 //!
 //! # What is proved
 //!
+//! The crate is not checked as a whole yet. Proved by itself is:
+//!
 //! - Which clients are served, and which addresses their races reach: [`is_served`](access::is_served) and
 //!   [`Reach::has`](access::Reach::has) answer what `specs/Access` says, in the RFCs' networks.
+//! - The stream of clients that is pending has registered for what it waits for, or asked to be polled again; each
+//!   session that it gives may be polled.
+//!
+//! Stated in contracts, and not proved yet:
+//!
 //! - What a session is handed out is the winner of a race for the host and the port that it names, which began as
 //!   `he_connect` has it, with the settings, families, lines and resolver of the proxy: its record keeps what it began
-//!   with and replays to its transcript, and its answers are of the names that are asked for the host. The address, the
-//!   time and what was lost are those of that record, and the connection was asked for at that address and port,
+//!   with and replays to its transcript, and its answers are of the names that are asked for the host. The address,
+//!   the time and what was lost are those of that record, and the connection was asked for at that address and port,
 //!   which the client's races reach: never the proxy itself, and none that is not public for a client from elsewhere
 //!   (`IsWonBy` in `specs/Races`, `GoesTo` in `specs/Dials`).
-//! - A race, and the stream of clients, that is pending has registered for what it waits for, or asked to be polled
-//!   again.
+//! - A race that is pending has registered for what it waits for, or asked to be polled again.
 //!
 //! All promise this if they return: they wait for the system.
 //!
@@ -50,6 +57,7 @@ pub mod request;
 pub mod server;
 pub mod sockets;
 mod stamp;
+pub mod state;
 #[cfg(test)]
 mod tests;
 

@@ -15,8 +15,8 @@ pub struct Asked<'a> {
     pub is_near: bool,
 }
 
-/// Appends the response: the page that is asked for, to a client of this machine that names the proxy itself; else that
-/// there is none, with a line that says how to use the proxy.
+/// Appends the response: the page that is asked for, to a client of this machine that names the proxy itself; else
+/// that there is none, with a line that says how to use the proxy.
 ///
 /// # Errors
 ///

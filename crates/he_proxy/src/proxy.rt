@@ -1,6 +1,8 @@
 //! The proxy: its sockets, and the loop that serves.
 
+ghost use Rattle.std.specs.Prelude.{IfOk};
 ghost use Rattle.futures.specs.Runs.{AllItems};
+ghost use Rattle.he_proxy.specs.Sockets.{MayAccept};
 
 use crate::access::{Place, is_loopback};
 use crate::beginning::Beginning;
@@ -13,6 +15,7 @@ use crate::record::Records;
 use crate::request::{DEFAULT_PORT, ProxyRequest};
 use crate::server::Server;
 use crate::sockets::SharedLoop;
+use crate::state::ProxyState;
 use futures::stream::SelectAll;
 use futures::{Future, Stream, StreamExt};
 use he_sessions::Limits;
@@ -30,8 +33,8 @@ use tokio::runtime::{Handle, LocalRuntime};
 // How many seconds a client has for its request.
 const REQUEST: u64 = 10;
 
-/// Serves clients of SOCKS 5 and HTTP CONNECT: what they ask for is raced for by RFC 8305 and relayed. It goes on until
-/// a signal ends the process. What becomes of sessions is written to `faults`, as the request says.
+/// Serves clients of SOCKS 5 and HTTP CONNECT: what they ask for is raced for by RFC 8305 and relayed. It goes on
+/// until a signal ends the process. What becomes of sessions is written to `faults`, as the request says.
 ///
 /// # Errors
 ///
@@ -49,24 +52,40 @@ where
     refuse_open(request)?;
     let mut runtime = LocalRuntime::new(rt)?;
     let handle = runtime.handle().clone()?;
+    let (sockets, own) = listen(rt, alloc, &handle, request.listen)?;
+    let state = ProxyState {
+        own,
+        records: open_records(rt, alloc, request)?,
+        recent: Recent::new(alloc),
+        beginning: Beginning::new(),
+        log: Log::new(alloc, request.log, faults),
+    };
     let shared = SharedLoop {
-        rt,
+        rt: &*rt,
         alloc,
         handle: &handle,
     };
-    let (sockets, own) = listen(shared, request.listen)?;
-    let records = open_records(rt, alloc, request)?;
-    let log = Log::new(alloc, request.log, faults);
-    let recent = Recent::new(alloc);
-    let beginning = Beginning::new();
+    race_sessions(&mut runtime, shared, &*request, &state, sockets)?;
+    Err(ProxyFault::Runtime)
+}
+
+// Serves the clients of the sockets, with races over them.
+fn race_sessions<'x, R, F>(
+    runtime: &mut LocalRuntime,
+    shared: SharedLoop<'x, R>,
+    request: &'x ProxyRequest<'x>,
+    state: &'x ProxyState<F>,
+    sockets: SelectAll<Incoming>,
+) -> io::Result<()>
+where
+    F: Write + Drop,
+    R: Wait + Clock + RandomSource + AllocGlobal + Net + Files + Copy,
+    requires { MayAccept sockets }
+{
     let racer = LoopRacer {
         shared,
         request,
-        own: own.as_slice(),
-        records: records.as_ref(),
-        recent: &recent,
-        beginning: &beginning,
-        log: &log,
+        state,
     };
     let server = Server {
         shared,
@@ -78,11 +97,9 @@ where
                 .idle
                 .map(|seconds| Duration::from_secs(u64::from(seconds))),
         },
-        beginning: &beginning,
-        log: &log,
+        state: &*state,
     };
-    serve_sockets(&mut runtime, shared, &server, sockets, request.most)?;
-    Err(ProxyFault::Runtime)
+    serve_sockets(runtime, shared, &server, sockets, request.most)
 }
 
 // Serves the clients of the sockets, so many at once.
@@ -135,10 +152,13 @@ fn refuse_open(request: &ProxyRequest<'_>) -> Result<(), ProxyFault> {
 
 // Listens at the addresses; with none, at loopback's, of which one is enough.
 fn listen<R: Net>(
-    shared: SharedLoop<'_, R>,
+    rt: &R,
+    alloc: Global,
+    handle: &Handle,
     addresses: &[SocketAddr],
-) -> Result<(SelectAll<Incoming>, Vec<Place>), ProxyFault> {
-    let SharedLoop { rt, alloc, handle } = shared;
+) -> Result<(SelectAll<Incoming>, Vec<Place>), ProxyFault>
+    ensures { IfOk result (λ listening. MayAccept listening.0) }
+{
     let mut sockets = SelectAll::new(alloc)?;
     let mut own = Vec::new(alloc);
     if addresses.is_empty() {
@@ -162,7 +182,10 @@ fn add_socket<R: Net>(
     address: SocketAddr,
     sockets: &mut SelectAll<Incoming>,
     own: &mut Vec<Place>,
-) -> Result<(), ProxyFault> {
+) -> Result<(), ProxyFault>
+    requires { MayAccept sockets.old }
+    ensures { MayAccept sockets.new }
+{
     let listener = match TcpListener::bind(rt, address, handle.reactor()) {
         Ok(listener) => listener,
         Err(error) => return Err(ProxyFault::Listen(address, error.kind())),

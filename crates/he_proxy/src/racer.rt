@@ -2,17 +2,14 @@
 ghost use Rattle.std.specs.Prelude.{◌≡◌, IfOk, Ok};
 ghost use Rattle.he_proxy.specs.Races.{AsksFor, HandsOut, IsReachOf, IsWonBy, RunsFrom, Wins};
 
-use crate::access::{Place, Reach, ip_of, is_loopback};
-use crate::beginning::Beginning;
+use crate::access::{Reach, ip_of, is_loopback};
 use crate::keeping::{Keeping, nameless_end};
-use crate::log::Log;
 use crate::pages::{Asked, write_answer};
 use crate::race::LoopRace;
-use crate::recent::Recent;
-use crate::record::Records;
 use crate::request::ProxyRequest;
 use crate::sockets::{Noted, SharedLoop, SocketRace, socket_race};
 use crate::stamp::stamp_now;
+use crate::state::ProxyState;
 use futures::Future;
 use he_addr::Memory;
 use he_connect::{ConnectFault, ConnectRequest, Setup, set_up};
@@ -32,12 +29,7 @@ use std::time::Clock;
 pub struct LoopRacer<'h, R, F: Drop> {
     pub shared: SharedLoop<'h, R>,
     pub request: &'h ProxyRequest<'h>,
-    /// The places that the proxy listens at.
-    pub own: &'h [Place],
-    pub records: Option<&'h Records>,
-    pub recent: &'h Recent,
-    pub beginning: &'h Beginning,
-    pub log: &'h Log<F>,
+    pub state: &'h ProxyState<F>,
 }
 
 impl<'h, R, F> LoopRacer<'h, R, F>
@@ -47,10 +39,10 @@ where
 {
     // What the client's races may connect to.
     fn reach_of(&self, client: SocketAddr) -> Reach<'h>
-        ensures { IsReachOf self.now.own self.now.request.now.allows_private client result }
+        ensures { IsReachOf self.now.state.now.own.items self.now.request.now.allows_private client result }
     {
         Reach {
-            own: self.own,
+            own: self.state.own.as_slice(),
             is_wide: self.request.allows_private || is_loopback(ip_of(client.ip())),
         }
     }
@@ -81,7 +73,8 @@ where
         port: u16,
     ) -> Result<LoopRace<'h, R, SocketRace<'h, R>>, ConnectFault>
         ensures can { IfOk result (λ race. ⟦<SocketRace<'h, R> as Future>⟧.can_poll race.race) }
-        ensures wins { IfOk result (λ race. Wins (IsWonBy self.now.request.now self.now.own.now client host.now port)
+        ensures wins { IfOk result (λ race. Wins (IsWonBy self.now.request.now self.now.state.now.own.items client
+            host.now port)
             (HandsOut (⟦<SocketRace<'h, R> as Future>⟧.gives race.race))) }
     {
         let request = self.request_for(host, port);
@@ -98,8 +91,9 @@ where
         reach: Reach<'h>,
     ) -> Result<LoopRace<'h, R, SocketRace<'h, R>>, ConnectFault>
         ensures can { IfOk result (λ race. ⟦<SocketRace<'h, R> as Future>⟧.can_poll race.race) }
-        ensures runs { IfOk result (λ race. (raced : _) → ⟦<SocketRace<'h, R> as Future>⟧.gives race.race (Ok raced)
-            → RunsFrom setup.now.request setup.now.start setup.now.to reach raced) }
+        ensures runs { IfOk result (λ race. (raced : _)
+            → ⟦<SocketRace<'h, R> as Future>⟧.gives race.race (Ok raced)
+            → RunsFrom setup.now.request setup.now.start setup.now.to reach.entry raced) }
     {
         let noted = Noted::new(self.shared.alloc)?;
         let race = socket_race(self.shared, setup, reach, &noted)?;
@@ -119,8 +113,8 @@ where
         };
         Ok(Keeping {
             shared: self.shared,
-            records: self.records,
-            recent: self.recent,
+            records: self.state.records.as_ref(),
+            recent: &self.state.recent,
             began,
             host: String::from_str(alloc, request.host)?,
             port: request.port,
@@ -144,7 +138,7 @@ where
     ghost answers = { λ host port end. IfOk end (IsWonAt host port) };
 
     fn race(&self, client: SocketAddr, host: &str, port: u16) -> Result<Self::Race, Ended> {
-        self.beginning.remove();
+        self.state.beginning.remove();
         match self.begin(client, host, port) {
             Ok(race) => Ok(race),
             Err(ConnectFault::Name(fault)) => Err(nameless_end(fault)),
@@ -164,7 +158,13 @@ where
             host,
             is_near: is_loopback(ip_of(client.ip())),
         };
-        match write_answer(self.shared.alloc, self.own, self.recent, asked, out) {
+        match write_answer(
+            self.shared.alloc,
+            self.state.own.as_slice(),
+            &self.state.recent,
+            asked,
+            out,
+        ) {
             Ok(()) => Ok(()),
             Err(Memory) => Err(AllocError),
         }
@@ -172,8 +172,8 @@ where
 
     fn ended(&self, end: &SessionEnd<'_>) {
         if end.host.is_empty() {
-            self.beginning.remove();
+            self.state.beginning.remove();
         }
-        self.log.tell(self.shared.rt, end);
+        self.state.log.tell(self.shared.rt, end);
     }
 }

@@ -3,7 +3,7 @@
 use he_files::create_beside;
 use std::alloc::{AllocGlobal, Global};
 use std::cell::Cell;
-use std::fs::{create_dir, create_dir_all, exists, read_dir, remove_dir, remove_file};
+use std::fs::{create_dir_all, exists, read_dir, remove_dir, remove_file};
 use std::io;
 use std::io::{ErrorKind, Write};
 use std::random::RandomSource;
@@ -80,7 +80,7 @@ impl Records {
         let alloc = self.alloc;
         let dir = self.dir.as_str();
         let day = format!(in alloc; "{dir}/{date}")?;
-        make_day(rt, day.as_str())?;
+        create_dir_all(rt, day.as_str())?;
         let stem = stem_of(alloc, day.as_str(), time, name)?;
         let path = free_path(rt, alloc, stem.as_str())?;
         write_file(rt, alloc, path.as_str(), text)?;
@@ -106,13 +106,6 @@ impl Records {
             let _ = remove_dir(rt, day.as_str());
         }
         Ok(())
-    }
-}
-
-fn make_day<R: Files>(rt: &R, path: &str) -> io::Result<()> {
-    match create_dir(rt, path) {
-        Err(error) if error.kind() != ErrorKind::AlreadyExists => Err(error),
-        _ => Ok(()),
     }
 }
 

@@ -28,7 +28,8 @@ pub enum LogForm {
 /// A proxy that is asked for.
 #[derive(Clone, Copy)]
 pub struct ProxyRequest<'a> {
-    /// The addresses to listen at. With none these are 127.0.0.1 and ::1 at [`DEFAULT_PORT`], and one of them is enough.
+    /// The addresses to listen at. With none these are 127.0.0.1 and ::1 at [`DEFAULT_PORT`], and one of them is
+    /// enough.
     pub listen: &'a [SocketAddr],
     /// From where clients may come, beside this machine.
     pub allow: &'a [Prefix],
@@ -39,8 +40,8 @@ pub struct ProxyRequest<'a> {
     pub settings: Settings,
     /// Where each race has its `source`, `route` and `policy` lines from.
     pub lines: Lines<'a>,
-    /// Which name servers are asked for the addresses of hosts. The system's resolver is not called: with it a name that
-    /// the file of hosts lacks has no address.
+    /// Which name servers are asked for the addresses of hosts. The system's resolver is not called: with it a name
+    /// that the file of hosts lacks has no address.
     pub resolver: Choice,
     /// The directory of the records of the races; with none, no race is recorded.
     pub record: Option<&'a str>,

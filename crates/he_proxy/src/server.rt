@@ -2,10 +2,9 @@
 ghost use Rattle.std.specs.Prelude.{IfSome};
 
 use crate::access::{ip_of, is_served};
-use crate::beginning::Beginning;
 use crate::clients::Service;
-use crate::log::Log;
 use crate::sockets::SharedLoop;
+use crate::state::ProxyState;
 use he_addr::Prefix;
 use he_live::Reason;
 use he_sessions::{Limits, Racer, Session};
@@ -22,8 +21,7 @@ pub struct Server<'q, K, Q, F: Drop> {
     /// From where clients may come, beside this machine.
     pub allow: &'q [Prefix],
     pub limits: Limits,
-    pub beginning: &'q Beginning,
-    pub log: &'q Log<F>,
+    pub state: &'q ProxyState<F>,
 }
 
 impl<'q, K: Clock, Q: Racer, F: Write + Drop> Service for Server<'q, K, Q, F> {
@@ -37,7 +35,7 @@ impl<'q, K: Clock, Q: Racer, F: Write + Drop> Service for Server<'q, K, Q, F> {
         let (timers, racer) = (handle.time(), self.racer);
         match Session::new(rt, alloc, timers, racer, client, address, self.limits) {
             Ok(session) => {
-                self.beginning.add();
+                self.state.beginning.add();
                 Some(session)
             }
             Err(_) => None,
@@ -45,10 +43,10 @@ impl<'q, K: Clock, Q: Racer, F: Write + Drop> Service for Server<'q, K, Q, F> {
     }
 
     fn is_full(&self) -> bool {
-        self.beginning.is_full()
+        self.state.beginning.is_full()
     }
 
     fn tell_rest(&self, _why: Reason) {
-        self.log.say("no descriptor is left for another client: waiting until one is");
+        self.state.log.say("no descriptor is left for another client: waiting until one is");
     }
 }

@@ -93,7 +93,7 @@ where
     R: Clock + RandomSource + AllocGlobal + Net + Files + Copy,
     ensures can { IfOk result ⟦<SocketRace<'h, R> as Future>⟧.can_poll }
     ensures runs { IfOk result (λ race. (raced : _) → ⟦<SocketRace<'h, R> as Future>⟧.gives race (Ok raced)
-        → RunsFrom setup.now.request setup.now.start setup.now.to reach raced) }
+        → RunsFrom setup.now.request setup.now.start setup.now.to reach.entry raced) }
 {
     let SharedLoop { rt, alloc, handle } = shared;
     let start = Instant::now(rt)?;
