@@ -96,8 +96,8 @@ where
             → RunsFrom setup.now.request setup.now.start setup.now.to reach.entry raced) }
     {
         let noted = Noted::new(self.shared.alloc)?;
-        let race = socket_race(self.shared, setup, reach, &noted)?;
         let keeping = self.keeping(&setup.request, reach, noted)?;
+        let race = socket_race(self.shared, setup, reach, &keeping.noted)?;
         Ok(LoopRace::new(race, keeping))
     }
 
