@@ -2,7 +2,7 @@
 ghost use Rattle.std.specs.Prelude.{◌≡◌};
 ghost use Rattle.std.specs.List.{list_any};
 ghost use Rattle.he_addr.specs.Prefix.{contains};
-ghost use Rattle.he_live.specs.Dials.{IsAddressOf};
+ghost use Rattle.he_addr.specs.Text.{ip_of};
 ghost use Rattle.he_proxy.specs.Access.{is_own, is_served, is_within, is_public, is_unspecified, leads_to, loopback_networks, may_reach, meets, private_networks};
 
 use he_addr::{Ip, Prefix};
@@ -30,7 +30,7 @@ impl Place {
 
 /// The address as `he_addr` has it.
 pub fn ip_of(ip: IpAddr) -> Ip
-    ensures { IsAddressOf result ip }
+    ensures { result ≡ ip_of ip }
 {
     match ip {
         IpAddr::V4(ip) => Ip::V4(ip.to_bits()),

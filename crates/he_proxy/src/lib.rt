@@ -16,24 +16,21 @@
 //!
 //! # What is proved
 //!
-//! The crate is not checked as a whole yet. Proved by itself is:
-//!
 //! - Which clients are served, and which addresses their races reach: [`is_served`](access::is_served) and
-//!   [`Reach::has`](access::Reach::has) answer what `specs/Access` says, in the RFCs' networks.
-//! - The stream of clients that is pending has registered for what it waits for, or asked to be polled again; each
-//!   session that it gives may be polled.
-//!
-//! Stated in contracts, and not proved yet:
-//!
-//! - What a session is handed out is the winner of a race for the host and the port that it names, which began as
-//!   `he_connect` has it, with the settings, families, lines and resolver of the proxy: its record keeps what it began
-//!   with and replays to its transcript, and its answers are of the names that are asked for the host. The address,
-//!   the time and what was lost are those of that record, and the connection was asked for at that address and port,
-//!   which the client's races reach: never the proxy itself, and none that is not public for a client from elsewhere
-//!   (`IsWonBy` in `specs/Races`, `GoesTo` in `specs/Dials`).
-//! - A race that is pending has registered for what it waits for, or asked to be polled again.
+//!   [`Reach::has`](access::Reach::has) answer what `specs/Access` says, in the RFCs' networks. A client of this
+//!   machine reaches all but the proxy itself, and others so where private addresses are allowed (`IsReachOf`).
+//! - A race is asked for with the host and the port of the session, and with the settings, families, lines and
+//!   resolver of the proxy (`AsksFor` in `specs/Races`).
+//! - A session is handed out the connection that its race gave: the winner's address and time are those of the race's
+//!   transcript, and what was lost is that of its course (`HandsOut`). A connection goes to the address and the port
+//!   that it was asked for, which the client's races reach (`GoesTo` in `specs/Dials`).
+//! - A race, and the stream of clients, that is pending has registered for what it waits for, or asked to be polled
+//!   again; each session that is begun may be polled.
 //!
 //! All promise this if they return: they wait for the system.
+//!
+//! No clause of this crate says that a race begins with what it is asked for and that its record replays: he_race proves
+//! the second of every race like it.
 //!
 //! Only tested: that anything connects, and when; that the record of a race is written to its file, and the files'
 //! names; which records go; the log's lines; the page; that as many sessions run as may, and that it waits where no

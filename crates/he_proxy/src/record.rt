@@ -189,7 +189,9 @@ fn paths_in<R: Files + AllocGlobal + Copy, F: Fn(&str) -> bool>(
     alloc: Global,
     dir: &str,
     is_wanted: F,
-) -> io::Result<Vec<String>> {
+) -> io::Result<Vec<String>>
+    requires { F.IsAlwaysCallable is_wanted }
+{
     let mut paths = Vec::new(alloc);
     for entry in read_dir(rt, dir)? {
         let entry = entry?;

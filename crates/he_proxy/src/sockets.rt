@@ -1,9 +1,8 @@
 //! The race of a session over the sockets of the event loop.
-ghost use Rattle.std.specs.Prelude.{◌≡◌, IfOk, Ok};
+ghost use Rattle.std.specs.Prelude.{◌≡◌, IfOk};
 ghost use Rattle.he_connect.specs.Races.{only_of};
 ghost use Rattle.he_resolver.specs.Begins.{BeginsFor};
 ghost use Rattle.he_resolver.specs.Heard.{IsSound};
-ghost use Rattle.he_proxy.specs.Races.{RunsFrom};
 
 use crate::access::Reach;
 use crate::dial::LoopConnector;
@@ -91,9 +90,7 @@ pub fn socket_race<'h, R>(
 ) -> Result<SocketRace<'h, R>, ConnectFault>
 where
     R: Clock + RandomSource + AllocGlobal + Net + Files + Copy,
-    ensures can { IfOk result ⟦<SocketRace<'h, R> as Future>⟧.can_poll }
-    ensures runs { IfOk result (λ race. (raced : _) → ⟦<SocketRace<'h, R> as Future>⟧.gives race (Ok raced)
-        → RunsFrom setup.now.request setup.now.start setup.now.to reach.entry raced) }
+    ensures { IfOk result ⟦<SocketRace<'h, R> as Future>⟧.can_poll }
 {
     let SharedLoop { rt, alloc, handle } = shared;
     let start = Instant::now(rt)?;

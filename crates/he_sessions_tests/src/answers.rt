@@ -4,6 +4,7 @@ use crate::homes::{Course, Lender, Outcome, Part, run};
 use he_front::Ended;
 use he_sessions::Ending;
 use std::io;
+use std::net::{Net, TcpListener, TcpStream};
 use std::test::Fail;
 
 const TARGET: (&str, u16) = ("example.org", 443);
@@ -14,7 +15,11 @@ const ASKS: &[u8] = b"\x05\x01\x00\x05\x01\x00\x03\x0bexample.org\x01\xbb";
 const CONNECTS: &[u8] = b"CONNECT example.org:443 HTTP/1.1\r\nHost: example.org:443\r\n\r\n";
 
 // What comes of a client that sends this.
-fn ask<R: Lender>(rt: &R, course: Course, sends: &[u8]) -> io::Result<Outcome> {
+fn ask<R: Lender + Net<Listener = TcpListener, Stream = TcpStream>>(
+    rt: &R,
+    course: Course,
+    sends: &[u8],
+) -> io::Result<Outcome> {
     let client = Part {
         sends: Vec::from_slice(rt.alloc(), sends)?,
         piece: usize::MAX,
@@ -29,7 +34,7 @@ fn ask<R: Lender>(rt: &R, course: Course, sends: &[u8]) -> io::Result<Outcome> {
 }
 
 // Whether the client gets this and nothing else, and the session ends so.
-fn is_answered<R: Lender>(
+fn is_answered<R: Lender + Net<Listener = TcpListener, Stream = TcpStream>>(
     rt: &R,
     course: Course,
     sends: &[u8],
@@ -45,7 +50,12 @@ fn is_answered<R: Lender>(
 }
 
 // Whether the client gets a response of HTTP that begins so.
-fn is_response<R: Lender>(rt: &R, course: Course, sends: &[u8], line: &[u8]) -> Result<bool, Fail> {
+fn is_response<R: Lender + Net<Listener = TcpListener, Stream = TcpStream>>(
+    rt: &R,
+    course: Course,
+    sends: &[u8],
+    line: &[u8],
+) -> Result<bool, Fail> {
     let outcome = ask(rt, course, sends)?;
     Ok(outcome.client_got.starts_with(line))
 }

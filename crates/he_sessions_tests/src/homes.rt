@@ -21,20 +21,10 @@ use tokio::net::TcpStream;
 use tokio::runtime::{Handle, LocalRuntime};
 use tokio::time::Sleep;
 
-/// What a session is lent.
-pub trait Lender: Wait
-    + Clock
-    + RandomSource
-    + AllocGlobal
-    + Net<Listener = TcpListener, Stream = std::net::TcpStream> {}
+/// What a session is lent, beside the network.
+pub trait Lender: Wait + Clock + RandomSource + AllocGlobal {}
 
-impl<
-    R: Wait
-        + Clock
-        + RandomSource
-        + AllocGlobal
-        + Net<Listener = TcpListener, Stream = std::net::TcpStream>,
-> Lender for R {}
+impl<R: Wait + Clock + RandomSource + AllocGlobal> Lender for R {}
 
 pub const WINNER: Winner = Winner {
     ip: Ip::V4(0x7f00_0001),
@@ -253,7 +243,10 @@ pub struct Outcome {
 }
 
 // Both ends of one connection over loopback.
-fn pair<R: Lender>(rt: &R, handle: &Handle) -> io::Result<(TcpStream, TcpStream, SocketAddr)> {
+fn pair<R: Lender + Net<Listener = TcpListener, Stream = std::net::TcpStream>>(
+    rt: &R,
+    handle: &Handle,
+) -> io::Result<(TcpStream, TcpStream, SocketAddr)> {
     let listener = TcpListener::bind(rt, SocketAddr::new(IpAddr::V4(Ipv4Addr::LOCALHOST), 0))?;
     let near = std::net::TcpStream::connect(rt, listener.local_addr()?)?;
     let (far, from) = listener.accept()?;
@@ -278,7 +271,7 @@ fn race_of<R: Lender>(
 }
 
 /// Runs the session of one client to its end.
-pub fn run<R: Lender>(
+pub fn run<R: Lender + Net<Listener = TcpListener, Stream = std::net::TcpStream>>(
     rt: &R,
     target: (&'static str, u16),
     course: Course,

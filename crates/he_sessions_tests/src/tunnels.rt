@@ -4,6 +4,7 @@ use crate::homes::{Course, Lender, Outcome, Part, WINNER, run};
 use he_sessions::Ending;
 use std::alloc::{AllocError, Global};
 use std::io;
+use std::net::{Net, TcpListener, TcpStream};
 use std::test::Fail;
 use std::time::Duration;
 
@@ -40,7 +41,7 @@ fn joined(alloc: Global, first: &[u8], second: &[u8]) -> Result<Vec<u8>, AllocEr
 }
 
 // What comes of a client that asks so, and sends and is sent so many octets.
-fn tunnel<R: Lender>(
+fn tunnel<R: Lender + Net<Listener = TcpListener, Stream = TcpStream>>(
     rt: &R,
     target: (&'static str, u16),
     asks: &[u8],
@@ -63,7 +64,7 @@ fn tunnel<R: Lender>(
 }
 
 // Whether all of it arrives, both ways, and the end is told so.
-fn is_whole<R: Lender>(
+fn is_whole<R: Lender + Net<Listener = TcpListener, Stream = TcpStream>>(
     rt: &R,
     target: (&'static str, u16),
     asks: &[u8],
@@ -130,7 +131,7 @@ fn a_megabyte_arrives_both_ways(rt: HostRuntime) -> Result<(), Fail> {
 }
 
 // What comes of a client whose race goes on, or whose tunnel is silent.
-fn wait<R: Lender>(
+fn wait<R: Lender + Net<Listener = TcpListener, Stream = TcpStream>>(
     rt: &R,
     course: Course,
     idle: Option<Duration>,
