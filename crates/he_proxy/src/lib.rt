@@ -29,8 +29,8 @@
 //!
 //! All promise this if they return: they wait for the system.
 //!
-//! No clause of this crate says that a race begins with what it is asked for and that its record replays: he_race proves
-//! the second of every race like it.
+//! No clause of this crate says that a race begins with what it is asked for and that its record replays: he_race
+//! proves the second of every race like it.
 //!
 //! Only tested: that anything connects, and when; that the record of a race is written to its file, and the files'
 //! names; which records go; the log's lines; the page; that as many sessions run as may, and that it waits where no
