@@ -23,8 +23,7 @@ pub(crate) fn race_of<'a>(connection: &Connection<'a>, port: u16) -> ConnectRequ
     }
 }
 
-// The families that are tried.
-pub(crate) fn families_of(only: Option<Family>) -> Families
+fn families_of(only: Option<Family>) -> Families
     ensures { result ≡ families_of only }
 {
     match only {
@@ -33,8 +32,7 @@ pub(crate) fn families_of(only: Option<Family>) -> Families
     }
 }
 
-// Which lines the races have.
-pub(crate) fn lines_of<'a>(path: Option<&'a str>) -> Lines<'a>
+fn lines_of<'a>(path: Option<&'a str>) -> Lines<'a>
     ensures { result ≡ lines_of path.entry }
 {
     match path {

@@ -118,8 +118,8 @@ where
     R: Net + RandomSource + Clock + Files + AllocGlobal,
     W: LookupWatcher,
 {
-    /// The answers of the look-up; with `machine`, each comes with the lines of this machine to its first 32 addresses.
-    /// Why a family has none is noted in `why`.
+    /// The answers of the look-up; with `machine`, each comes with the lines of this machine to its first 32
+    /// addresses. Why a family has none is noted in `why`.
     ///
     /// # Errors
     ///

@@ -30,8 +30,8 @@
 //! [`Watcher`] each step. Its [`Endpoint`] has the interface of link-local addresses of IPv6 too, of which a timeline
 //! says nothing.
 //!
-//! A race that is one task of many in an event loop takes its parts: [`LiveTicker`], [`socket_of`] and [`Steps`], with a
-//! connector of its own, as `he_proxy` does.
+//! A race that is one task of many in an event loop takes its parts: [`LiveTicker`], [`socket_of`] and [`Steps`], with
+//! a connector of its own.
 //!
 //! [`live`] does all of it over an input and an output: `he live` is this call.
 //!

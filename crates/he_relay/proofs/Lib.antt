@@ -1,3 +1,2 @@
-pub mod Moved
 pub mod Pumped
 pub mod Relayed

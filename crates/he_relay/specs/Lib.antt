@@ -1,4 +1,2 @@
 pub mod Pumps
 pub mod Relays
-pub mod Tunnels
-pub mod Ways

@@ -1,4 +1,3 @@
 mod Asked
 mod InRows
-mod Named
 mod Showing

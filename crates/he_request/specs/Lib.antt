@@ -1,5 +1,4 @@
 pub mod Ports
-pub mod Proxies
 pub mod Requests
 pub mod Resolvers
 pub mod Rows

@@ -1,6 +1,0 @@
-mod AddressOctets
-mod Appended
-mod Authorities
-mod Begun
-mod Cuts
-mod Named

@@ -1,4 +1,0 @@
-pub mod Access
-pub mod Dials
-pub mod Races
-pub mod Sockets
