@@ -31,8 +31,8 @@ const ABOUT: &str = "Connect to hosts as Happy Eyeballs has it (RFC 8305, RFC 67
 replay, explain, draw and compare such races";
 
 const EXIT_STATUS: &str = "\
-Exit status: 0 on success; 1 after a fault, which standard error reports; 2 for a
-command line that is refused; 3 if `connect` or `live --must-connect` made no
+Exit status: 0 on success; 1 after a fault, which standard error reports; 2 for
+a command line that is refused; 3 if `connect` or `live --must-connect` made no
 connection.";
 
 // The whole command line of the program.
