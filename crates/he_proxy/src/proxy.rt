@@ -18,7 +18,7 @@ use crate::sockets::SharedLoop;
 use crate::state::ProxyState;
 use futures::stream::SelectAll;
 use futures::{Future, Stream, StreamExt};
-use he_sessions::Limits;
+use he_sessions::{Limits, Racer};
 use std::alloc::{AllocGlobal, Global};
 use std::io;
 use std::io::Write;
@@ -87,9 +87,30 @@ where
         request,
         state,
     };
+    serve_racer(runtime, &racer, &racer, sockets)
+}
+
+// The same, with whatever races for them: the prover does not cover the two in one.
+fn serve_racer<'x, R, Q, F>(
+    runtime: &mut LocalRuntime,
+    parts: &LoopRacer<'x, R, F>,
+    racer: &'x Q,
+    sockets: SelectAll<Incoming>,
+) -> io::Result<()>
+where
+    Q: Racer,
+    F: Write + Drop,
+    R: Wait + Clock + RandomSource + AllocGlobal + Copy,
+    requires { MayAccept sockets }
+{
+    let LoopRacer {
+        shared,
+        request,
+        state,
+    } = *parts;
     let server = Server {
         shared,
-        racer: &racer,
+        racer,
         allow: request.allow,
         limits: Limits {
             request: Duration::from_secs(REQUEST),
