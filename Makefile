@@ -1,5 +1,5 @@
 # What a newcomer needs. README.md and CONTRIBUTING.md say what each is for and how long it takes.
-.PHONY: help race test edits build install build-library install-library library deb examples documents explained page hostile cost refused hosts captures live names connect fuzz manual kit program
+.PHONY: help race test edits build install build-library install-library library deb examples documents explained page hostile cost refused hosts captures live names connect proxy fuzz manual kit program
 
 PREFIX ?= /usr/local
 DESTDIR ?=
@@ -41,6 +41,7 @@ make captures HE=FILE      tries tools/from-capture and tools/compare-done on pa
 make live HE=FILE          runs live races of a built program, and looks from the other side at what it did
 make names HE=FILE         looks names up by a built program, from name servers of its own, right ones and wrong ones
 make connect HE=FILE       connects by a built program in full: transfers of 100 MB, 1,000 connections under faults
+make proxy HE=FILE         connects through `he proxy` in full: curl, git and nc, 10,000 sessions under faults
 make fuzz SECONDS=60 SEED=1 HE=FILE
                            compares a built program with a plain reading of the rules, on texts that are drawn
 make explained HE=FILE     compares what a built program writes of the examples with a plain reading of the rules
@@ -130,6 +131,9 @@ names: program
 
 connect: program
 	scripts/connect $(HE) --full
+
+proxy: program
+	scripts/proxy $(HE) --full
 
 fuzz: program
 	scripts/fuzz $(HE) --large --seed $(SEED)

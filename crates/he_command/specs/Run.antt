@@ -16,6 +16,7 @@ use Rattle.he_tasks.specs.declared.reports.TheConstants.{FAULT, USAGE}
 use Rattle.he_command.specs.Connection.{MakesConnection}
 use Rattle.he_command.specs.Live.{RunsLive}
 use Rattle.he_command.specs.Objects.{ShowsNames}
+use Rattle.he_command.specs.Proxies.{status_of_proxy}
 
 -- what comes of a line that asks for nothing that is done
 abbrev pub Refuses : {O : Type 0} → outputs.Ghosts O → Refusal → O → O → ℕ → Type 0
@@ -42,6 +43,8 @@ RunsLine input file page output (Ok (requests.Live options)) first last before a
     RunsLive input file output options first last before after status
 RunsLine input file page output (Ok (requests.Host options)) first last before after status =
     (last ≡ first) × Shows output before after status
+RunsLine input file page output (Ok (requests.Proxy proxy)) first last before after status =
+    (last ≡ first) × (after ≡ before) × (status ≡ status_of_proxy proxy)
 RunsLine input file page output (Ok (requests.Names options)) first last before after status =
     (last ≡ first) × RunsNames output options.is_json before after status
 RunsLine input file page output (Ok (requests.Connect connection)) first last before after status =

@@ -23,7 +23,8 @@ pub(crate) fn race_of<'a>(connection: &Connection<'a>, port: u16) -> ConnectRequ
     }
 }
 
-fn families_of(only: Option<Family>) -> Families
+// The families that are tried.
+pub(crate) fn families_of(only: Option<Family>) -> Families
     ensures { result ≡ families_of only }
 {
     match only {
@@ -32,7 +33,8 @@ fn families_of(only: Option<Family>) -> Families
     }
 }
 
-fn lines_of<'a>(path: Option<&'a str>) -> Lines<'a>
+// Which lines the races have.
+pub(crate) fn lines_of<'a>(path: Option<&'a str>) -> Lines<'a>
     ensures { result ≡ lines_of path.entry }
 {
     match path {

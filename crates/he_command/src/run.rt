@@ -7,6 +7,7 @@ use crate::connection::run_connect;
 use crate::host::run_host;
 use crate::live::run_live;
 use crate::names::run_names;
+use crate::proxy::run_proxy;
 use crate::system::{System, columns_of};
 use he_inputs::StreamFault;
 use he_request::shown::shown_lines;
@@ -45,6 +46,7 @@ pub fn run_line<R: System, I: InputStream, O: OutputStream + Send, F: Write>(
 {
     match line {
         Ok(Request::Connect(connection)) => run_connect(session, &connection, input),
+        Ok(Request::Proxy(proxy)) => run_proxy(session, &proxy),
         Ok(Request::Names(options)) => run_names(session, options),
         Ok(Request::Host(options)) => run_host(session, &options),
         Ok(Request::Live(options)) => run_live(session, &options, input),

@@ -1,2 +1,4 @@
 pub mod Pumps
 pub mod Relays
+pub mod Tunnels
+pub mod Ways

@@ -15,6 +15,12 @@
 //! still wants what standard input has. Standard input that was left before its end is a fault, but at a terminal.
 //! Where the output takes no more, the connection is shut down both ways, which ends the other thread.
 //!
+//! # Tunnels
+//!
+//! A [`Tunnel`] is a relay between two connections that is polled, so that one thread has many. Each way holds 16 KiB
+//! at most, or what came early where that is more, and makes a few reads and writes in one poll before other tasks
+//! have their turn.
+//!
 //! A standard stream that does not wait (`O_NONBLOCK`) is waited for by [`Waiting`].
 //!
 //! # What is proved
@@ -29,8 +35,13 @@
 //!   failed is told, the output's first: it answers `Ok` only where the remote ended its way and the input ended, or
 //!   was left at a terminal (`IsEnd`).
 //!
-//! Only tested: when a relay ends, what it does to the connection, that the bytes are those of the connection, how
-//! many are told, and how it broke off.
+//! - For every two connections of tokio's traits, a [`Way`] of a polled [`Tunnel`] writes what it held from the start
+//!   and then what it reads, in order, none twice and none left out but what it still holds; it counts what it wrote,
+//!   and it is over once its reader has ended, all is written and its writer is shut down (`Moves` in `specs/Ways`,
+//!   `MovesBoth` in `specs/Tunnels`). A tunnel that waits has asked to be woken.
+//!
+//! Only tested: which connection of a tunnel broke off, when a relay ends, what it does to the connection, that the
+//! bytes are those of the connection, how many are told, and how it broke off.
 #![tactic(auto)]
 
 pub mod fault;
@@ -38,13 +49,17 @@ pub mod halves;
 pub mod pumping;
 pub mod relaying;
 pub mod standard;
+pub mod tunnel;
 pub mod waiting;
 pub mod watch;
+pub mod way;
 
 pub use fault::{PumpFault, RelayFault};
 pub use halves::{DEFAULT_WAIT, SocketConnection, over_socket};
 pub use pumping::pump;
 pub use relaying::{Connection, Ends, relay};
 pub use standard::relay_standard;
+pub use tunnel::{Broke, Tunnel};
 pub use waiting::Waiting;
 pub use watch::Watch;
+pub use way::{Way, WayFault};

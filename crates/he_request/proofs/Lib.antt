@@ -1,3 +1,4 @@
 mod Asked
 mod InRows
+mod Named
 mod Showing

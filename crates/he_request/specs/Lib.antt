@@ -1,4 +1,5 @@
 pub mod Ports
+pub mod Proxies
 pub mod Requests
 pub mod Resolvers
 pub mod Rows

@@ -26,7 +26,7 @@ const TRY_HELP: &str = "Close the connection once it is made, with status 0";
 const WAIT_HELP: &str = "Wait MS milliseconds for standard input after the\n\
 remote has closed its side; default is 500";
 
-const LINES_HELP: &str = "Take the source, route and policy lines of FILE\n\
+pub(crate) const LINES_HELP: &str = "Take the source, route and policy lines of FILE\n\
 in place of this machine's own";
 
 const RECORD_HELP: &str = "Write the race to FILE, for `he replay`;\n\
@@ -156,7 +156,7 @@ pub(crate) fn connection_of<'a>(matches: &ArgMatches<'a>) -> Result<Connection<'
 }
 
 // The family that the line asks for alone.
-fn family_of(matches: &ArgMatches<'_>) -> Option<Family>
+pub(crate) fn family_of(matches: &ArgMatches<'_>) -> Option<Family>
     ensures { AsksFamily (found_of matches.now) result }
 {
     let (four, six) = (flag_of(matches, "four"), flag_of(matches, "six"));

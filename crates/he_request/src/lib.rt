@@ -12,7 +12,8 @@
 //!   last of a name, and those of a connection where it gives none (`specs/Words`); the rows of a comparison are
 //!   those of the numbers of its list, with their words (`specs/Rows`); the files, the workers, what is written of
 //!   each race, the file of a page; the port is the number that the word says, or the name of a service by its form
-//!   (`specs/Ports`); the families, and the flags. The text of a resolver names an address, at port 53, or one with a
+//!   (`specs/Ports`); the addresses and networks of a proxy are those that its texts name (`specs/Proxies`); the
+//!   families, and the flags. The text of a resolver names an address, at port 53, or one with a
 //!   port other than 0 (`specs/Resolvers`).
 //! - Help is told from words that are wrong and from want of memory.
 //! - A word as a terminal may show it has no character that controls one (`specs/Shown`).
@@ -33,6 +34,7 @@ pub mod live;
 pub mod names;
 mod order;
 pub mod port;
+pub mod proxy;
 pub mod refusal;
 mod replay;
 pub mod request;
@@ -49,6 +51,7 @@ pub use host::Host;
 pub use live::Live;
 pub use names::Names;
 pub use port::Port;
+pub use proxy::{Proxy, SessionLog};
 pub use refusal::Refusal;
 pub use request::{Request, read_words, takes_text};
 pub use resolver::Resolver;

@@ -32,3 +32,10 @@ pub const LEAST_WIDTH: u16 = 40;
 pub const MOST_WIDTH: u16 = 1_000;
 
 pub const DEFAULT_WIDTH: u16 = 80;
+
+/// The most sessions of a proxy at once, its most records, and the longest that an idle tunnel may last, in seconds.
+pub const MOST_SESSIONS: u32 = 100_000;
+
+pub const MOST_RECORDS: u32 = 100_000_000;
+
+pub const MOST_IDLE: u32 = 1_000_000;

@@ -6,9 +6,12 @@ use crate::connect::Connection;
 use crate::host::Host;
 use crate::live::Live;
 use crate::names::Names;
+use crate::proxy::Proxy;
 use crate::refusal::Refusal;
 use crate::texts::{Task, Texts, texts_of};
-use crate::{check, compare, connect, draw, explain, host, live, names, order, replay, summary};
+use crate::{
+    check, compare, connect, draw, explain, host, live, names, order, proxy, replay, summary,
+};
 use clap::{ArgMatches, Command};
 use std::alloc::{AllocError, Global};
 
@@ -17,6 +20,8 @@ use std::alloc::{AllocError, Global};
 pub enum Request<'a> {
     /// To connect, and to relay standard input and output.
     Connect(Connection<'a>),
+    /// To serve programs that know a proxy.
+    Proxy(Proxy<'a>),
     /// To find the addresses of a host.
     Names(Names<'a>),
     /// To write the addresses and routes of this machine.
@@ -51,6 +56,7 @@ fn command<'a>(alloc: Global) -> Result<Command<'a>, AllocError> {
 fn commands<'a>(alloc: Global) -> Result<Vec<Command<'a>>, AllocError> {
     let mut commands = Vec::new(alloc);
     commands.push(connect::command(alloc)?)?;
+    commands.push(proxy::command(alloc)?)?;
     commands.push(names::command(alloc)?)?;
     commands.push(host::command(alloc)?)?;
     commands.push(live::command(alloc)?)?;
@@ -99,6 +105,7 @@ fn request_of<'a>(
             Ok(connection) => Ok(Request::Connect(connection)),
             Err(fault) => Err(Refusal::Option(fault)),
         },
+        "proxy" => Ok(Request::Proxy(proxy::proxy_of(alloc, matches)?)),
         "names" => Ok(Request::Names(names::names_of(matches)?)),
         "host" => Ok(Request::Host(host::host_of(alloc, matches)?)),
         "live" => match live::live_of(matches) {

@@ -1,0 +1,42 @@
+-- What a line asks for of a proxy, as he_proxy has it.
+use Rattle.std.specs.Prelude.{◌≡◌, ℕ}
+use Rattle.std.specs.Option.{unwrap_or}
+use Rattle.he_proxy.specs.declared.request.LogForm.{LogForm}
+use Rattle.he_proxy.specs.declared.request.LogForm.TheVariants as forms
+use Rattle.he_proxy.specs.declared.request.ProxyRequest.{ProxyRequest}
+use Rattle.he_proxy.specs.declared.request.TheConstants.{DEFAULT_RECORDS, DEFAULT_SESSIONS}
+use Rattle.he_request.specs.declared.proxy.Proxy.{Proxy}
+use Rattle.he_request.specs.declared.proxy.SessionLog.{SessionLog}
+use Rattle.he_request.specs.declared.proxy.SessionLog.TheVariants as logs
+use Rattle.he_request.specs.declared.resolver.Resolver.{Resolver}
+use Rattle.he_request.specs.declared.resolver.Resolver.TheVariants as resolvers
+use Rattle.he_tasks.specs.declared.reports.TheConstants.{FAULT, USAGE}
+use Rattle.he_command.specs.Connection.{choice_of, families_of, lines_of}
+
+abbrev pub log_of : SessionLog → LogForm
+log_of logs.Nothing = forms.Silent
+log_of logs.Line = forms.Text
+log_of logs.Json = forms.Json
+
+-- it serves until a fault; the system's resolver is not asked, which is a wrong line
+abbrev pub status_by : Resolver → ℕ
+status_by resolvers.System = USAGE
+status_by other = FAULT
+
+abbrev pub status_of_proxy : Proxy → ℕ
+status_of_proxy proxy = status_by proxy.resolver
+
+-- what is served is what the line gives; where it doesn't say how many, the number that he_proxy has
+pub record IsServed (proxy : Proxy) (request : ProxyRequest) : Type 0 where
+  pub listen : request.listen.now ≡ proxy.listen.items
+  pub allow : request.allow.now ≡ proxy.allow.items
+  pub allows_private : request.allows_private ≡ proxy.allows_private
+  pub families : request.families ≡ families_of proxy.only
+  pub settings : request.settings ≡ proxy.settings
+  pub lines : request.lines ≡ lines_of proxy.lines
+  pub resolver : request.resolver ≡ choice_of proxy.resolver
+  pub records : request.record ≡ proxy.record
+  pub record_most : request.record_most ≡ unwrap_or proxy.record_most DEFAULT_RECORDS
+  pub log : request.log ≡ log_of proxy.log
+  pub most : request.most ≡ unwrap_or proxy.most DEFAULT_SESSIONS
+  pub idle : request.idle ≡ proxy.idle

@@ -1,0 +1,82 @@
+//! `he proxy`.
+ghost use Rattle.std.specs.Prelude.{◌≡◌};
+ghost use Rattle.he_command.specs.Proxies.{IsServed, log_of, status_of_proxy};
+ghost use Rattle.he_tasks.specs.declared.reports.TheConstants.{FAULT};
+
+use crate::race_request::{choice_of, families_of, lines_of};
+use crate::system::System;
+use he_proxy::{DEFAULT_RECORDS, DEFAULT_SESSIONS, LogForm, ProxyFault, ProxyRequest, serve};
+use he_request::{Proxy, Resolver, SessionLog};
+use he_stream::OutputStream;
+use he_tasks::reports::{report, report_path};
+use he_tasks::{FAULT, Session, USAGE};
+use std::io::Write;
+
+const NOT_SYSTEM: &[u8] =
+    b"he: a proxy asks name servers alone: `--resolver system` does not go with it\n";
+
+// Serves what the line asks for, until a fault or a signal ends it.
+pub(crate) fn run_proxy<R: System, O: OutputStream, F: Write>(
+    session: &mut Session<'_, '_, R, O, F>,
+    proxy: &Proxy<'_>,
+) -> u8
+    ensures status { result ≡ status_of_proxy proxy.now }
+    ensures output { session.new.output ≡ session.old.output }
+{
+    if let Resolver::System = proxy.resolver {
+        let _ = session.faults.write_all(NOT_SYSTEM);
+        return USAGE;
+    }
+    let request = request_of(proxy);
+    match serve(session.system, session.alloc, &request, &mut session.faults) {
+        Ok(()) => FAULT,
+        Err(fault) => report_fault(session, fault, proxy.record),
+    }
+}
+
+// Says why it does not serve; a fault of the records has the name of their directory.
+fn report_fault<R, O: OutputStream, F: Write>(
+    session: &mut Session<'_, '_, R, O, F>,
+    fault: ProxyFault,
+    record: Option<&str>,
+) -> u8
+    ensures status { result ≡ FAULT }
+    ensures output { session.new.output ≡ session.old.output }
+{
+    match (fault, record) {
+        (ProxyFault::Record(_), Some(path)) => {
+            report_path(session.alloc, path, fault, &mut session.faults)
+        }
+        _ => report(fault, &mut session.faults),
+    }
+}
+
+// What is served.
+fn request_of<'a>(proxy: &'a Proxy<'_>) -> ProxyRequest<'a>
+    ensures { IsServed proxy.now result }
+{
+    ProxyRequest {
+        listen: proxy.listen.as_slice(),
+        allow: proxy.allow.as_slice(),
+        allows_private: proxy.allows_private,
+        families: families_of(proxy.only),
+        settings: proxy.settings,
+        lines: lines_of(proxy.lines),
+        resolver: choice_of(proxy.resolver),
+        record: proxy.record,
+        record_most: proxy.record_most.unwrap_or(DEFAULT_RECORDS),
+        log: log_of(proxy.log),
+        most: proxy.most.unwrap_or(DEFAULT_SESSIONS),
+        idle: proxy.idle,
+    }
+}
+
+fn log_of(log: SessionLog) -> LogForm
+    ensures { result ≡ log_of log }
+{
+    match log {
+        SessionLog::Nothing => LogForm::Silent,
+        SessionLog::Line => LogForm::Text,
+        SessionLog::Json => LogForm::Json,
+    }
+}

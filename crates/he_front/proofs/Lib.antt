@@ -1,0 +1,6 @@
+mod AddressOctets
+mod Appended
+mod Authorities
+mod Begun
+mod Cuts
+mod Named

@@ -1,0 +1,65 @@
+-- What a client of HTTP asks for: the head of a request (RFC 9112 section 3).
+use Rattle.std.specs.Prelude.{◌≡◌, ◌≢◌, ◌≤◌, IfSome, ℕ, Bool, List, Option, codes, drop, find, map}
+use Rattle.std.specs.Char.{to_ascii_lowercase}
+use Rattle.std.specs.Option.{option_map}
+use Rattle.std.specs.Str.{bytes_eq}
+use Rattle.httparse.specs.Grammar.{HasNoRequest, MayBecomeRequest, ReadsRequest, RequestHead}
+use Rattle.httparse.specs.declared.spans.HeaderSpan.{HeaderSpan}
+use Rattle.httparse.specs.Spans.{IsWithin, RequestOverflows, name_and_value, span_bytes}
+use Rattle.he_front.specs.declared.http.Head.{Head}
+use Rattle.he_front.specs.declared.http.Head.TheVariants as heads
+use Rattle.he_front.specs.declared.http.Method.{Method}
+use Rattle.he_front.specs.declared.http.Method.TheVariants as methods
+use Rattle.he_front.specs.declared.http.ReadHead.{ReadHead}
+use Rattle.he_front.specs.declared.http.ReadHead.TheVariants as reads
+use Rattle.he_front.specs.declared.http.TheConstants.{MOST_FIELDS}
+
+-- methods, with capital letters (RFC 9110 section 9.1)
+abbrev pub IsMethod : List ℕ → Method → Type 0
+IsMethod method methods.Connect = method ≡ codes "CONNECT"
+IsMethod method methods.Get = method ≡ codes "GET"
+IsMethod method methods.Other = (method ≢ codes "CONNECT") × (method ≢ codes "GET")
+
+-- a field's name counts in any case of letters (RFC 9110 section 5.1)
+abbrev pub is_named : List ℕ → List ℕ → Bool
+is_named name other = bytes_eq (map to_ascii_lowercase other) (map to_ascii_lowercase name)
+
+-- the value of the first field of this name
+abbrev pub value_of : List ℕ → List (List ℕ × List ℕ) → Option (List ℕ)
+value_of name fields = option_map (λ field. field.1) (find (λ field. is_named name field.0) fields)
+
+-- where it stands
+abbrev pub field_named : List ℕ → List ℕ → List HeaderSpan → Option HeaderSpan
+field_named octets name fields = find (λ field. is_named name (span_bytes octets field.name)) fields
+
+-- what is asked for: a tunnel to this target; this target, of this host; or something else
+abbrev pub AsksFor : List ℕ → RequestHead → Head → Type 0
+AsksFor octets request (heads.Tunnel target) =
+    IsMethod request.method methods.Connect × (span_bytes octets target ≡ request.target)
+AsksFor octets request (heads.Get target host) =
+    IsMethod request.method methods.Get × (span_bytes octets target ≡ request.target)
+    × (option_map (span_bytes octets) host ≡ value_of (codes "host") (map name_and_value request.fields))
+AsksFor octets request heads.Other = IsMethod request.method methods.Other
+
+-- the octets begin with a head that asks for this, and ends here
+abbrev pub HasHead : List ℕ → Head → ℕ → Type 0
+HasHead octets head len =
+    (request : RequestHead) × ReadsRequest octets request (drop len octets) × AsksFor octets request head
+
+-- what is pointed to lies in the first n octets, and so does the head
+abbrev pub LiesWithin : ℕ → Head → Type 0
+LiesWithin n (heads.Tunnel target) = IsWithin n target
+LiesWithin n (heads.Get target host) = IsWithin n target × IfSome host (IsWithin n)
+LiesWithin n heads.Other = Unit {0}
+
+abbrev pub IsReadWithin : ℕ → ReadHead → Type 0
+IsReadWithin n (reads.Whole head len) = LiesWithin n head × (len ≤ n)
+IsReadWithin n reads.Partial = Unit {0}
+IsReadWithin n reads.Refused = Unit {0}
+
+-- The octets begin with this head, which has so many; with none yet, and more can make one; or with none that has so
+-- few fields, whatever follows.
+abbrev pub ReadsHead : List ℕ → ReadHead → Type 0
+ReadsHead octets (reads.Whole head len) = HasHead octets head len
+ReadsHead octets reads.Partial = HasNoRequest octets × MayBecomeRequest octets
+ReadsHead octets reads.Refused = RequestOverflows MOST_FIELDS octets

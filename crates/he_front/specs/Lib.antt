@@ -1,0 +1,10 @@
+pub mod Asked
+pub mod Authority
+pub mod Http
+pub mod Messages
+pub mod Openings
+pub mod Pages
+pub mod Reading
+pub mod Replies
+pub mod Responses
+pub mod Socks

@@ -1,0 +1,29 @@
+-- What a client is answered (RFC 1928 section 6; RFC 9110 section 15).
+use Rattle.std.specs.Prelude.{ℕ}
+use Rattle.he_front.specs.declared.replies.Ended.{Ended}
+use Rattle.he_front.specs.declared.replies.Ended.TheVariants as ended
+
+-- REP: succeeded; general server failure; not allowed by ruleset; network unreachable; host unreachable; connection
+-- refused; command not supported; address type not supported
+abbrev pub code_of : Ended → ℕ
+code_of ended.Connected = 0
+code_of ended.Failed = 1
+code_of ended.Forbidden = 2
+code_of ended.NoNetwork = 3
+code_of ended.NoHost = 4
+code_of ended.TimedOut = 4
+code_of ended.Refused = 5
+code_of ended.Command = 7
+code_of ended.Kind = 8
+
+-- OK; Bad Request; Forbidden; Internal Server Error; Not Implemented; Bad Gateway; Gateway Timeout
+abbrev pub status_of : Ended → ℕ
+status_of ended.Connected = 200
+status_of ended.Kind = 400
+status_of ended.Forbidden = 403
+status_of ended.Failed = 500
+status_of ended.Command = 501
+status_of ended.NoNetwork = 502
+status_of ended.NoHost = 502
+status_of ended.Refused = 502
+status_of ended.TimedOut = 504

@@ -1,0 +1,118 @@
+// What a client of HTTP asks for (RFC 9112 section 3; a tunnel: RFC 9110 section 9.3.6).
+
+ghost use Rattle.std.specs.Prelude.{◌≡◌, All, IfSome, length, map};
+ghost use Rattle.std.specs.Option.{option_map};
+ghost use Rattle.httparse.specs.Spans.{header_bytes, span_bytes, IsHeaderWithin, IsRequestOf, IsRequestWithin, IsWithin};
+ghost use Rattle.he_front.specs.Http.{HasHead, IsMethod, IsReadWithin, LiesWithin, ReadsHead, field_named, is_named, value_of};
+
+use httparse::Status;
+use httparse::spans::{EMPTY_HEADER_SPAN, HeaderSpan, RequestSpans, Span, parse_request};
+
+/// The most fields that a head may have.
+pub const MOST_FIELDS: usize = 64;
+
+/// The head of a request.
+#[derive(Clone, Copy, Debug, PartialEq, Eq)]
+pub enum Head {
+    /// CONNECT, and where its target stands.
+    Tunnel(Span),
+    /// GET: where its target stands, and the value of its first field Host.
+    Get(Span, Option<Span>),
+    /// Another method.
+    Other,
+}
+
+/// What octets are that are to begin with the head of a request.
+#[derive(Clone, Copy, Debug, PartialEq, Eq)]
+pub enum ReadHead {
+    /// They begin with this one, which has so many octets.
+    Whole(Head, usize),
+    /// They begin with none, and more octets can make one.
+    Partial,
+    /// They begin with none that has at most [`MOST_FIELDS`] fields, whatever follows.
+    Refused,
+}
+
+#[derive(Clone, Copy, PartialEq, Eq)]
+enum Method {
+    Connect,
+    Get,
+    Other,
+}
+
+fn method_of(method: &[u8]) -> Method
+    ensures { IsMethod method.now result }
+{
+    if method == b"CONNECT".as_slice() {
+        Method::Connect
+    } else if method == b"GET".as_slice() {
+        Method::Get
+    } else {
+        Method::Other
+    }
+}
+
+/// The head that the octets begin with.
+pub fn read_head(octets: &[u8]) -> ReadHead
+    ensures head { ReadsHead octets.now result }
+    ensures within { IsReadWithin (length octets.now) result }
+{
+    let mut fields = [EMPTY_HEADER_SPAN; MOST_FIELDS];
+    match parse_request(octets, &mut fields) {
+        Ok(Status::Complete(spans)) => {
+            ReadHead::Whole(head_of(octets, &fields, &spans), spans.len)
+        }
+        Ok(Status::Partial) => ReadHead::Partial,
+        Err(_) => ReadHead::Refused,
+    }
+}
+
+// What the head with these parts asks for.
+fn head_of(octets: &[u8], fields: &[HeaderSpan], spans: &RequestSpans) -> Head
+    requires within { IsRequestWithin octets.now fields.now spans.now }
+    requires at { IsRequestOf octets.now fields.now spans.now }
+    ensures head { HasHead octets.now result spans.now.len }
+    ensures within { LiesWithin (length octets.now) result }
+{
+    match method_of(spans.method.of(octets)) {
+        Method::Connect => Head::Tunnel(spans.path),
+        Method::Get => {
+            let host = value_named(octets, &fields[..spans.headers], b"host");
+            Head::Get(spans.path, host)
+        }
+        Method::Other => Head::Other,
+    }
+}
+
+// Where the value of the first field of this name stands.
+fn value_named(octets: &[u8], fields: &[HeaderSpan], name: &[u8]) -> Option<Span>
+    requires { All (IsHeaderWithin (length octets.now)) fields.now }
+    ensures value { option_map (span_bytes octets.now) result
+        ≡ value_of name.now (map (header_bytes octets.now) fields.now) }
+    ensures within { IfSome result (IsWithin (length octets.now)) }
+{
+    match field_named(octets, fields, name) {
+        Some(field) => Some(field.value),
+        None => None,
+    }
+}
+
+// The first field of this name.
+fn field_named(octets: &[u8], fields: &[HeaderSpan], name: &[u8]) -> Option<HeaderSpan>
+    requires { All (IsHeaderWithin (length octets.now)) fields.now }
+    ensures field { result ≡ field_named octets.now name.now fields.now }
+    ensures within { IfSome result (IsHeaderWithin (length octets.now)) }
+{
+    for field in fields {
+        if is_named(field.name.of(octets), name) {
+            return Some(*field);
+        }
+    }
+    None
+}
+
+fn is_named(field: &[u8], name: &[u8]) -> bool
+    ensures { result ≡ is_named name.now field.now }
+{
+    field.eq_ignore_ascii_case(name)
+}

@@ -1,0 +1,83 @@
+// The pages of the proxy's own.
+
+ghost use Rattle.std.specs.Prelude.{◌≡◌, ◌↔◌, IfNone, IfSome, IsTrue, None, Some};
+ghost use Rattle.he_front.specs.Pages.{Asks, AsksNone, IsOwn, IsOwnHost, IsOwnIp, SpellsOwn, host_of, path_of};
+ghost use Rattle.he_front.specs.declared.pages.Page.{Page};
+
+use crate::authority::read_authority;
+use he_addr::{Ip, read_ip};
+
+/// A page of the proxy's own.
+#[derive(Clone, Copy, Debug, PartialEq, Eq)]
+pub enum Page {
+    /// `/proxy.pac`: the proxy auto-config text, which [`write_config`](crate::write_config) writes.
+    Config,
+    /// `/`: the last races.
+    Races,
+}
+
+const LOOPBACK_V4: Ip = Ip::V4(0x7f00_0001);
+
+const LOOPBACK_V6: Ip = Ip::V6(1);
+
+/// The page of the proxy's own that a GET asks for, by its target, in origin form, and the value of its field Host:
+/// that has to name the proxy itself, as the port that it listens on and `localhost`, 127.0.0.1, ::1 or the address
+/// that the client reached. None for every other request, so that no name of another's that leads to this machine
+/// (DNS rebinding) has a page.
+pub fn page_asked(target: &[u8], host: Option<&[u8]>, own: Ip, port: u16) -> Option<Page>
+    ensures found { IfSome result (Asks own port target.now (host_of host.entry)) }
+    ensures none { IfNone result (AsksNone own port target.now (host_of host.entry)) }
+{
+    let page = page_at(target)?;
+    if is_own(host?, own, port) {
+        Some(page)
+    } else {
+        None
+    }
+}
+
+fn page_at(target: &[u8]) -> Option<Page>
+    ensures found { IfSome result (λ page. target.now ≡ path_of page) }
+    ensures none { IfNone result ((page : Page) → target.now ≡ path_of page → ⊥) }
+{
+    if target == b"/proxy.pac".as_slice() {
+        Some(Page::Config)
+    } else if target == b"/".as_slice() {
+        Some(Page::Races)
+    } else {
+        None
+    }
+}
+
+fn is_own(value: &[u8], own: Ip, port: u16) -> bool
+    ensures yes { IsTrue result → IsOwn own port value.now }
+    ensures no { IsOwn own port value.now → IsTrue result }
+{
+    match read_authority(value) {
+        Some((host, given)) => given == port && is_own_host(host, own),
+        None => false,
+    }
+}
+
+fn is_own_host(host: &[u8], own: Ip) -> bool
+    ensures yes { IsTrue result → IsOwnHost own host.now }
+    ensures no { IsOwnHost own host.now → IsTrue result }
+{
+    host.eq_ignore_ascii_case(b"localhost") || is_own_address(host, own)
+}
+
+fn is_own_address(host: &[u8], own: Ip) -> bool
+    ensures yes { IsTrue result → SpellsOwn own host.now }
+    ensures no { SpellsOwn own host.now → IsTrue result }
+{
+    match read_ip(host) {
+        Some(ip) => is_own_ip(ip, own),
+        None => false,
+    }
+}
+
+fn is_own_ip(ip: Ip, own: Ip) -> bool
+    ensures { IsTrue result ↔ IsOwnIp own ip }
+{
+    ip == own || ip == LOOPBACK_V4 || ip == LOOPBACK_V6
+}

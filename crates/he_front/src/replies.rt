@@ -1,0 +1,81 @@
+// How a session ended, and what its client is answered.
+
+ghost use Rattle.std.specs.Prelude.{◌≡◌, ◌∷◌, [], if◌then◌else◌};
+ghost use Rattle.he_front.specs.Replies.{code_of, status_of};
+
+/// The reply to a greeting: the client goes without authentication, or no method that it offers will do (RFC 1928
+/// section 3).
+pub fn method_reply(offers_none: bool) -> [u8; 2]
+    ensures { result ≡ 5 ∷ (if offers_none then 0 else 0xff) ∷ [] }
+{
+    [5, if offers_none { 0 } else { 0xff }]
+}
+
+/// The reply to a request of SOCKS 4: refused (SOCKS 4 protocol, a version of 0 and the code 91).
+pub fn old_socks_reply() -> [u8; 8]
+    ensures { result ≡ 0 ∷ 91 ∷ 0 ∷ 0 ∷ 0 ∷ 0 ∷ 0 ∷ 0 ∷ [] }
+{
+    [0, 91, 0, 0, 0, 0, 0, 0]
+}
+
+/// How what a client asked for ended.
+#[derive(Clone, Copy, Debug, PartialEq, Eq)]
+pub enum Ended {
+    /// Connected: what follows is the remote's.
+    Connected,
+    /// The proxy itself failed, as where it has no memory or no descriptor.
+    Failed,
+    /// The target is not allowed.
+    Forbidden,
+    /// No way to the network of any address.
+    NoNetwork,
+    /// The host has no address, or none that could be looked up or reached.
+    NoHost,
+    /// Each address refused the connection.
+    Refused,
+    /// No address answered before the limit.
+    TimedOut,
+    /// The client asked for something else than to connect.
+    Command,
+    /// The kind of the address is not known, or what the client sent names no host.
+    Kind,
+}
+
+impl Ended {
+    /// The octets of a SOCKS reply (RFC 1928 section 6), whose bound address is 0.0.0.0 and port 0.
+    pub fn socks_reply(self) -> [u8; 10]
+        ensures { result ≡ 5 ∷ code_of self ∷ 0 ∷ 1 ∷ 0 ∷ 0 ∷ 0 ∷ 0 ∷ 0 ∷ 0 ∷ [] }
+    {
+        [5, self.code(), 0, 1, 0, 0, 0, 0, 0, 0]
+    }
+
+    fn code(self) -> u8
+        ensures { result ≡ code_of self }
+    {
+        match self {
+            Ended::Connected => 0,
+            Ended::Failed => 1,
+            Ended::Forbidden => 2,
+            Ended::NoNetwork => 3,
+            Ended::NoHost | Ended::TimedOut => 4,
+            Ended::Refused => 5,
+            Ended::Command => 7,
+            Ended::Kind => 8,
+        }
+    }
+
+    /// The status of an HTTP response (RFC 9110 section 15).
+    pub fn status(self) -> u16
+        ensures { result ≡ status_of self }
+    {
+        match self {
+            Ended::Connected => 200,
+            Ended::Kind => 400,
+            Ended::Forbidden => 403,
+            Ended::Failed => 500,
+            Ended::Command => 501,
+            Ended::NoNetwork | Ended::NoHost | Ended::Refused => 502,
+            Ended::TimedOut => 504,
+        }
+    }
+}

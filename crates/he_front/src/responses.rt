@@ -1,0 +1,234 @@
+// Responses of HTTP: to CONNECT, and of the proxy's own pages.
+
+ghost use Rattle.std.specs.Prelude.{◌≡◌, ◌++◌, length, OnOk};
+ghost use Rattle.he_addr.specs.Printing.{printed};
+ghost use Rattle.he_front.specs.Responses.{advice_text, config_text, head_text, len_text, media_of, media_text, message_text, page_text, phrase_of, refusal_text, response_text, socket_text, status_text, tunnel_text, url_host};
+
+use crate::pages::Page;
+use crate::replies::Ended;
+use he_addr::{Ip, Memory, write_ip, write_number};
+use std::alloc::Allocator;
+
+const OK: u16 = 200;
+
+impl Ended {
+    fn phrase(self) -> &'static [u8]
+        ensures { result.now ≡ phrase_of self }
+    {
+        match self {
+            Ended::Connected => b"Connection established",
+            Ended::Kind => b"Bad Request",
+            Ended::Forbidden => b"Forbidden",
+            Ended::Failed => b"Internal Server Error",
+            Ended::Command => b"Not Implemented",
+            Ended::NoNetwork | Ended::NoHost | Ended::Refused => b"Bad Gateway",
+            Ended::TimedOut => b"Gateway Timeout",
+        }
+    }
+
+    /// Appends the response to a client of HTTP. To a CONNECT that has its tunnel it has neither fields nor a body,
+    /// for what follows it is the remote's (RFC 9110 section 9.3.6). Any other one has the reason as its body, as a
+    /// line of text.
+    ///
+    /// # Errors
+    ///
+    /// [`Memory`] where an allocation was refused: `out` then has a part of the response.
+    pub fn write_response<A: Allocator + Copy>(
+        self,
+        reason: &[u8],
+        out: &mut Vec<u8, A>,
+    ) -> Result<(), Memory>
+        ensures { OnOk result (out.new.items ≡ out.old.items ++ response_text self reason.now) }
+    {
+        if self.status() == OK {
+            write_tunnel(out)
+        } else {
+            self.write_refusal(reason, out)
+        }
+    }
+
+    fn write_refusal<A: Allocator + Copy>(
+        self,
+        reason: &[u8],
+        out: &mut Vec<u8, A>,
+    ) -> Result<(), Memory>
+        ensures { OnOk result (out.new.items ≡ out.old.items ++ refusal_text self reason.now) }
+    {
+        let len = reason.len() + 1;
+        write_head(self.status(), self.phrase(), b"text/plain", len, out)?;
+        write_octets(reason, out)?;
+        write_octets(b"\n", out)
+    }
+}
+
+fn write_tunnel<A: Allocator + Copy>(out: &mut Vec<u8, A>) -> Result<(), Memory>
+    ensures { OnOk result (out.new.items ≡ out.old.items ++ tunnel_text) }
+{
+    write_status(OK, Ended::Connected.phrase(), out)?;
+    write_octets(b"\r\n", out)
+}
+
+/// Appends the response that has this page's text as its body.
+///
+/// # Errors
+///
+/// [`Memory`] where an allocation was refused: `out` then has a part of the response.
+pub fn write_page<A: Allocator + Copy>(
+    page: Page,
+    body: &[u8],
+    out: &mut Vec<u8, A>,
+) -> Result<(), Memory>
+    ensures { OnOk result (out.new.items ≡ out.old.items ++ page_text page body.now) }
+{
+    write_message(OK, b"OK", media_of(page), body, out)
+}
+
+fn media_of(page: Page) -> &'static [u8]
+    ensures { result.now ≡ media_of page }
+{
+    match page {
+        Page::Config => b"application/x-ns-proxy-autoconfig",
+        Page::Races => b"text/html; charset=utf-8",
+    }
+}
+
+// A response with a body, after which the connection is closed.
+fn write_message<A: Allocator + Copy>(
+    status: u16,
+    phrase: &[u8],
+    media: &[u8],
+    body: &[u8],
+    out: &mut Vec<u8, A>,
+) -> Result<(), Memory>
+    ensures { OnOk result (out.new.items ≡ out.old.items ++ message_text status phrase.now media.now body.now) }
+{
+    write_head(status, phrase, media, body.len(), out)?;
+    write_octets(body, out)
+}
+
+// What stands before a body of so many octets.
+#[tactic(auto, unfolding(crate::specs::Responses::head_text))]
+fn write_head<A: Allocator + Copy>(
+    status: u16,
+    phrase: &[u8],
+    media: &[u8],
+    len: usize,
+    out: &mut Vec<u8, A>,
+) -> Result<(), Memory>
+    ensures { OnOk result (out.new.items ≡ out.old.items ++ head_text status phrase.now media.now len) }
+{
+    write_status(status, phrase, out)?;
+    write_media(media, out)?;
+    write_len(len, out)
+}
+
+#[tactic(auto, unfolding(crate::specs::Responses::status_text))]
+fn write_status<A: Allocator + Copy>(
+    status: u16,
+    phrase: &[u8],
+    out: &mut Vec<u8, A>,
+) -> Result<(), Memory>
+    ensures { OnOk result (out.new.items ≡ out.old.items ++ status_text status phrase.now) }
+{
+    write_octets(b"HTTP/1.1 ", out)?;
+    write_number(status as u64, out)?;
+    write_octets(b" ", out)?;
+    write_octets(phrase, out)?;
+    write_octets(b"\r\n", out)
+}
+
+#[tactic(auto, unfolding(crate::specs::Responses::media_text))]
+fn write_media<A: Allocator + Copy>(media: &[u8], out: &mut Vec<u8, A>) -> Result<(), Memory>
+    ensures { OnOk result (out.new.items ≡ out.old.items ++ media_text media.now) }
+{
+    write_octets(b"Content-Type: ", out)?;
+    write_octets(media, out)?;
+    write_octets(b"\r\n", out)
+}
+
+#[tactic(auto, unfolding(crate::specs::Responses::len_text))]
+fn write_len<A: Allocator + Copy>(len: usize, out: &mut Vec<u8, A>) -> Result<(), Memory>
+    ensures { OnOk result (out.new.items ≡ out.old.items ++ len_text len) }
+{
+    write_octets(b"Content-Length: ", out)?;
+    write_number(len as u64, out)?;
+    write_octets(b"\r\nConnection: close\r\n\r\n", out)
+}
+
+/// Appends the proxy auto-config text that sends a browser's requests to this address and port by SOCKS 5, and straight
+/// to their hosts where it can't be reached. Those for this machine and for hosts without a dot go straight to them.
+///
+/// # Errors
+///
+/// [`Memory`] where an allocation was refused: `out` then has a part of the text.
+pub fn write_config<A: Allocator + Copy>(
+    ip: Ip,
+    port: u16,
+    out: &mut Vec<u8, A>,
+) -> Result<(), Memory>
+    ensures { OnOk result (out.new.items ≡ out.old.items ++ config_text ip port) }
+{
+    write_octets(b"function FindProxyForURL(url, host) {\n", out)?;
+    write_octets(
+        b"  if (isPlainHostName(host) || dnsDomainIs(host, \".localhost\") ||\n",
+        out,
+    )?;
+    write_octets(
+        b"      shExpMatch(host, \"127.*\") || host == \"::1\" || host == \"[::1]\")\n",
+        out,
+    )?;
+    write_octets(b"    return \"DIRECT\";\n  return \"SOCKS5 ", out)?;
+    write_socket(ip, port, out)?;
+    write_octets(b"; DIRECT\";\n}\n", out)
+}
+
+/// Appends the reason for which a client that asks for neither a tunnel nor a page is refused: how to set what it
+/// takes its proxy from.
+///
+/// # Errors
+///
+/// [`Memory`] where an allocation was refused: `out` then has a part of the line.
+pub fn write_advice<A: Allocator + Copy>(
+    ip: Ip,
+    port: u16,
+    out: &mut Vec<u8, A>,
+) -> Result<(), Memory>
+    ensures { OnOk result (out.new.items ≡ out.old.items ++ advice_text ip port) }
+{
+    write_octets(
+        b"he proxy speaks SOCKS 5 and CONNECT: set ALL_PROXY=socks5h://",
+        out,
+    )?;
+    write_socket(ip, port, out)?;
+    write_octets(b", or for https alone https_proxy=http://", out)?;
+    write_socket(ip, port, out)
+}
+
+// An address and a port, as in the authority of a URL (RFC 3986 section 3.2).
+fn write_socket<A: Allocator + Copy>(ip: Ip, port: u16, out: &mut Vec<u8, A>) -> Result<(), Memory>
+    ensures { OnOk result (out.new.items ≡ out.old.items ++ socket_text ip port) }
+{
+    write_url_host(ip, out)?;
+    write_octets(b":", out)?;
+    write_number(port as u64, out)
+}
+
+fn write_url_host<A: Allocator + Copy>(ip: Ip, out: &mut Vec<u8, A>) -> Result<(), Memory>
+    ensures { OnOk result (out.new.items ≡ out.old.items ++ url_host ip) }
+{
+    match ip {
+        Ip::V4(_) => write_ip(ip, out),
+        Ip::V6(_) => {
+            write_octets(b"[", out)?;
+            write_ip(ip, out)?;
+            write_octets(b"]", out)
+        }
+    }
+}
+
+fn write_octets<A: Allocator>(octets: &[u8], out: &mut Vec<u8, A>) -> Result<(), Memory>
+    ensures { OnOk result (out.new.items ≡ out.old.items ++ octets.now) }
+{
+    out.extend_from_slice(octets)?;
+    Ok(())
+}

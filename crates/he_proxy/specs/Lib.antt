@@ -1,0 +1,4 @@
+pub mod Access
+pub mod Dials
+pub mod Races
+pub mod Sockets

@@ -1,0 +1,232 @@
+//! The proxy: its sockets, and the loop that serves.
+
+ghost use Rattle.std.specs.Prelude.{IfOk};
+ghost use Rattle.futures.specs.Runs.{AllItems};
+ghost use Rattle.he_proxy.specs.Sockets.{MayAccept};
+
+use crate::access::{Place, is_loopback};
+use crate::beginning::Beginning;
+use crate::clients::{Clients, Service};
+use crate::fault::ProxyFault;
+use crate::log::Log;
+use crate::racer::LoopRacer;
+use crate::recent::Recent;
+use crate::record::Records;
+use crate::request::{DEFAULT_PORT, ProxyRequest};
+use crate::server::Server;
+use crate::sockets::SharedLoop;
+use crate::state::ProxyState;
+use futures::stream::SelectAll;
+use futures::{Future, Stream, StreamExt};
+use he_sessions::{Limits, Racer};
+use std::alloc::{AllocGlobal, Global};
+use std::io;
+use std::io::Write;
+use std::net::{IpAddr, Ipv4Addr, Ipv6Addr, Net, SocketAddr};
+use std::random::RandomSource;
+use std::rt::Files;
+use std::sync::Wait;
+use std::time::{Clock, Duration};
+use tokio::net::{Incoming, TcpListener, TcpStream};
+use tokio::runtime::{Handle, LocalRuntime};
+
+// How many seconds a client has for its request.
+const REQUEST: u64 = 10;
+
+/// Serves clients of SOCKS 5 and HTTP CONNECT: what they ask for is raced for by RFC 8305 and relayed. It goes on
+/// until a signal ends the process. What becomes of sessions is written to `faults`, as the request says.
+///
+/// # Errors
+///
+/// Those of [`ProxyFault`]. With any but `Runtime` and `Memory` no client was served.
+pub fn serve<'a, R, F>(
+    rt: &'a R,
+    alloc: Global,
+    request: &'a ProxyRequest<'a>,
+    faults: F,
+) -> Result<(), ProxyFault>
+where
+    F: Write + Drop,
+    R: Wait + Clock + RandomSource + AllocGlobal + Net + Files + Copy,
+{
+    refuse_open(request)?;
+    let mut runtime = LocalRuntime::new(rt)?;
+    let handle = runtime.handle().clone()?;
+    let (sockets, own) = listen(rt, alloc, &handle, request.listen)?;
+    let state = ProxyState {
+        own,
+        records: open_records(rt, alloc, request)?,
+        recent: Recent::new(alloc),
+        beginning: Beginning::new(),
+        log: Log::new(alloc, request.log, faults),
+    };
+    let shared = SharedLoop {
+        rt: &*rt,
+        alloc,
+        handle: &handle,
+    };
+    race_sessions(&mut runtime, shared, &*request, &state, sockets)?;
+    Err(ProxyFault::Runtime)
+}
+
+// Serves the clients of the sockets, with races over them.
+fn race_sessions<'x, R, F>(
+    runtime: &mut LocalRuntime,
+    shared: SharedLoop<'x, R>,
+    request: &'x ProxyRequest<'x>,
+    state: &'x ProxyState<F>,
+    sockets: SelectAll<Incoming>,
+) -> io::Result<()>
+where
+    F: Write + Drop,
+    R: Wait + Clock + RandomSource + AllocGlobal + Net + Files + Copy,
+    requires { MayAccept sockets }
+{
+    let racer = LoopRacer {
+        shared,
+        request,
+        state,
+    };
+    serve_racer(runtime, &racer, &racer, sockets)
+}
+
+// The same, with whatever races for them: the prover does not cover the two in one.
+fn serve_racer<'x, R, Q, F>(
+    runtime: &mut LocalRuntime,
+    parts: &LoopRacer<'x, R, F>,
+    racer: &'x Q,
+    sockets: SelectAll<Incoming>,
+) -> io::Result<()>
+where
+    Q: Racer,
+    F: Write + Drop,
+    R: Wait + Clock + RandomSource + AllocGlobal + Copy,
+    requires { MayAccept sockets }
+{
+    let LoopRacer {
+        shared,
+        request,
+        state,
+    } = *parts;
+    let server = Server {
+        shared,
+        racer,
+        allow: request.allow,
+        limits: Limits {
+            request: Duration::from_secs(REQUEST),
+            idle: request
+                .idle
+                .map(|seconds| Duration::from_secs(u64::from(seconds))),
+        },
+        state: &*state,
+    };
+    serve_sockets(runtime, shared, &server, sockets, request.most)
+}
+
+// Serves the clients of the sockets, so many at once.
+fn serve_sockets<'q, R, V, S>(
+    runtime: &mut LocalRuntime,
+    shared: SharedLoop<'q, R>,
+    service: &'q V,
+    sockets: S,
+    most: u32,
+) -> io::Result<()>
+where
+    R: Wait + Clock + RandomSource + AllocGlobal,
+    V: Service,
+    S: Stream<Item = io::Result<TcpStream>>,
+    requires { S.can_poll sockets }
+{
+    let SharedLoop { rt, alloc, handle } = shared;
+    let clients = Clients::new(rt, handle.time(), service, sockets)?;
+    run(rt, alloc, runtime, clients, most)
+}
+
+// Runs the sessions as they come, so many at once.
+fn run<R, S, F>(
+    rt: &R,
+    alloc: Global,
+    runtime: &mut LocalRuntime,
+    sessions: S,
+    most: u32,
+) -> io::Result<()>
+where
+    R: Wait + Clock + RandomSource + AllocGlobal,
+    S: Stream<Item = F>,
+    F: Future<Output = ()>,
+    requires stream { S.can_poll sessions }
+    requires items { AllItems (S.yields sessions) F.can_poll }
+{
+    let running = sessions.for_each_concurrent(alloc, most as usize, |session| session)?;
+    runtime.block_on(rt, running)
+}
+
+// That an address is open to others only where some are allowed.
+fn refuse_open(request: &ProxyRequest<'_>) -> Result<(), ProxyFault> {
+    for socket in request.listen {
+        if request.allow.is_empty() && !is_loopback(Place::of(*socket).ip) {
+            return Err(ProxyFault::Open(*socket));
+        }
+    }
+    Ok(())
+}
+
+// Listens at the addresses; with none, at loopback's, of which one is enough.
+fn listen<R: Net>(
+    rt: &R,
+    alloc: Global,
+    handle: &Handle,
+    addresses: &[SocketAddr],
+) -> Result<(SelectAll<Incoming>, Vec<Place>), ProxyFault>
+    ensures { IfOk result (λ listening. MayAccept listening.0) }
+{
+    let mut sockets = SelectAll::new(alloc)?;
+    let mut own = Vec::new(alloc);
+    if addresses.is_empty() {
+        let first = SocketAddr::new(IpAddr::V4(Ipv4Addr::LOCALHOST), DEFAULT_PORT);
+        let second = SocketAddr::new(IpAddr::V6(Ipv6Addr::LOCALHOST), DEFAULT_PORT);
+        let of_first = add_socket(rt, handle, first, &mut sockets, &mut own);
+        let of_second = add_socket(rt, handle, second, &mut sockets, &mut own);
+        if of_second.is_err() {
+            of_first?;
+        }
+    }
+    for address in addresses {
+        add_socket(rt, handle, *address, &mut sockets, &mut own)?;
+    }
+    Ok((sockets, own))
+}
+
+fn add_socket<R: Net>(
+    rt: &R,
+    handle: &Handle,
+    address: SocketAddr,
+    sockets: &mut SelectAll<Incoming>,
+    own: &mut Vec<Place>,
+) -> Result<(), ProxyFault>
+    requires { MayAccept sockets.old }
+    ensures { MayAccept sockets.new }
+{
+    let listener = match TcpListener::bind(rt, address, handle.reactor()) {
+        Ok(listener) => listener,
+        Err(error) => return Err(ProxyFault::Listen(address, error.kind())),
+    };
+    let local = listener.local_addr()?;
+    own.push(Place::of(local))?;
+    sockets.push(listener.incoming())?;
+    Ok(())
+}
+
+fn open_records<R: Files + AllocGlobal + Copy>(
+    rt: &R,
+    alloc: Global,
+    request: &ProxyRequest<'_>,
+) -> Result<Option<Records>, ProxyFault> {
+    let Some(dir) = request.record else {
+        return Ok(None);
+    };
+    match Records::open(rt, alloc, dir, request.record_most) {
+        Ok(records) => Ok(Some(records)),
+        Err(error) => Err(ProxyFault::Record(error.kind())),
+    }
+}

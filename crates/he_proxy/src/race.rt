@@ -1,0 +1,52 @@
+//! A race of a session: what it hands out, and that its record is kept.
+ghost use Rattle.std.specs.Prelude.{◌≡◌};
+
+use crate::dial::Joined;
+use crate::keeping::Keeping;
+use futures::Future;
+use futures::task::{Context, Poll};
+use he_front::Ended;
+use he_race::{RaceFault, Raced};
+use he_sessions::Won;
+use std::alloc::AllocGlobal;
+use std::random::RandomSource;
+use std::rt::Files;
+
+/// A race that a session asks for, over whatever race there is. Once it has ended its record is kept.
+#[derive(Drop)]
+pub struct LoopRace<'h, R, F: Drop> {
+    race: F,
+    keeping: Keeping<'h, R>,
+}
+
+impl<'h, R, F: Drop> LoopRace<'h, R, F> {
+    pub fn new(race: F, keeping: Keeping<'h, R>) -> LoopRace<'h, R, F>
+        ensures { result.race ≡ race }
+    {
+        LoopRace { race, keeping }
+    }
+}
+
+impl<'h, R, F> Future for LoopRace<'h, R, F>
+where
+    R: Files + RandomSource + AllocGlobal + Copy,
+    F: Future<Output = Result<Raced<Joined>, RaceFault>>,
+{
+    type Output = Result<Won, Ended>;
+
+    ghost use Rattle.he_proxy.specs.Races.{HandsOut};
+
+    ghost can_poll = { λ s. F.can_poll s.race };
+
+    ghost needs = { λ s. F.needs s.race };
+
+    ghost gives = { λ s end. HandsOut (F.gives s.race) end };
+
+    fn poll(&mut self, cx: &mut Context<'_>) -> Poll<Result<Won, Ended>> {
+        match self.race.poll(cx) {
+            Poll::Pending => Poll::Pending,
+            Poll::Ready(Ok(raced)) => Poll::Ready(self.keeping.end(raced)),
+            Poll::Ready(Err(_)) => Poll::Ready(Err(Ended::Failed)),
+        }
+    }
+}

@@ -1,0 +1,106 @@
+//! The race of a session over the sockets of the event loop.
+ghost use Rattle.std.specs.Prelude.{◌≡◌, IfOk};
+ghost use Rattle.he_connect.specs.Races.{only_of};
+ghost use Rattle.he_resolver.specs.Begins.{BeginsFor};
+ghost use Rattle.he_resolver.specs.Heard.{IsSound};
+
+use crate::access::Reach;
+use crate::dial::LoopConnector;
+use futures::Future;
+use he_connect::{ConnectFault, ConnectRequest, HostAnswers, LookupFaults, Setup};
+use he_live::{LiveTicker, Quiet, Steps};
+use he_race::ResolvingRace;
+use he_resolver::{Lookup, Wanted};
+use std::alloc::{AllocError, AllocGlobal, Global};
+use std::net::Net;
+use std::random::RandomSource;
+use std::rt::Files;
+use std::time::{Clock, Instant};
+use tokio::runtime::Handle;
+
+/// The race over the sockets of the event loop.
+pub type SocketRace<'h, R> = ResolvingRace<
+    LoopConnector<'h, R>,
+    HostAnswers<'h, R, Quiet>,
+    LiveTicker<'h, R, Quiet>,
+>;
+
+/// The event loop that all races share.
+#[derive(Clone, Copy)]
+pub struct SharedLoop<'h, R> {
+    pub rt: &'h R,
+    pub alloc: Global,
+    pub handle: &'h Handle,
+}
+
+/// What is noted of a race while it runs.
+#[derive(Drop)]
+pub struct Noted {
+    /// What happened to its attempts.
+    pub steps: Steps,
+    /// Why its families have no address.
+    pub why: LookupFaults,
+}
+
+impl Noted {
+    /// Nothing has happened yet.
+    ///
+    /// # Errors
+    ///
+    /// `AllocError` where an allocation was refused.
+    pub fn new(alloc: Global) -> Result<Noted, AllocError> {
+        Ok(Noted {
+            steps: Steps::new(alloc)?,
+            why: LookupFaults::new(alloc)?,
+        })
+    }
+}
+
+// A look-up of the request's host by name servers, which waits in the event loop.
+fn look_up<'h, R>(
+    shared: SharedLoop<'h, R>,
+    request: &ConnectRequest<'_>,
+) -> Result<Lookup<'h, R>, ConnectFault>
+where
+    R: Clock + RandomSource + AllocGlobal + Net + Files + Copy,
+    ensures begins { IfOk result (λ lookup. BeginsFor request.now.host.now request.now.resolver (only_of
+        request.now.families) lookup.source) }
+    ensures sound { IfOk result (λ lookup. IsSound lookup.source) }
+{
+    let SharedLoop { rt, alloc, handle } = shared;
+    let wanted = Wanted {
+        host: request.host,
+        only: request.families.only(),
+        choice: request.resolver,
+    };
+    let (reactor, timers) = (handle.reactor(), handle.time());
+    Ok(Lookup::by_servers(rt, alloc, reactor, timers, wanted)?)
+}
+
+/// The race that is set up, before its first turn.
+///
+/// # Errors
+///
+/// `Name` where the host can't be looked up, `Runtime` where the clock fails, `Memory`.
+pub fn socket_race<'h, R>(
+    shared: SharedLoop<'h, R>,
+    setup: &Setup<'_>,
+    reach: Reach<'h>,
+    noted: &Noted,
+) -> Result<SocketRace<'h, R>, ConnectFault>
+where
+    R: Clock + RandomSource + AllocGlobal + Net + Files + Copy,
+    ensures { IfOk result ⟦<SocketRace<'h, R> as Future>⟧.can_poll }
+{
+    let SharedLoop { rt, alloc, handle } = shared;
+    let start = Instant::now(rt)?;
+    let lookup = look_up(shared, &setup.request)?;
+    let machine = if setup.brings_lines { Some(rt) } else { None };
+    let source = HostAnswers::new(alloc, lookup, machine, noted.why.share()?, Quiet)?;
+    let steps = noted.steps.share()?;
+    let connector = LoopConnector::new(rt, handle.reactor(), setup.to, reach, steps);
+    let steps = noted.steps.share()?;
+    let ticker = LiveTicker::new(rt, handle.time(), start, steps, Quiet);
+    let race = ResolvingRace::new(alloc, &setup.start, connector, source, ticker)?;
+    Ok(race)
+}

@@ -1,0 +1,170 @@
+//! One way of a polled relay: what a reader gives is put into a writer, a little at a time.
+ghost use Rattle.std.specs.Prelude.{◌≡◌, ◌^◌, ◌<◌, ◌≤◌, true, length, IfOk, Ok};
+ghost use Rattle.futures.specs.Poll.{OnPending};
+ghost use Rattle.futures.specs.Task.{IsArmed, Keeps};
+ghost use Rattle.tokio.specs.Io.Moved.{IfReadyErr, OnReadyOk, bytes_moved, count_moved};
+
+use futures::ready;
+use futures::task::{Context, Poll};
+use std::alloc::AllocError;
+use std::io;
+use tokio::io::{AsyncRead, AsyncWrite};
+
+// The most bytes that are read at once.
+const ROOM: usize = 16_384;
+
+// The most reads and writes of one poll, before other tasks are polled.
+const MOST_STEPS: usize = 4;
+
+/// Why a way broke off.
+#[derive(Clone, Copy, Debug, PartialEq, Eq)]
+pub enum WayFault {
+    /// A read failed.
+    Reader,
+    /// A write or the shutdown failed, or a write took no byte.
+    Writer,
+}
+
+/// One way of a polled relay: what was read and isn't written yet.
+#[derive(Drop)]
+pub struct Way {
+    room: Vec<u8>,
+    from: usize,
+    to: usize,
+    // Whether the reader has ended.
+    has_ended: bool,
+    // Whether the writer was shut down after the last byte.
+    is_shut: bool,
+    // How many bytes were written.
+    moved: u64,
+    ghost within: { (from ≤ to) × (to ≤ length room.items) × (0 < length room.items) },
+    ghost over: { is_shut ≡ true → (has_ended ≡ true) × (from ≡ to) },
+    ghost fits: { moved < 2 ^ 64 },
+}
+
+impl Way {
+    ghost use Rattle.he_relay.specs.Ways.{Begins, Breaks, IsAfter, IsOver, Moves, held};
+
+    /// A way that writes these bytes first, which came early, and then what is read.
+    ///
+    /// # Errors
+    ///
+    /// `AllocError` where an allocation was refused.
+    pub fn new(early: Vec<u8>) -> Result<Way, AllocError>
+        ensures { IfOk result (Begins early.items) }
+    {
+        let mut room = early;
+        let to = room.len();
+        room.resize(to.max(ROOM), 0)?;
+        Ok(Way {
+            room,
+            from: 0,
+            to,
+            has_ended: false,
+            is_shut: false,
+            moved: 0,
+        })
+    }
+
+    /// How many bytes were written, at most 2^64 - 1.
+    pub fn moved(&self) -> u64
+        ensures { result ≡ self.now.moved }
+    {
+        self.moved
+    }
+
+    /// Reads and writes until it would have to wait, but a few times at most, and then lets other tasks run. Ready
+    /// once the reader has ended, all that it gave is written, and the writer is shut down.
+    ///
+    /// # Errors
+    ///
+    /// - `Reader` where a read failed.
+    /// - `Writer` where a write or the shutdown failed, or a write took no byte.
+    pub fn poll_way<R: AsyncRead, W: AsyncWrite>(
+        &mut self,
+        reader: &mut R,
+        writer: &mut W,
+        cx: &mut Context<'_>,
+    ) -> Poll<Result<(), WayFault>>
+        ensures moves { Moves R.reads W.writes R.is_at_end
+            self.old reader.old writer.old self.new reader.new writer.new }
+        ensures over { OnReadyOk result (IsOver self.new) }
+        ensures broke { IfReadyErr result
+            (Breaks R.fails W.fails W.is_full reader.new writer.new) }
+        ensures armed { OnPending result (IsArmed cx.new) }
+        ensures kept { Keeps cx.old cx.new }
+    {
+        for _ in 0..MOST_STEPS {
+            if self.is_shut {
+                return Poll::Ready(Ok(()));
+            }
+            if let Err(fault) = ready!(self.poll_step(reader, writer, cx)) {
+                return Poll::Ready(Err(fault));
+            }
+        }
+        cx.yield_now()
+    }
+
+    // One read, one write, or the shutdown at the end.
+    fn poll_step<R: AsyncRead, W: AsyncWrite>(
+        &mut self,
+        reader: &mut R,
+        writer: &mut W,
+        cx: &mut Context<'_>,
+    ) -> Poll<Result<(), WayFault>>
+        ensures moves { Moves R.reads W.writes R.is_at_end
+            self.old reader.old writer.old self.new reader.new writer.new }
+        ensures broke { IfReadyErr result
+            (Breaks R.fails W.fails W.is_full reader.new writer.new) }
+        ensures armed { OnPending result (IsArmed cx.new) }
+        ensures kept { Keeps cx.old cx.new }
+    {
+        if self.from < self.to {
+            return match ready!(self.poll_put(writer, cx)) {
+                Ok(0) | Err(_) => Poll::Ready(Err(WayFault::Writer)),
+                Ok(_) => Poll::Ready(Ok(())),
+            };
+        }
+        if self.has_ended {
+            return match ready!(writer.poll_shutdown(cx)) {
+                Ok(()) => {
+                    self.is_shut = true;
+                    Poll::Ready(Ok(()))
+                }
+                Err(_) => Poll::Ready(Err(WayFault::Writer)),
+            };
+        }
+        self.from = 0;
+        self.to = 0;
+        match ready!(reader.poll_read(cx, self.room.as_mut_slice())) {
+            Ok(count) => {
+                self.to = count;
+                self.has_ended = count == 0;
+                Poll::Ready(Ok(()))
+            }
+            Err(_) => Poll::Ready(Err(WayFault::Reader)),
+        }
+    }
+    // One write of what is held, of which a count is taken.
+    fn poll_put<W: AsyncWrite>(
+        &mut self,
+        writer: &mut W,
+        cx: &mut Context<'_>,
+    ) -> Poll<io::Result<usize>>
+        requires { self.old.from < self.old.to }
+        ensures bytes { W.writes writer.old (bytes_moved result (held self.old)) writer.new }
+        ensures bound { count_moved result ≤ length (held self.old) }
+        ensures rest { IsAfter (count_moved result) self.old self.new }
+        ensures full { result ≡ Poll.Ready (Ok 0) → W.is_full writer.new }
+        ensures failed { IfReadyErr result (W.fails writer.new) }
+        ensures armed { OnPending result (IsArmed cx.new) }
+        ensures kept { Keeps cx.old cx.new }
+    {
+        let put = writer.poll_write(cx, &self.room[self.from..self.to]);
+        if let Poll::Ready(Ok(count)) = &put {
+            self.from += *count;
+            self.moved = self.moved.saturating_add(*count as u64);
+        }
+        put
+    }
+}

@@ -1,0 +1,56 @@
+-- What the line of a proxy asks for, by what clap found of its words.
+use Rattle.std.specs.Prelude.{◌≡◌, ◌⊎◌, ◌<◌, Bool, true, false, List, [], ◌∷◌, ℕ, Option, Result, codes, option_map}
+use Rattle.std.specs.Net.Grammar.{IsSocketText}
+use Rattle.std.specs.Net.Socket.{socket_port}
+use Rattle.std.specs.declared.net.socket_addr.SocketAddr.{SocketAddr}
+use Rattle.clap.specs.Matches.{first_value}
+use Rattle.clap.specs.declared.parser.matches.Found.{Found}
+use Rattle.he_addr.specs.Text.{SpellsPrefix}
+use Rattle.he_addr.specs.Prefix.{PrefixBits}
+use Rattle.he_timeline.specs.Changes.{ChangeValues}
+use Rattle.he_request.specs.Requests.{AsksFamily}
+use Rattle.he_request.specs.Words.{AsksChanges, HasFlag, HasNumber, connect_settings, values_of}
+use Rattle.he_request.specs.declared.proxy.Proxy.{Proxy}
+use Rattle.he_request.specs.declared.proxy.SessionLog.{SessionLog}
+use Rattle.he_request.specs.declared.proxy.SessionLog.TheVariants as logs
+
+-- a text names an address with a port other than 0
+abbrev pub NamesAddress : List ℕ → SocketAddr → Type 0
+NamesAddress text address = IsSocketText text address × (0 < socket_port address)
+
+abbrev pub NamesNoAddress : List ℕ → Type 0
+NamesNoAddress text =
+    ((address : SocketAddr) → IsSocketText text address → ⊥)
+    ⊎ ((address : SocketAddr) × IsSocketText text address × (socket_port address ≡ 0))
+
+-- each of these is what the text at its place names
+abbrev pub AreNamed : {X : Type 0} → (List ℕ → X → Type 0) → List (List ℕ) → List X → Type 0
+AreNamed names [] [] = Unit {0}
+AreNamed names (text ∷ texts) (x ∷ xs) = names text x × AreNamed names texts xs
+AreNamed names _ _ = ⊥
+
+-- -q before --log-json
+abbrev pub log_of : Bool → Bool → SessionLog
+log_of true json = logs.Nothing
+log_of false true = logs.Json
+log_of false false = logs.Line
+
+-- the addresses, the networks, the settings and the folder of the line
+pub record AsksProxy {E : Type 0} (gives : List ℕ → Result ℕ E → Type 0) (found : Found) (proxy : Proxy) : Type 0 where
+  pub listen : AreNamed NamesAddress (values_of found (codes "listen")) proxy.listen.items
+  pub allow : AreNamed SpellsPrefix (values_of found (codes "allow")) proxy.allow.items
+  pub allows_private : HasFlag found (codes "allow-private") proxy.allows_private
+  pub only : AsksFamily found proxy.only
+  pub changes : ChangeValues
+  pub asked : AsksChanges gives found changes
+  pub settings : proxy.settings ≡ connect_settings changes
+  pub lines : option_map (λ path. path.now) proxy.lines ≡ first_value found (codes "host-lines")
+  pub record_is : option_map (λ path. path.now) proxy.record ≡ first_value found (codes "record")
+  pub record_most : HasNumber gives found (codes "record-most") proxy.record_most
+  pub most : HasNumber gives found (codes "most") proxy.most
+  pub idle : HasNumber gives found (codes "idle") proxy.idle
+  pub quiet : Bool
+  pub json : Bool
+  pub is_quiet : HasFlag found (codes "quiet") quiet
+  pub is_json : HasFlag found (codes "log-json") json
+  pub log : proxy.log ≡ log_of quiet json

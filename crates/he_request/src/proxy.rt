@@ -1,0 +1,224 @@
+//! `he proxy`.
+ghost use Rattle.std.specs.Prelude.{◌≡◌, IfNone, IfOk, IfSome, map};
+ghost use Rattle.clap.specs.Matches.{found_of};
+ghost use Rattle.he_addr.specs.Text.{SpellsPrefix};
+ghost use Rattle.he_request.specs.Proxies.{AreNamed, AsksProxy, NamesAddress, NamesNoAddress, log_of};
+
+use crate::arguments::{flag, flag_of, letter, plain, value, values_of};
+use crate::connect::{LINES_HELP, family_of};
+use crate::limits::{MOST_IDLE, MOST_RECORDS, MOST_SESSIONS};
+use crate::refusal::{OptionFault, Refusal};
+use crate::resolver::{Resolver, resolver_argument, resolver_of};
+use crate::settings::{changes_of, set, settings_of, timeout};
+use clap::{ArgAction, ArgMatches, Command, value_parser};
+use he_addr::{Family, Prefix, read_prefix};
+use he_timeline::Settings;
+use std::alloc::{AllocError, Global};
+use std::net::SocketAddr;
+use std::str::FromStr;
+
+const ABOUT: &str = "Serve SOCKS 5 and HTTP CONNECT, and race for each connection";
+
+const LISTEN_HELP: &str = "The address and port to serve; repeatable. Default is\n\
+127.0.0.1:1080 and [::1]:1080";
+
+const ALLOW_HELP: &str = "Serve clients of NETWORK too, as 192.0.2.0/24;\n\
+repeatable. An address to listen on that is not a\nloopback address needs one";
+
+const PRIVATE_HELP: &str = "Connect clients of other machines to loopback,\n\
+link-local and private addresses too";
+
+const RECORD_HELP: &str = "Write each race to a file of its own under DIR";
+
+const RECORD_MOST_HELP: &str =
+    "Keep N records; the oldest days are removed first;\ndefault is 10000";
+
+const MOST_HELP: &str = "Serve N clients at once; default is 1000";
+
+const IDLE_HELP: &str = "Close a tunnel on which nothing came for so many\n\
+seconds; by default none is closed";
+
+const EXAMPLE: &str = "\
+Programs that know a proxy get the races of `he connect` by it. SOCKS 5 (with
+names, so that they are looked up here) and HTTP CONNECT are served on the same
+port. Each connection is looked up and raced as RFC 8305 says, and its tunnel
+lasts until both sides have closed theirs.
+
+The defaults are attempt=250, resolution=50, count=1, limit=30000, floor=10.
+
+Examples:
+
+  he proxy --record day/
+  ALL_PROXY=socks5h://127.0.0.1:1080 curl https://example.org/
+  git -c http.proxy=socks5h://127.0.0.1:1080 clone https://example.org/it.git
+  ssh -o ProxyCommand='nc -X 5 -x 127.0.0.1:1080 %h %p' example.org
+
+A browser takes http://127.0.0.1:1080/proxy.pac as its proxy configuration.
+
+With --record the race of each connection is a file of its own, which has its
+time (UTC) and target in its name, and which all commands read that take races:
+
+  day/2026-11-26/16-34-40.123-example.org-443.timeline
+
+  he summary day/*/*.timeline
+  he draw --html day.html day/*/*.timeline
+
+Standard error has a line for each session: the time, the client, what it asked
+for, the address that won, milliseconds, milliseconds lost, bytes from the
+client and to it, and how it ended. With -q there is none.
+
+It listens on loopback alone unless --allow says who else may come. Nobody else
+may reach this machine or a private network through it without --allow-private.
+
+Exit status: 1 after a fault, as where an address is taken; 2 for a line that is
+refused. It goes on until a signal ends it.";
+
+// Its arguments, in the order in which help has them.
+pub(crate) fn command<'a>(alloc: Global) -> Result<Command<'a>, AllocError> {
+    let six = letter(alloc, "six", '6', "Try IPv6 addresses alone").conflicts_with("four")?;
+    let quiet = flag(alloc, "quiet", "Write no line for a session")
+        .short('q')
+        .conflicts_with("log-json")?;
+    let most = value(alloc, "most", "N", MOST_HELP);
+    let records = value(alloc, "record-most", "N", RECORD_MOST_HELP);
+    let idle = value(alloc, "idle", "SECONDS", IDLE_HELP);
+    let args = vec![in alloc;
+        value(alloc, "listen", "ADDRESS:PORT", LISTEN_HELP).action(ArgAction::Append),
+        value(alloc, "allow", "NETWORK", ALLOW_HELP).action(ArgAction::Append),
+        flag(alloc, "allow-private", PRIVATE_HELP),
+        letter(alloc, "four", '4', "Try IPv4 addresses alone"),
+        six,
+        timeout(alloc),
+        set(alloc),
+        value(alloc, "host-lines", "FILE", LINES_HELP).long("host"),
+        resolver_argument(alloc),
+        value(alloc, "record", "DIR", RECORD_HELP),
+        records.value_parser(value_parser!(u32).range(1..=i64::from(MOST_RECORDS))),
+        most.value_parser(value_parser!(u32).range(1..=i64::from(MOST_SESSIONS))),
+        idle.value_parser(value_parser!(u32).range(1..=i64::from(MOST_IDLE))),
+        quiet,
+        flag(
+            alloc,
+            "log-json",
+            "Write the line of a session as a JSON object"
+        ),
+    ]?;
+    plain(alloc, "proxy", ABOUT, EXAMPLE, args)
+}
+
+/// What is written of each session.
+#[derive(Clone, Copy, Debug, PartialEq, Eq)]
+pub enum SessionLog {
+    Nothing,
+    Line,
+    Json,
+}
+
+/// A proxy that serves until a signal ends it.
+#[derive(Drop)]
+pub struct Proxy<'a> {
+    /// The addresses to serve, with their ports; those of loopback where there are none.
+    pub listen: Vec<SocketAddr>,
+    /// From where clients may come, beside this machine.
+    pub allow: Vec<Prefix>,
+    /// Whether clients of other machines may reach private addresses.
+    pub allows_private: bool,
+    /// The family that is tried alone; both are where there is none.
+    pub only: Option<Family>,
+    /// The settings of the races.
+    pub settings: Settings,
+    /// The file that has the source, route and policy lines of the races, in place of this machine.
+    pub lines: Option<&'a str>,
+    pub resolver: Resolver,
+    /// The folder of the records.
+    pub record: Option<&'a str>,
+    /// How many records are kept, where that is given.
+    pub record_most: Option<u32>,
+    /// How many sessions there may be at once, where that is given.
+    pub most: Option<u32>,
+    /// After how many seconds an idle tunnel is closed, where that is given.
+    pub idle: Option<u32>,
+    pub log: SessionLog,
+}
+
+// The proxy that the line asks for.
+pub(crate) fn proxy_of<'a>(alloc: Global, matches: &ArgMatches<'a>) -> Result<Proxy<'a>, Refusal>
+    ensures { IfOk result (AsksProxy ⟦<u32 as FromStr>⟧.from_str_gives (found_of matches.now)) }
+{
+    let listen = addresses_in(alloc, values_of(matches, "listen"))?;
+    let allow = networks_in(alloc, values_of(matches, "allow"))?;
+    let settings = settings_of(changes_of(matches)?);
+    let resolver = resolver_of(matches)?;
+    Ok(Proxy {
+        listen,
+        allow,
+        allows_private: flag_of(matches, "allow-private"),
+        only: family_of(matches),
+        settings,
+        lines: matches.get_str("host-lines"),
+        resolver,
+        record: matches.get_str("record"),
+        record_most: matches.get_one::<u32>("record-most"),
+        most: matches.get_one::<u32>("most"),
+        idle: matches.get_one::<u32>("idle"),
+        log: log_of(flag_of(matches, "quiet"), flag_of(matches, "log-json")),
+    })
+}
+
+fn log_of(is_quiet: bool, is_json: bool) -> SessionLog
+    ensures { result ≡ log_of is_quiet is_json }
+{
+    if is_quiet {
+        SessionLog::Nothing
+    } else if is_json {
+        SessionLog::Json
+    } else {
+        SessionLog::Line
+    }
+}
+
+// The addresses to serve, one for each of these texts.
+fn addresses_in(alloc: Global, texts: &[&str]) -> Result<Vec<SocketAddr>, Refusal>
+    ensures { IfOk result (λ listen. AreNamed NamesAddress (map (λ text. text.now) texts.now) listen.items) }
+{
+    let mut listen = Vec::new(alloc);
+    for text in texts {
+        let Some(address) = read_listen(text.as_bytes()) else {
+            return Err(Refusal::Option(OptionFault::Listen));
+        };
+        match listen.push(address) {
+            Ok(()) => {}
+            Err(_) => return Err(Refusal::Memory),
+        }
+    }
+    Ok(listen)
+}
+
+// The address and the port that a text names, as `127.0.0.1:1080` and `[::1]:1080`; None for any other text, and for
+// port 0.
+fn read_listen(text: &[u8]) -> Option<SocketAddr>
+    ensures some { IfSome result (NamesAddress text.now) }
+    ensures none { IfNone result (NamesNoAddress text.now) }
+{
+    match SocketAddr::parse_ascii(text) {
+        Ok(address) if address.port() != 0 => Some(address),
+        _ => None,
+    }
+}
+
+// The networks from where clients may come, one for each of these texts.
+fn networks_in(alloc: Global, texts: &[&str]) -> Result<Vec<Prefix>, Refusal>
+    ensures { IfOk result (λ allow. AreNamed SpellsPrefix (map (λ text. text.now) texts.now) allow.items) }
+{
+    let mut allow = Vec::new(alloc);
+    for text in texts {
+        let Some(network) = read_prefix(text.as_bytes()) else {
+            return Err(Refusal::Option(OptionFault::Network));
+        };
+        match allow.push(network) {
+            Ok(()) => {}
+            Err(_) => return Err(Refusal::Memory),
+        }
+    }
+    Ok(allow)
+}

@@ -1,0 +1,144 @@
+//! What a client's octets ask for.
+ghost use Rattle.std.specs.Prelude.{◌≡◌, IfOk, IfSome, drop};
+ghost use Rattle.httparse.specs.Spans.{span_bytes};
+ghost use Rattle.he_front.specs.Http.{HasHead};
+ghost use Rattle.he_front.specs.declared.http.Head.TheVariants as heads;
+ghost use Rattle.he_sessions.specs.Asks.{Asks, IsFailure};
+
+use he_front::{
+    Asked, Ended, Head, Opening, Read, ReadHead, Refusal, opening_of, read_greeting, read_head,
+    read_request,
+};
+use httparse::spans::Span;
+use std::alloc::{AllocError, Global};
+
+/// Which protocol a client speaks.
+#[derive(Clone, Copy, Debug, PartialEq, Eq)]
+pub enum Protocol {
+    /// SOCKS 4, which is refused.
+    OldSocks,
+    /// SOCKS 5 (RFC 1928).
+    Socks,
+    /// HTTP (RFC 9110 section 9.3.6).
+    Http,
+}
+
+/// What octets ask for.
+#[derive(Drop)]
+pub enum Ask {
+    /// More of them decide.
+    More,
+    /// A greeting of so many octets, after which the request comes.
+    Greeting(usize),
+    /// A greeting that offers no method that will do.
+    NoMethod,
+    /// A tunnel, by so many octets.
+    Tunnel(Protocol, Asked, usize),
+    /// A page: where its path and the value of the field Host stand.
+    Page(Span, Option<Span>),
+    /// What is refused, with how it ends.
+    Refused(Protocol, Ended),
+    /// No protocol of this proxy.
+    Unknown,
+}
+
+// What the octets ask for. A client of SOCKS 5 that was greeted asks by a request.
+pub(crate) fn read_ask(alloc: Global, octets: &[u8], was_greeted: bool) -> Result<Ask, AllocError>
+    ensures { IfOk result (Asks octets.now) }
+{
+    if was_greeted {
+        return read_socks(alloc, octets);
+    }
+    let Some(first) = octets.first() else {
+        return Ok(Ask::More);
+    };
+    match opening_of(*first) {
+        Opening::Socks => Ok(greeting_in(octets)),
+        Opening::OldSocks => Ok(Ask::Refused(Protocol::OldSocks, Ended::Command)),
+        Opening::Http => read_http(alloc, octets),
+        Opening::Other => Ok(Ask::Unknown),
+    }
+}
+
+fn greeting_in(octets: &[u8]) -> Ask
+    ensures { Asks octets.now result }
+{
+    match read_greeting(octets) {
+        Read::Whole(true, len) => Ask::Greeting(len),
+        Read::Whole(false, _) => Ask::NoMethod,
+        Read::Partial => Ask::More,
+        Read::Refused(_) => Ask::Unknown,
+    }
+}
+
+fn read_socks(alloc: Global, octets: &[u8]) -> Result<Ask, AllocError>
+    ensures { IfOk result (Asks octets.now) }
+{
+    let (request, len) = match read_request(octets) {
+        Read::Whole(request, len) => (request, len),
+        Read::Partial => return Ok(Ask::More),
+        Read::Refused(refusal) => {
+            return Ok(Ask::Refused(Protocol::Socks, ended_by(refusal)));
+        }
+    };
+    match Asked::by_socks(alloc, &request) {
+        Ok(Some(asked)) => Ok(Ask::Tunnel(Protocol::Socks, asked, len)),
+        Ok(None) => Ok(Ask::Refused(Protocol::Socks, Ended::Kind)),
+        Err(refused) => Err(refused),
+    }
+}
+
+fn ended_by(refusal: Refusal) -> Ended
+    ensures { IsFailure result }
+{
+    match refusal {
+        Refusal::Message => Ended::Failed,
+        Refusal::Command => Ended::Command,
+        Refusal::Kind => Ended::Kind,
+    }
+}
+
+fn read_http(alloc: Global, octets: &[u8]) -> Result<Ask, AllocError>
+    ensures { IfOk result (Asks octets.now) }
+{
+    match read_head(octets) {
+        ReadHead::Whole(Head::Tunnel(target), len) => read_connect(alloc, octets, target, len),
+        ReadHead::Whole(Head::Get(path, host), _) => Ok(Ask::Page(path, host)),
+        ReadHead::Whole(Head::Other, _) => Ok(Ask::Refused(Protocol::Http, Ended::Command)),
+        ReadHead::Partial => Ok(Ask::More),
+        ReadHead::Refused => Ok(Ask::Refused(Protocol::Http, Ended::Kind)),
+    }
+}
+
+// The tunnel to the target that stands here.
+fn read_connect(alloc: Global, octets: &[u8], target: Span, len: usize) -> Result<Ask, AllocError>
+    requires { HasHead octets.now (heads.Tunnel target) len }
+    ensures { IfOk result (Asks octets.now) }
+{
+    let Some(text) = piece(octets, target) else {
+        return Ok(Ask::Refused(Protocol::Http, Ended::Kind));
+    };
+    match Asked::by_connect(alloc, text) {
+        Ok(Some(asked)) => Ok(Ask::Tunnel(Protocol::Http, asked, len)),
+        Ok(None) => Ok(Ask::Refused(Protocol::Http, Ended::Kind)),
+        Err(refused) => Err(refused),
+    }
+}
+
+// The octets that stand here.
+pub(crate) fn piece(octets: &[u8], span: Span) -> Option<&[u8]>
+    ensures { IfSome result (λ text. text.now ≡ span_bytes octets.now span) }
+{
+    octets.get(span.start..span.end)
+}
+
+// The octets after the first ones.
+pub(crate) fn rest_after(octets: &[u8], len: usize) -> &[u8]
+    ensures { result.now ≡ drop len octets.now }
+{
+    if len <= octets.len() {
+        &octets[len..]
+    } else {
+        &[]
+    }
+}

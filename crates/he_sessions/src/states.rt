@@ -1,0 +1,84 @@
+//! How far a session is.
+
+use crate::asking::Protocol;
+use crate::ending::Ending;
+use crate::racer::Won;
+use bytes::BytesMut;
+use he_relay::Tunnel;
+use tokio::net::TcpStream;
+
+/// How far a session is.
+#[derive(Drop)]
+pub enum State<F> {
+    /// What the client asks for is read.
+    Asking(Asking),
+    /// It is raced for.
+    Racing(Racing<F>),
+    /// The race is won, and the client is told so.
+    Answering(Answering),
+    /// The client is told last of all why there is no tunnel, or is given a page.
+    Closing(Closing),
+    /// The tunnel is open.
+    Relaying(Relaying),
+    /// It has ended.
+    Over,
+}
+
+/// What the client asks for is read.
+#[derive(Drop)]
+pub struct Asking {
+    /// The client.
+    pub client: TcpStream,
+    /// What has come and isn't answered yet.
+    pub come: Vec<u8>,
+    /// Whether its greeting was answered.
+    pub was_greeted: bool,
+    /// What is to be written before more is read.
+    pub reply: BytesMut,
+}
+
+/// A race is under way.
+#[derive(Drop)]
+pub struct Racing<F> {
+    /// The client.
+    pub client: TcpStream,
+    /// What it sent after its request.
+    pub early: Vec<u8>,
+    /// Which protocol it is answered in.
+    pub protocol: Protocol,
+    /// The race.
+    pub race: F,
+}
+
+/// The race is won.
+#[derive(Drop)]
+pub struct Answering {
+    /// The client.
+    pub client: TcpStream,
+    /// What it sent after its request.
+    pub early: Vec<u8>,
+    /// What the race gave.
+    pub won: Won,
+    /// What is to be written before the tunnel is open.
+    pub reply: BytesMut,
+}
+
+/// There will be no tunnel.
+#[derive(Drop)]
+pub struct Closing {
+    /// The client.
+    pub client: TcpStream,
+    /// What is to be written before the close.
+    pub reply: BytesMut,
+    /// How the session ends.
+    pub how: Ending,
+}
+
+/// The tunnel is open.
+#[derive(Drop)]
+pub struct Relaying {
+    /// The tunnel.
+    pub tunnel: Tunnel<TcpStream, TcpStream>,
+    /// How many bytes had moved both ways when it was last looked whether it is idle.
+    pub seen: u64,
+}

@@ -1,0 +1,167 @@
+// What clients are answered whose tunnels are not opened, and pages.
+
+use crate::homes::{Course, Lender, Outcome, Part, run};
+use he_front::Ended;
+use he_sessions::Ending;
+use std::io;
+use std::net::{Net, TcpListener, TcpStream};
+use std::test::Fail;
+
+const TARGET: (&str, u16) = ("example.org", 443);
+
+// RFC 1928: one method, none; CONNECT to example.org at port 443.
+const ASKS: &[u8] = b"\x05\x01\x00\x05\x01\x00\x03\x0bexample.org\x01\xbb";
+
+const CONNECTS: &[u8] = b"CONNECT example.org:443 HTTP/1.1\r\nHost: example.org:443\r\n\r\n";
+
+// What comes of a client that sends this.
+fn ask<R: Lender + Net<Listener = TcpListener, Stream = TcpStream>>(
+    rt: &R,
+    course: Course,
+    sends: &[u8],
+) -> io::Result<Outcome> {
+    let client = Part {
+        sends: Vec::from_slice(rt.alloc(), sends)?,
+        piece: usize::MAX,
+        ends_after: usize::MAX,
+    };
+    let server = Part {
+        sends: Vec::new(rt.alloc()),
+        piece: usize::MAX,
+        ends_after: 0,
+    };
+    run(rt, TARGET, course, None, client, server)
+}
+
+// Whether the client gets this and nothing else, and the session ends so.
+fn is_answered<R: Lender + Net<Listener = TcpListener, Stream = TcpStream>>(
+    rt: &R,
+    course: Course,
+    sends: &[u8],
+    gets: &[u8],
+    how: Ending,
+) -> Result<bool, Fail> {
+    let outcome = ask(rt, course, sends)?;
+    let is_told = match outcome.told {
+        Some(told) => told.how == how,
+        None => false,
+    };
+    Ok(is_told && outcome.client_got.as_slice() == gets)
+}
+
+// Whether the client gets a response of HTTP that begins so.
+fn is_response<R: Lender + Net<Listener = TcpListener, Stream = TcpStream>>(
+    rt: &R,
+    course: Course,
+    sends: &[u8],
+    line: &[u8],
+) -> Result<bool, Fail> {
+    let outcome = ask(rt, course, sends)?;
+    Ok(outcome.client_got.starts_with(line))
+}
+
+#[test]
+fn socks_is_refused_by_its_replies(rt: HostRuntime) -> Result<(), Fail> {
+    let refused = Course::Ends(Ended::Refused);
+    let reply = b"\x05\x00\x05\x05\x00\x01\x00\x00\x00\x00\x00\x00";
+    assert!(rt; is_answered(&rt, refused, ASKS, reply, Ending::Refused)?);
+    let forbidden = Course::IsRefused(Ended::Forbidden);
+    let reply = b"\x05\x00\x05\x02\x00\x01\x00\x00\x00\x00\x00\x00";
+    assert!(rt; is_answered(&rt, forbidden, ASKS, reply, Ending::Refused)?);
+    // The racer answers that nothing was won with the word for a connection.
+    let wrong = Course::IsRefused(Ended::Connected);
+    let reply = b"\x05\x00\x05\x01\x00\x01\x00\x00\x00\x00\x00\x00";
+    assert!(rt; is_answered(&rt, wrong, ASKS, reply, Ending::Refused)?);
+    // BIND is another command.
+    let bind = b"\x05\x01\x00\x05\x02\x00\x01\x7f\x00\x00\x01\x00\x50";
+    let reply = b"\x05\x00\x05\x07\x00\x01\x00\x00\x00\x00\x00\x00";
+    assert!(rt; is_answered(&rt, Course::GoesOn, bind, reply, Ending::Refused)?);
+    Ok(())
+}
+
+#[test]
+fn other_methods_and_versions_are_refused(rt: HostRuntime) -> Result<(), Fail> {
+    // User name and password alone.
+    assert!(rt;
+        is_answered(
+            &rt,
+            Course::GoesOn,
+            b"\x05\x01\x02",
+            b"\x05\xff",
+            Ending::Refused
+        )?
+    );
+    let old = b"\x04\x01\x00\x50\x7f\x00\x00\x01\x00";
+    assert!(rt;
+        is_answered(
+            &rt,
+            Course::GoesOn,
+            old,
+            b"\x00\x5b\x00\x00\x00\x00\x00\x00",
+            Ending::Refused
+        )?
+    );
+    // TLS.
+    assert!(rt; is_answered(&rt, Course::GoesOn, b"\x16\x03\x01", b"", Ending::Unknown)?);
+    Ok(())
+}
+
+#[test]
+fn http_is_answered_by_its_status(rt: HostRuntime) -> Result<(), Fail> {
+    assert!(rt;
+        is_response(
+            &rt,
+            Course::Ends(Ended::Refused),
+            CONNECTS,
+            b"HTTP/1.1 502 "
+        )?
+    );
+    assert!(rt;
+        is_response(
+            &rt,
+            Course::Ends(Ended::TimedOut),
+            CONNECTS,
+            b"HTTP/1.1 504 "
+        )?
+    );
+    assert!(rt;
+        is_response(
+            &rt,
+            Course::IsRefused(Ended::Forbidden),
+            CONNECTS,
+            b"HTTP/1.1 403 "
+        )?
+    );
+    assert!(rt;
+        is_response(
+            &rt,
+            Course::GoesOn,
+            b"POST / HTTP/1.1\r\n\r\n",
+            b"HTTP/1.1 501 "
+        )?
+    );
+    assert!(rt;
+        is_response(
+            &rt,
+            Course::GoesOn,
+            b"CONNECT example.org HTTP/1.1\r\n\r\n",
+            b"HTTP/1.1 400 "
+        )?
+    );
+    Ok(())
+}
+
+#[test]
+fn pages_are_asked_of_the_racer(rt: HostRuntime) -> Result<(), Fail> {
+    let get = b"GET /proxy.pac HTTP/1.1\r\nHost: localhost:1080\r\n\r\n";
+    assert!(rt;
+        is_answered(
+            &rt,
+            Course::GoesOn,
+            get,
+            b"/proxy.pac at localhost:1080",
+            Ending::Page
+        )?
+    );
+    Ok(())
+}

@@ -1,0 +1,313 @@
+// A client, a session and a server, all on loopback and in one event loop.
+ghost use Rattle.futures.specs.Poll.{OnPending};
+ghost use Rattle.futures.specs.Task.{IsArmed, Keeps};
+
+use futures::Future;
+use futures::future::join3;
+use futures::task::{Context, Poll};
+use he_addr::Ip;
+use he_front::Ended;
+use he_sessions::{Ending, Limits, Racer, Session, SessionEnd, Winner, Won};
+use std::alloc::{AllocError, AllocGlobal, Global};
+use std::cell::Cell;
+use std::io;
+use std::mem::{drop, replace};
+use std::net::{IpAddr, Ipv4Addr, Net, SocketAddr, TcpListener};
+use std::random::RandomSource;
+use std::sync::Wait;
+use std::time::{Clock, Duration};
+use tokio::io::{AsyncRead, AsyncWrite};
+use tokio::net::TcpStream;
+use tokio::runtime::{Handle, LocalRuntime};
+use tokio::time::Sleep;
+
+/// What a session is lent, beside the network.
+pub trait Lender: Wait + Clock + RandomSource + AllocGlobal {}
+
+impl<R: Wait + Clock + RandomSource + AllocGlobal> Lender for R {}
+
+pub const WINNER: Winner = Winner {
+    ip: Ip::V4(0x7f00_0001),
+    ticks: 3,
+    lost: 1,
+};
+
+// How long a session takes at most, in seconds.
+const PATIENCE: u64 = 10;
+
+// The most octets that a peer reads at once.
+const ROOM: usize = 4_096;
+
+/// How a race goes.
+#[derive(Clone, Copy, PartialEq, Eq)]
+pub enum Course {
+    /// It is won.
+    Wins,
+    /// It ends so.
+    Ends(Ended),
+    /// It isn't begun.
+    IsRefused(Ended),
+    /// It goes on for longer than the test.
+    GoesOn,
+}
+
+/// A race.
+#[derive(Drop)]
+pub enum Race {
+    Won(TcpStream),
+    Ended(Ended),
+    Waiting(Sleep),
+    Over,
+}
+
+impl Future for Race {
+    type Output = Result<Won, Ended>;
+
+    fn poll(&mut self, cx: &mut Context<'_>) -> Poll<Result<Won, Ended>> {
+        match replace(self, Race::Over) {
+            Race::Won(stream) => Poll::Ready(Ok(Won {
+                stream,
+                winner: WINNER,
+            })),
+            Race::Ended(ended) => Poll::Ready(Err(ended)),
+            Race::Waiting(mut sleep) => {
+                if sleep.poll(cx).is_ready() {
+                    return Poll::Ready(Err(Ended::TimedOut));
+                }
+                *self = Race::Waiting(sleep);
+                Poll::Pending
+            }
+            Race::Over => Poll::Ready(Err(Ended::Failed)),
+        }
+    }
+}
+
+/// What was told of a session's end.
+#[derive(Clone, Copy, PartialEq, Eq)]
+pub struct Told {
+    pub port: u16,
+    pub result: Option<Result<Winner, Ended>>,
+    pub sent: u64,
+    pub received: u64,
+    pub how: Ending,
+}
+
+/// Begins the one race that it has, for one target.
+#[derive(Drop)]
+pub struct OneTarget {
+    pub host: &'static str,
+    pub port: u16,
+    pub race: Cell<Option<Result<Race, Ended>>>,
+    pub told: Cell<Option<Told>>,
+}
+
+impl Racer for OneTarget {
+    type Race = Race;
+
+    ghost use Rattle.std.specs.Prelude.{⊤};
+
+    ghost answers = { λ _ _ _. ⊤ };
+
+    fn race(&self, _client: SocketAddr, host: &str, port: u16) -> Result<Race, Ended> {
+        if host != self.host || port != self.port {
+            return Err(Ended::Forbidden);
+        }
+        match self.race.replace(None) {
+            Some(race) => race,
+            None => Err(Ended::Failed),
+        }
+    }
+
+    fn page(
+        &self,
+        _client: SocketAddr,
+        path: &[u8],
+        host: Option<&[u8]>,
+        out: &mut Vec<u8>,
+    ) -> Result<(), AllocError> {
+        out.extend_from_slice(path)?;
+        out.extend_from_slice(b" at ")?;
+        out.extend_from_slice(host.unwrap_or(b"none"))
+    }
+
+    fn ended(&self, end: &SessionEnd<'_>) {
+        self.told.set(Some(Told {
+            port: end.port,
+            result: end.result,
+            sent: end.sent,
+            received: end.received,
+            how: end.how,
+        }));
+    }
+}
+
+/// One end of a connection, which sends what it has and keeps what it gets, until the other end has ended.
+#[derive(Drop)]
+pub struct Peer {
+    alloc: Global,
+    stream: TcpStream,
+    sends: Vec<u8>,
+    sent: usize,
+    piece: usize,
+    ends_after: usize,
+    has_ended: bool,
+    gets: Vec<u8>,
+}
+
+/// What a peer sends: at most so many octets in one write. Once it has got so many, it ends its way.
+#[derive(Drop)]
+pub struct Part {
+    pub sends: Vec<u8>,
+    pub piece: usize,
+    pub ends_after: usize,
+}
+
+impl Peer {
+    fn new(alloc: Global, stream: TcpStream, part: Part) -> Peer {
+        let Part {
+            sends,
+            piece,
+            ends_after,
+        } = part;
+        Peer {
+            alloc,
+            stream,
+            sends,
+            sent: 0,
+            piece,
+            ends_after,
+            has_ended: false,
+            gets: Vec::new(alloc),
+        }
+    }
+
+    // One write: whether it took something. After the last one its way is ended.
+    fn send(&mut self, cx: &mut Context<'_>) -> bool
+        ensures { Keeps cx.old cx.new }
+    {
+        if self.sent < self.sends.len() {
+            let to = self.sent.saturating_add(self.piece).min(self.sends.len());
+            return match self.stream.poll_write(cx, &self.sends[self.sent..to]) {
+                Poll::Ready(Ok(count)) => {
+                    self.sent = self.sent.saturating_add(count);
+                    true
+                }
+                _ => false,
+            };
+        }
+        if !self.has_ended && self.gets.len() >= self.ends_after {
+            self.has_ended = true;
+            let _ = self.stream.poll_shutdown(cx);
+        }
+        false
+    }
+
+    // One read: whether it gave something.
+    fn get(&mut self, cx: &mut Context<'_>) -> Poll<bool>
+        ensures armed { OnPending result (IsArmed cx.new) }
+        ensures kept { Keeps cx.old cx.new }
+    {
+        let mut room = [0; ROOM];
+        match self.stream.poll_read(cx, &mut room) {
+            Poll::Pending => Poll::Pending,
+            Poll::Ready(Ok(0)) | Poll::Ready(Err(_)) => Poll::Ready(false),
+            Poll::Ready(Ok(count)) => {
+                Poll::Ready(self.gets.extend_from_slice(&room[..count]).is_ok())
+            }
+        }
+    }
+}
+
+impl Future for Peer {
+    type Output = Vec<u8>;
+
+    fn poll(&mut self, cx: &mut Context<'_>) -> Poll<Vec<u8>> {
+        let has_sent = self.send(cx);
+        match self.get(cx) {
+            Poll::Ready(false) => {
+                let _ = self.stream.poll_shutdown(cx);
+                Poll::Ready(replace(&mut self.gets, Vec::new(self.alloc)))
+            }
+            Poll::Pending if !has_sent => Poll::Pending,
+            _ => cx.yield_now(),
+        }
+    }
+}
+
+/// What came of a session.
+#[derive(Drop)]
+pub struct Outcome {
+    pub client_got: Vec<u8>,
+    pub server_got: Vec<u8>,
+    pub told: Option<Told>,
+}
+
+// Both ends of one connection over loopback.
+fn pair<R: Lender + Net<Listener = TcpListener, Stream = std::net::TcpStream>>(
+    rt: &R,
+    handle: &Handle,
+) -> io::Result<(TcpStream, TcpStream, SocketAddr)> {
+    let listener = TcpListener::bind(rt, SocketAddr::new(IpAddr::V4(Ipv4Addr::LOCALHOST), 0))?;
+    let near = std::net::TcpStream::connect(rt, listener.local_addr()?)?;
+    let (far, from) = listener.accept()?;
+    let near = TcpStream::from_std(near, handle.reactor())?;
+    Ok((near, TcpStream::from_std(far, handle.reactor())?, from))
+}
+
+fn race_of<R: Lender>(
+    rt: &R,
+    handle: &Handle,
+    course: Course,
+    stream: TcpStream,
+) -> io::Result<Result<Race, Ended>> {
+    Ok(match course {
+        Course::Wins => Ok(Race::Won(stream)),
+        Course::Ends(ended) => Ok(Race::Ended(ended)),
+        Course::IsRefused(ended) => Err(ended),
+        Course::GoesOn => Ok(Race::Waiting(
+            handle.time().sleep(rt, Duration::from_secs(PATIENCE))?,
+        )),
+    })
+}
+
+/// Runs the session of one client to its end.
+pub fn run<R: Lender + Net<Listener = TcpListener, Stream = std::net::TcpStream>>(
+    rt: &R,
+    target: (&'static str, u16),
+    course: Course,
+    idle: Option<Duration>,
+    client: Part,
+    server: Part,
+) -> io::Result<Outcome> {
+    let mut runtime = LocalRuntime::new(rt)?;
+    let handle = runtime.handle().clone()?;
+    let (near, taken, from) = pair(rt, &handle)?;
+    let (to_server, far, _) = pair(rt, &handle)?;
+    let racer = OneTarget {
+        host: target.0,
+        port: target.1,
+        race: Cell::new(Some(race_of(rt, &handle, course, to_server)?)),
+        told: Cell::new(None),
+    };
+    let limits = Limits {
+        request: Duration::from_millis(2_000),
+        idle,
+    };
+    let session = Session::new(rt, rt.alloc(), handle.time(), &racer, taken, from, limits)?;
+    let peers = join3(
+        session,
+        Peer::new(rt.alloc(), near, client),
+        Peer::new(rt.alloc(), far, server),
+    );
+    let timed = handle
+        .time()
+        .timeout(rt, Duration::from_secs(PATIENCE), peers)?;
+    match runtime.block_on(rt, timed)? {
+        Ok((_, client_got, server_got)) => Ok(Outcome {
+            client_got,
+            server_got,
+            told: racer.told.get(),
+        }),
+        Err(_) => Err(io::ErrorKind::TimedOut.into()),
+    }
+}
