@@ -2,9 +2,9 @@
 //!
 //! [`run_words`] reads a line (`he_request`) and does what it asks for over an input and a `Session` of `he_tasks`:
 //! the system, an output and a writer of faults; the program hands it its words and its standard streams. `he connect`
-//! connects to a host and relays, `he proxy` does so for other programs, `he names` finds a host's addresses, `he host`
-//! writes the lines of this machine, `he live` runs the one race of a file or of the input on real sockets; all other
-//! commands are tasks of `he_tasks`.
+//! connects to a host and relays, `he proxy` does so for other programs, `he names` finds a host's addresses,
+//! `he host` writes the lines of this machine, `he live` runs the one race of a file or of the input on real sockets;
+//! all other commands are tasks of `he_tasks`.
 //!
 //! Proved (`run_line`): each does with the input, the output and the files what its crate says, as `he live` what
 //! `he_live` does, and the status tells how that ended (`specs/Run`, `specs/Live`).

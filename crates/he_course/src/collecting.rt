@@ -269,7 +269,8 @@ fn push_starts<A: Allocator + Copy, B: Allocator>(
     for line in lines {
         let next = attempt(line);
         bring_to(alloc, timeline, sorted, next.tick, &mut list)?;
-        push_start(events, timeline, &list.ips, last, failed, next)?;
+        let start = start_of(timeline, &list.ips, last, failed, next);
+        push(events, next.tick, start)?;
         last = Some(next);
         failed = later_of(failed, failure_of(timeline, next));
     }
@@ -278,24 +279,22 @@ fn push_starts<A: Allocator + Copy, B: Allocator>(
 
 // The start of an attempt, whose address is taken from this list; `failed` is the last failure of those before it, if
 // all of them fail.
-fn push_start<A: Allocator, B: Allocator>(
-    events: &mut Vec<Event, A>,
-    timeline: &Timeline<B>,
+fn start_of<A: Allocator>(
+    timeline: &Timeline<A>,
     ips: &[Ip],
     last: Option<Attempt>,
     failed: Option<u64>,
     next: Attempt,
-) -> Result<(), AllocError>
+) -> EventKind
     requires { ips.now ≡ order_at timeline.now next.tick }
-    ensures { OnOk result (events.new.items ≡ events.old.items ++ start_event timeline.now last failed next ∷ []) }
+    ensures { event_at next.tick result ≡ start_event timeline.now last failed next }
 {
     let cause = cause_of(timeline, last, failed, next);
-    let start = Start {
+    EventKind::Started(Start {
         place: next.place,
         ip: next.ip,
         cause,
         held: is_held(timeline, last, cause, next.tick),
         listed: listed_in(ips, timeline.settings().count(), next.ip),
-    };
-    push(events, next.tick, EventKind::Started(start))
+    })
 }

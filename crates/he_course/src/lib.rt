@@ -4,8 +4,8 @@
 //! them, its addresses in order of preference, each with the rule that puts it after the one before (RFC 6724 section
 //! 6, RFC 8305 section 4), its transcript, how it ended and how it would have ended with the least floor, and its
 //! [`Event`]s by tick (RFC 8305 sections 3 to 5): the answers, the wait for the AAAA answer, each attempt with its
-//! [`Cause`] and the place of its address in the interlaced list, failures, pauses, and the end. Stories, pictures,
-//! JSON texts and counts are made of this value alone.
+//! [`Cause`] and the place of its address in the interlaced list, failures, pauses, and the end. Stories, pictures and
+//! JSON texts are made of this value alone; summaries, which count many races, read transcripts.
 //!
 //! Proved, for every race: the value is that of `specs/Course`, by the race's one transcript. [`laws`] has what
 //! follows: each attempt of the transcript has just one start and one end among the events; the cause of an attempt

@@ -155,8 +155,9 @@ fn write_len<A: Allocator + Copy>(len: usize, out: &mut Vec<u8, A>) -> Result<()
     write_octets(b"\r\nConnection: close\r\n\r\n", out)
 }
 
-/// Appends the proxy auto-config text that sends a browser's requests to this address and port by SOCKS 5, and straight
-/// to their hosts where it can't be reached. Those for this machine and for hosts without a dot go straight to them.
+/// Appends the proxy auto-config text that sends a browser's requests to this address and port by SOCKS 5, and
+/// straight to their hosts where it can't be reached. Those for this machine and for hosts without a dot go straight
+/// to them.
 ///
 /// # Errors
 ///

@@ -17,8 +17,8 @@
 //!   office.timeline:12 race 2: 2950 ms to 198.51.100.5, 500 ms lost
 //! ```
 //!
-//! Proved, whatever the inputs: what is kept is that of the transcripts of all races of the inputs with the settings of
-//! each row, each input up to its first fault, which is the result (`specs/Kept`, `specs/Summed`). A percentile is the
+//! Proved, whatever the inputs: what is kept is that of the transcripts of all races of the inputs with each row's
+//! settings, each input up to its first fault, which is the result (`specs/Kept`, `specs/Summed`). A percentile is the
 //! least number within which so many of 100 lie (`specs/Times`), each count one over what is kept (`specs/Totals`).
 //! The addresses are the ten to which most attempts failed or were silent (`specs/Tries`), the slowest races the first
 //! of the won ones by time (`specs/Written`). The text states these numbers, each with what it says, in this order
