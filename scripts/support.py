@@ -190,8 +190,8 @@ def wire(name):
     return b"".join(bytes([len(label)]) + label.encode() for label in name.split(".") if label) + b"\0"
 
 
-def record(name, kind, data):
-    return name + struct.pack("!HHIH", kind, 1, 60, len(data)) + data
+def record(name, kind, data, ttl=60):
+    return name + struct.pack("!HHIH", kind, 1, ttl, len(data)) + data
 
 
 def addresses(kind, *given):

@@ -1,6 +1,7 @@
 //! Where the answers of a connection's race come from.
 ghost use Rattle.std.specs.Prelude.{◌≡◌, IfOk, is_some, true};
 ghost use Rattle.he_race.specs.Heard.{lists_of};
+ghost use Rattle.he_resolver.specs.Heard.{ttl_in};
 ghost use Rattle.he_connect.specs.Answers.{HasLines, IsAnswerOf, IsToldOf};
 
 use crate::request::Families;
@@ -142,6 +143,13 @@ where
             why,
             watcher,
         })
+    }
+
+    /// The seconds for which the addresses that were told for the family may be kept ([`Lookup::ttl`]).
+    pub fn ttl(&self, family: Family) -> Option<u32>
+        ensures { result ≡ ttl_in self.now.lookup.source family }
+    {
+        self.lookup.ttl(family)
     }
 
     // What the race is told of the family: its addresses, or nothing, and why is noted.

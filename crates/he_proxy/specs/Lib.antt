@@ -1,4 +1,5 @@
 pub mod Access
 pub mod Dials
+pub mod Kept
 pub mod Races
 pub mod Sockets

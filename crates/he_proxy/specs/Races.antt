@@ -14,10 +14,16 @@ use Rattle.he_race.specs.declared.live.Raced.{Raced}
 use Rattle.he_sessions.specs.declared.racer.Winner.{Winner}
 use Rattle.he_sessions.specs.declared.racer.Won.{Won}
 use Rattle.he_timeline.specs.Race.{Race}
+use Rattle.he_connect.specs.Races.{IsSetUp}
 use Rattle.he_connect.specs.declared.request.ConnectRequest.{ConnectRequest}
+use Rattle.he_connect.specs.declared.setup.Setup.{Setup}
 use Rattle.he_addr.specs.declared.ip.Ip.{Ip}
 use Rattle.he_addr.specs.Text.{ip_of}
+use Rattle.he_live.specs.declared.endpoint.Endpoint.{Endpoint}
+use Rattle.he_race.specs.Resolving.{ReplaysGiven}
+use Rattle.he_race.specs.Winner.{WinnerGoes}
 use Rattle.he_proxy.specs.Access.{is_within, loopback_networks}
+use Rattle.he_proxy.specs.Dials.{GoesTo}
 use Rattle.he_proxy.specs.declared.access.Place.{Place}
 use Rattle.he_proxy.specs.declared.access.Reach.{Reach}
 use Rattle.he_proxy.specs.declared.dial.Joined.{Joined}
@@ -60,3 +66,37 @@ pub record AsksFor (proxy : ProxyRequest) (host : List ℕ) (port : ℕ) (reques
 pub record IsReachOf (places : List Place) (allows : Bool) (client : SocketAddr) (reach : Reach) : Type 0 where
   pub own : reach.own.now ≡ places
   pub wide : reach.is_wide ≡ (allows || is_within (ip_of (socket_ip client)) loopback_networks)
+
+-- the race that is set up was run: its record keeps what it began with and replays to its transcript, and its
+-- connection goes to the address of the line that won, at the endpoint, where the client's races reach that
+pub record RunsFrom (start : Race) (to : Endpoint) (reach : Reach) (raced : Raced Joined) : Type 0 where
+  pub replays : ReplaysGiven start raced
+  pub goes : WinnerGoes (GoesTo reach to) raced
+
+-- what is handed out is the winner of the race that is asked for: it began as he_connect has it, and was run so
+pub record IsWonFor (request : ConnectRequest) (reach : Reach) (won : Won) : Type 0 where
+  pub setup : Setup
+  pub set_up : IsSetUp request setup
+  pub raced : Raced Joined
+  pub runs : RunsFrom setup.start setup.to reach raced
+  pub handed : IsWonOf raced won
+
+-- what is handed out to a session of the client, for the host at the port
+pub record IsWonBy (proxy : ProxyRequest) (places : List Place) (client : SocketAddr) (host : List ℕ) (port : ℕ)
+    (won : Won) : Type 0 where
+  pub request : ConnectRequest
+  pub asks : AsksFor proxy host port request
+  pub reach : Reach
+  pub reaches : IsReachOf places proxy.allows_private client reach
+  pub winner : IsWonFor request reach won
+
+-- the same, for some client of some proxy
+pub record IsWonAt (host : List ℕ) (port : ℕ) (won : Won) : Type 0 where
+  pub proxy : ProxyRequest
+  pub places : List Place
+  pub client : SocketAddr
+  pub by : IsWonBy proxy places client host port won
+
+-- whatever it ends with, a winner that is handed out is so
+abbrev pub Wins : (Won → Type 0) → (Result Won Ended → Type 0) → Type 0
+Wins So gives = (end : Result Won Ended) → gives end → IfOk end So

@@ -38,6 +38,7 @@
 #![tactic(auto)]
 
 pub mod access;
+pub mod answers;
 pub mod beginning;
 pub mod clients;
 pub mod dial;

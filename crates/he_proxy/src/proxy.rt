@@ -5,6 +5,7 @@ ghost use Rattle.futures.specs.Runs.{AllItems};
 ghost use Rattle.he_proxy.specs.Sockets.{MayAccept};
 
 use crate::access::{Place, is_loopback};
+use crate::answers::KeptAnswers;
 use crate::beginning::Beginning;
 use crate::clients::{Clients, Service};
 use crate::fault::ProxyFault;
@@ -55,6 +56,7 @@ where
     let (sockets, own) = listen(rt, alloc, &handle, request.listen)?;
     let state = ProxyState {
         own,
+        answers: KeptAnswers::new(rt, alloc)?,
         records: open_records(rt, alloc, request)?,
         recent: Recent::new(alloc),
         beginning: Beginning::new(),

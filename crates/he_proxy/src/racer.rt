@@ -1,6 +1,6 @@
 //! What races for the sessions, over the sockets of the event loop.
-ghost use Rattle.std.specs.Prelude.{◌≡◌, IfOk};
-ghost use Rattle.he_proxy.specs.Races.{AsksFor, IsReachOf};
+ghost use Rattle.std.specs.Prelude.{◌≡◌, IfOk, Ok};
+ghost use Rattle.he_proxy.specs.Races.{AsksFor, IsReachOf, IsWonBy, RunsFrom, Wins};
 
 use crate::access::{Reach, ip_of, is_loopback};
 use crate::keeping::{Keeping, nameless_end};
@@ -73,7 +73,9 @@ where
         host: &str,
         port: u16,
     ) -> Result<LoopRace<'h, R, SocketRace<'h, R>>, ConnectFault>
-        ensures { IfOk result (λ race. ⟦<SocketRace<'h, R> as Future>⟧.can_poll race.race) }
+        ensures can { IfOk result (λ race. ⟦<SocketRace<'h, R> as Future>⟧.can_poll race.race) }
+        ensures wins { IfOk result (λ race. Wins (IsWonBy self.now.request.now self.now.state.now.own.items client
+            host.now port) (⟦<LoopRace<'h, R, SocketRace<'h, R>> as Future>⟧.gives race)) }
     {
         let request = self.request_for(host, port);
         let setup = set_up(self.shared.rt, self.shared.alloc, &request, &mut io::sink())?;
@@ -88,11 +90,14 @@ where
         setup: &Setup<'_>,
         reach: Reach<'h>,
     ) -> Result<LoopRace<'h, R, SocketRace<'h, R>>, ConnectFault>
-        ensures { IfOk result (λ race. ⟦<SocketRace<'h, R> as Future>⟧.can_poll race.race) }
+        ensures can { IfOk result (λ race. ⟦<SocketRace<'h, R> as Future>⟧.can_poll race.race) }
+        ensures runs { IfOk result (λ race. (raced : _) → ⟦<SocketRace<'h, R> as Future>⟧.gives race.race (Ok raced)
+            → RunsFrom setup.now.start setup.now.to reach.entry raced) }
     {
         let noted = Noted::new(self.shared.alloc)?;
         let keeping = self.keeping(&setup.request, reach, noted)?;
-        let race = socket_race(self.shared, setup, reach, &keeping.noted)?;
+        let answers = &self.state.answers;
+        let race = socket_race(self.shared, setup, reach, answers, &keeping.noted)?;
         Ok(LoopRace::new(race, keeping))
     }
 
@@ -127,9 +132,10 @@ where
 {
     type Race = LoopRace<'h, R, SocketRace<'h, R>>;
 
-    ghost use Rattle.std.specs.Prelude.{⊤};
+    ghost use Rattle.std.specs.Prelude.{IfOk};
+    ghost use Rattle.he_proxy.specs.Races.{IsWonAt};
 
-    ghost answers = { λ _ _ _. ⊤ };
+    ghost answers = { λ host port end. IfOk end (IsWonAt host port) };
 
     fn race(&self, client: SocketAddr, host: &str, port: u16) -> Result<Self::Race, Ended> {
         self.state.beginning.remove();

@@ -1,10 +1,12 @@
 //! The race of a session over the sockets of the event loop.
-ghost use Rattle.std.specs.Prelude.{◌≡◌, IfOk};
+ghost use Rattle.std.specs.Prelude.{◌≡◌, IfOk, Ok};
 ghost use Rattle.he_connect.specs.Races.{only_of};
-ghost use Rattle.he_resolver.specs.Begins.{BeginsFor};
 ghost use Rattle.he_resolver.specs.Heard.{IsSound};
+ghost use Rattle.he_proxy.specs.Kept.{BeginsBy};
+ghost use Rattle.he_proxy.specs.Races.{RunsFrom};
 
 use crate::access::Reach;
+use crate::answers::{KeepingAnswers, KeptAnswers};
 use crate::dial::LoopConnector;
 use futures::Future;
 use he_connect::{ConnectFault, ConnectRequest, HostAnswers, LookupFaults, Setup};
@@ -21,7 +23,7 @@ use tokio::runtime::Handle;
 /// The race over the sockets of the event loop.
 pub type SocketRace<'h, R> = ResolvingRace<
     LoopConnector<'h, R>,
-    HostAnswers<'h, R, Quiet>,
+    KeepingAnswers<'h, R>,
     LiveTicker<'h, R, Quiet>,
 >;
 
@@ -56,18 +58,22 @@ impl Noted {
     }
 }
 
-// A look-up of the request's host by name servers, which waits in the event loop.
+// A look-up of the request's host: by the answers that are kept, or by name servers, which waits in the event loop.
 fn look_up<'h, R>(
     shared: SharedLoop<'h, R>,
     request: &ConnectRequest<'_>,
+    kept: &KeptAnswers,
 ) -> Result<Lookup<'h, R>, ConnectFault>
 where
     R: Clock + RandomSource + AllocGlobal + Net + Files + Copy,
-    ensures begins { IfOk result (λ lookup. BeginsFor request.now.host.now request.now.resolver (only_of
+    ensures begins { IfOk result (λ lookup. BeginsBy request.now.host.now request.now.resolver (only_of
         request.now.families) lookup.source) }
     ensures sound { IfOk result (λ lookup. IsSound lookup.source) }
 {
     let SharedLoop { rt, alloc, handle } = shared;
+    if let Some(known) = kept.known(rt, request.host, request.families.only()) {
+        return Ok(Lookup::of_known(rt, alloc, known)?);
+    }
     let wanted = Wanted {
         host: request.host,
         only: request.families.only(),
@@ -86,17 +92,21 @@ pub fn socket_race<'h, R>(
     shared: SharedLoop<'h, R>,
     setup: &Setup<'_>,
     reach: Reach<'h>,
+    kept: &'h KeptAnswers,
     noted: &Noted,
 ) -> Result<SocketRace<'h, R>, ConnectFault>
 where
     R: Clock + RandomSource + AllocGlobal + Net + Files + Copy,
-    ensures { IfOk result ⟦<SocketRace<'h, R> as Future>⟧.can_poll }
+    ensures can { IfOk result ⟦<SocketRace<'h, R> as Future>⟧.can_poll }
+    ensures runs { IfOk result (λ race. (raced : _) → ⟦<SocketRace<'h, R> as Future>⟧.gives race (Ok raced)
+        → RunsFrom setup.now.start setup.now.to reach.entry raced) }
 {
     let SharedLoop { rt, alloc, handle } = shared;
     let start = Instant::now(rt)?;
-    let lookup = look_up(shared, &setup.request)?;
+    let lookup = look_up(shared, &setup.request, kept)?;
     let machine = if setup.brings_lines { Some(rt) } else { None };
-    let source = HostAnswers::new(alloc, lookup, machine, noted.why.share()?, Quiet)?;
+    let answers = HostAnswers::new(alloc, lookup, machine, noted.why.share()?, Quiet)?;
+    let source = KeepingAnswers::new(rt, setup.request.host, answers, noted.why.share()?, kept)?;
     let steps = noted.steps.share()?;
     let connector = LoopConnector::new(rt, handle.reactor(), setup.to, reach, steps);
     let steps = noted.steps.share()?;

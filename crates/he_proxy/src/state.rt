@@ -1,6 +1,7 @@
 //! What all sessions of a proxy share beside the event loop.
 
 use crate::access::Place;
+use crate::answers::KeptAnswers;
 use crate::beginning::Beginning;
 use crate::log::Log;
 use crate::recent::Recent;
@@ -11,6 +12,7 @@ use crate::record::Records;
 pub struct ProxyState<F: Drop> {
     /// The places that the proxy listens at.
     pub own: Vec<Place>,
+    pub answers: KeptAnswers,
     pub records: Option<Records>,
     pub recent: Recent,
     pub beginning: Beginning,

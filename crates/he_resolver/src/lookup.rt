@@ -1,12 +1,13 @@
 //! A look-up of a host's addresses that is polled, as a race polls it.
 
-ghost use Rattle.std.specs.Prelude.{◌≡◌, ◌≢◌, IfOk};
+ghost use Rattle.std.specs.Prelude.{◌≡◌, ◌≢◌, IfOk, Ok};
 ghost use Rattle.futures.specs.Poll.{IfReady, OnPending};
 ghost use Rattle.futures.specs.Task.{Covers, Keeps};
 ghost use Rattle.he_names.specs.Answers.{IsAnswer};
 ghost use Rattle.he_resolver.specs.Begins.{BeginsFor};
 ghost use Rattle.he_resolver.specs.Heard.{AreOwnOf, IsSound, Tells, TellsKnown, asked_names, ttl_in};
 ghost use Rattle.he_resolver.specs.Needs.{lookup_needs};
+ghost use Rattle.he_resolver.specs.declared.lookup.Source.TheVariants as sources;
 
 use crate::choice::Choice;
 use crate::fault::NamesFault;
@@ -151,6 +152,23 @@ impl<'h, R: Net + RandomSource + Clock> Lookup<'h, R> {
             }
             _ => Err(NamesFault::Host(HostFault::Special(SpecialUse::Local))),
         }
+    }
+
+    /// A look-up of a host whose addresses are known from an earlier one: it tells these, and nothing is read or asked.
+    ///
+    /// # Errors
+    ///
+    /// `Runtime` where the clock fails; `Memory`.
+    pub fn of_known(
+        rt: &'h R,
+        alloc: Global,
+        known: Vec<Ip>,
+    ) -> Result<Lookup<'h, R>, NamesFault>
+        ensures { IfOk result (λ lookup. lookup.source ≡ sources.Known (Ok known)) }
+    {
+        let log = LookupLog::new(rt, alloc)?;
+        note_known(rt, &log, &known);
+        Ok(Lookup::with(rt, alloc, Source::Known(Ok(known)), log))
     }
 
     fn with(rt: &'h R, alloc: Global, source: Source<'h, R>, log: LookupLog) -> Lookup<'h, R>
