@@ -6,6 +6,7 @@ ghost use Rattle.he_addr.specs.Text.{ip_of};
 ghost use Rattle.he_proxy.specs.Access.{is_own, is_served, is_within, is_public, is_unspecified, leads_to, loopback_networks, may_reach, meets, private_networks};
 
 use he_addr::{Ip, Prefix};
+use he_live::{Endpoint, socket_of};
 use std::net::{IpAddr, SocketAddr};
 
 // 0.0.0.0 as its mapped address.
@@ -25,6 +26,12 @@ impl Place {
             ip: ip_of(socket.ip()),
             port: socket.port(),
         }
+    }
+
+    // The socket of the place, over no interface that is named.
+    pub(crate) fn socket(self) -> SocketAddr {
+        let Place { ip, port } = self;
+        socket_of(ip, Endpoint { port, scope: 0 })
     }
 }
 

@@ -112,7 +112,9 @@ fn part_in(
     ensures { IfOk result (λ ips. IfSome ips (λ ips. kept_part cache.now now host.now part.0 part.1 ≡ Some ips.items)) }
 {
     let (only, family) = part;
-    if let Some(only) = only && only != family {
+    if let Some(only) = only
+        && only != family
+    {
         return Ok(Some(Vec::new(alloc)));
     }
     match cache.answer(now, host, family)? {

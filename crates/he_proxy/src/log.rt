@@ -1,5 +1,6 @@
 //! The log: a line for each session.
 
+use crate::access::Place;
 use crate::request::LogForm;
 use crate::stamp::stamp_now;
 use he_addr::{Memory, write_ip, write_number};
@@ -51,6 +52,23 @@ impl<F: Write + Drop> Log<F> {
     pub fn say(&self, what: &str) {
         if let Ok(line) = format!(in self.alloc; "he: {what}\n") {
             self.write(line.as_bytes());
+        }
+    }
+
+    /// Says at which places the proxy listens, in a log of text.
+    pub fn tell_places(&self, places: &[Place]) {
+        if self.form != LogForm::Text {
+            return;
+        }
+        for place in places {
+            self.tell_place(*place);
+        }
+    }
+
+    fn tell_place(&self, place: Place) {
+        let address = place.socket();
+        if let Ok(what) = format!(in self.alloc; "listening at {address}") {
+            self.say(&what);
         }
     }
 

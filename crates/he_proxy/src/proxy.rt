@@ -62,6 +62,7 @@ where
         beginning: Beginning::new(),
         log: Log::new(alloc, request.log, faults),
     };
+    state.log.tell_places(&state.own);
     let shared = SharedLoop {
         rt: &*rt,
         alloc,

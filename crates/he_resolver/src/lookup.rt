@@ -159,11 +159,7 @@ impl<'h, R: Net + RandomSource + Clock> Lookup<'h, R> {
     /// # Errors
     ///
     /// `Runtime` where the clock fails; `Memory`.
-    pub fn of_known(
-        rt: &'h R,
-        alloc: Global,
-        known: Vec<Ip>,
-    ) -> Result<Lookup<'h, R>, NamesFault>
+    pub fn of_known(rt: &'h R, alloc: Global, known: Vec<Ip>) -> Result<Lookup<'h, R>, NamesFault>
         ensures { IfOk result (λ lookup. lookup.source ≡ sources.Known (Ok known)) }
     {
         let log = LookupLog::new(rt, alloc)?;
