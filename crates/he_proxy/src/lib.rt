@@ -4,8 +4,9 @@
 //! [`serve`] listens, and runs each client's session (`he_sessions`) as one task of many in one event loop. A
 //! session's race is the one that `he connect` runs: it begins as `he_connect` sets it up, takes its ticks from
 //! `he_live`, and its turns are those of `he_race`. Its record is a file of its own in the directory that is asked
-//! for, which `he replay` reads. Each session is a line on standard error; `GET /` has the last hundred races as a
-//! page, and `GET /proxy.pac` the auto-config text of the proxy.
+//! for, which `he replay` reads. What name servers answer serves later races to the host for its TTL (`he_cache`). Each
+//! session is a line on standard error; `GET /` has the last hundred races as a page, and `GET /proxy.pac` the
+//! auto-config text of the proxy.
 //!
 //! # Whom it serves, and what it reaches
 //!
@@ -22,19 +23,19 @@
 //! - A race is asked for with the host and the port of the session, and with the settings, families, lines and
 //!   resolver of the proxy (`AsksFor` in `specs/Races`).
 //! - A session is handed out the connection that its race gave: the winner's address and time are those of the race's
-//!   transcript, and what was lost is that of its course (`HandsOut`). A connection goes to the address and the port
-//!   that it was asked for, which the client's races reach (`GoesTo` in `specs/Dials`).
+//!   transcript, and what was lost is that of its course (`HandsOut`). That race began as `he_connect` sets one up for
+//!   the host and the port, its record keeps what it began with and replays to its transcript, and the connection goes
+//!   to the address of the line that won, which the client's races reach (`IsWonBy`).
+//! - The addresses that a look-up begins with from kept answers are those that `he_cache` answers for each family that
+//!   is tried (`specs/Kept`).
 //! - A race, and the stream of clients, that is pending has registered for what it waits for, or asked to be polled
 //!   again; each session that is begun may be polled.
 //!
 //! All promise this if they return: they wait for the system.
 //!
-//! No clause of this crate says that a race begins with what it is asked for and that its record replays: he_race
-//! proves the second of every race like it.
-//!
-//! Only tested: that anything connects, and when; that the record of a race is written to its file, and the files'
-//! names; which records go; the log's lines; the page; that as many sessions run as may, and that it waits where no
-//! descriptor is left.
+//! Only tested: that anything connects, and when; that answers are kept of the race's host; that the record of a race
+//! is written to its file, and the files' names; which records go; the log's lines; the page; that as many sessions
+//! run as may, and that it waits where no descriptor is left.
 #![tactic(auto)]
 
 pub mod access;

@@ -8,7 +8,7 @@ use crate::arguments::{flag, flag_of, letter, plain, value, values_of};
 use crate::connect::{LINES_HELP, family_of};
 use crate::limits::{MOST_IDLE, MOST_RECORDS, MOST_SESSIONS};
 use crate::refusal::{OptionFault, Refusal};
-use crate::resolver::{Resolver, resolver_argument, resolver_of};
+use crate::resolver::{Resolver, resolver_of};
 use crate::settings::{changes_of, set, settings_of, timeout};
 use clap::{ArgAction, ArgMatches, Command, value_parser};
 use he_addr::{Family, Prefix, read_prefix};
@@ -19,14 +19,17 @@ use std::str::FromStr;
 
 const ABOUT: &str = "Serve SOCKS 5 and HTTP CONNECT, and race for each connection";
 
-const LISTEN_HELP: &str = "The address and port to serve; repeatable. Default is\n\
-127.0.0.1:1080 and [::1]:1080";
+const LISTEN_HELP: &str = "Serve this address and port; repeatable;\n\
+default is 127.0.0.1:1080 and [::1]:1080";
 
 const ALLOW_HELP: &str = "Serve clients of NETWORK too, as 192.0.2.0/24;\n\
 repeatable. An address to listen on that is not a\nloopback address needs one";
 
 const PRIVATE_HELP: &str = "Connect clients of other machines to loopback,\n\
 link-local and private addresses too";
+
+const RESOLVER_HELP: &str = "The name server to ask: ADDRESS, ADDRESS:PORT or\n\
+[ADDRESS]:PORT; default is /etc/resolv.conf";
 
 const RECORD_HELP: &str = "Write each race to a file of its own under DIR";
 
@@ -83,7 +86,7 @@ pub(crate) fn command<'a>(alloc: Global) -> Result<Command<'a>, AllocError> {
     let records = value(alloc, "record-most", "N", RECORD_MOST_HELP);
     let idle = value(alloc, "idle", "SECONDS", IDLE_HELP);
     let args = vec![in alloc;
-        value(alloc, "listen", "ADDRESS:PORT", LISTEN_HELP).action(ArgAction::Append),
+        value(alloc, "listen", "ADDR:PORT", LISTEN_HELP).action(ArgAction::Append),
         value(alloc, "allow", "NETWORK", ALLOW_HELP).action(ArgAction::Append),
         flag(alloc, "allow-private", PRIVATE_HELP),
         letter(alloc, "four", '4', "Try IPv4 addresses alone"),
@@ -91,7 +94,7 @@ pub(crate) fn command<'a>(alloc: Global) -> Result<Command<'a>, AllocError> {
         timeout(alloc),
         set(alloc),
         value(alloc, "host-lines", "FILE", LINES_HELP).long("host"),
-        resolver_argument(alloc),
+        value(alloc, "resolver", "RESOLVER", RESOLVER_HELP),
         value(alloc, "record", "DIR", RECORD_HELP),
         records.value_parser(value_parser!(u32).range(1..=i64::from(MOST_RECORDS))),
         most.value_parser(value_parser!(u32).range(1..=i64::from(MOST_SESSIONS))),
