@@ -10,8 +10,8 @@
  * to, the struct that is filled in and the text that is read do not overlap; and nothing else writes to them during
  * the call. A text or a room of length 0 may be a null pointer: that is tested, not proved.
  *
- * TEXTS OF RACES. A text holds races, one after another. A race is a line `race 1` or `race 2`, then lines of the kinds
- * below, in this order, then a line `end`; each line ends with one line feed.
+ * TEXTS OF RACES. A text holds races, one after another. A race is a line `race 1` or `race 2`, then lines of the
+ * kinds below, in this order, then a line `end`; each line ends with one line feed.
  *
  *     set resolution 50               how long an IPv4 answer waits for the IPv6 one, 0 to 1000
  *     set attempt 250                 from one start to the next, 10 to 2000
@@ -127,27 +127,27 @@ struct he_step {
  * THE RECORD is the race's text of what has happened so far, without its line `end`. Its lines are in the order above,
  * so keep the answers, the `connect` lines and the `pause` lines apart, and join them for each call.
  *
- * A TURN. Read the clock once, as `now`, at least 1 tick later than in the previous turn. Write what has happened since
- * then into the record: an answer with the tick `now`; the end of an attempt with `now` minus its start. Call he_next.
- * Write the pause, if one is reported: the client came late to a start. On HE_START, connect, count the attempt in
- * `started`, and call again with the same `now`, having written nothing but that pause. On HE_WAIT, sleep until that
- * tick or until something happens; then a new turn begins. Otherwise the race is over: close all other sockets, and
- * end the record with a line `end`, which makes it a text that he_replay takes.
+ * A TURN. Read the clock once, as `now`, at least 1 tick later than in the previous turn. Write what has happened
+ * since then into the record: an answer with the tick `now`; the end of an attempt with `now` minus its start. Call
+ * he_next. Write the pause, if one is reported: the client came late to a start. On HE_START, connect, count the
+ * attempt in `started`, and call again with the same `now`, having written nothing but that pause. On HE_WAIT, sleep
+ * until that tick or until something happens; then a new turn begins. Otherwise the race is over: close all other
+ * sockets, and end the record with a line `end`, which makes it a text that he_replay takes.
  *
  * Proved: the step is that of a replay of the record followed by `end`, with the reported pause as its last line. The
  * attempt at place `started` of that transcript starts at `tick`, or is waited for if it starts later; if there is
  * none, the race's end is waited for; and the race is over if the transcript ends at or before `now`. A pause is
- * reported if and only if that attempt starts before `now`, and lasts from there to `now`. A tick past the race's limit
- * counts as the first one after it. For races that are run by such steps, whatever answers, ends and pauses are written
- * meanwhile, each after the last start: the attempts that were started are those of the transcript of the ended record.
- * Along with an answer may come lines `rtt` and `used` of its addresses, in their order, and lines `source` and `route`
- * of its family, after those already there.
+ * reported if and only if that attempt starts before `now`, and lasts from there to `now`. A tick past the race's
+ * limit counts as the first one after it. For races that are run by such steps, whatever answers, ends and pauses are
+ * written meanwhile, each after the last start: the attempts that were started are those of the transcript of the
+ * ended record. Along with an answer may come lines `rtt` and `used` of its addresses, in their order, and lines
+ * `source` and `route` of its family, after those already there.
  *
  * Returns HE_DONE; HE_FAULT, if the ended record has a fault, or cannot have the pause that it must have; HE_NOT_ONE;
  * or HE_NO_MEMORY. `told` has a fault's line and kind, and a length of 0.
  *
- * Each call reads the whole record, so its cost grows with the record: about 10 microseconds for 10 addresses, and less
- * than 2 milliseconds for the largest possible record. */
+ * Each call reads the whole record, so its cost grows with the record: about 10 microseconds for 10 addresses, and
+ * less than 2 milliseconds for the largest possible record. */
 uint32_t he_next(const uint8_t *record, size_t record_length, uint64_t started, uint64_t now, struct he_step *step,
                  struct he_told *told);
 
