@@ -90,10 +90,14 @@ def timed(check):
 
 def run_checks(script):
     """Runs each function of a script (its globals) that is named check_*, in their order, or those that the command
-    line names, and ends with the last line."""
+    line names (`log` is check_log), and ends as below."""
     checks = {name: one for name, one in script.items() if name.startswith("check_")}
-    chosen = [name for name in sys.argv if name in checks] or checks
-    ends = [run_check(checks[name], hasattr(checks[name], "is_timed")) for name in chosen]
+    chosen = [f"check_{word}" for word in sys.argv if f"check_{word}" in checks] or checks
+    end_checks([run_check(checks[name], hasattr(checks[name], "is_timed")) for name in chosen])
+
+
+def end_checks(ends):
+    """The last line, and the status."""
     print(f"{ends.count(True)} passed, {ends.count(False)} failed, {ends.count(None)} not tried")
     sys.exit(False in ends)
 
@@ -371,8 +375,8 @@ def wire(name):
     return b"".join(bytes([len(label)]) + label.encode() for label in name.split(".") if label) + b"\0"
 
 
-def record(name, kind, data):
-    return name + struct.pack("!HHIH", kind, 1, 60, len(data)) + data
+def record(name, kind, data, ttl=60):
+    return name + struct.pack("!HHIH", kind, 1, ttl, len(data)) + data
 
 
 def addresses(kind, *given):
