@@ -1,5 +1,5 @@
 # What a newcomer needs. README.md and CONTRIBUTING.md say what each is for and how long it takes.
-.PHONY: help race test edits build install build-library install-library library deb examples documents explained page hostile cost refused hosts captures live names connect proxy fuzz manual kit program
+.PHONY: help race test edits build install build-library install-library library deb examples documents page hostile cost refused hosts captures live names connect proxy fuzz manual kit program
 
 PREFIX ?= /usr/local
 DESTDIR ?=
@@ -29,7 +29,8 @@ make install-library PREFIX=DIR
                            not done
 make library HE=FILE       proves and builds the library for C and the examples in C and Python, and tries them,
                            beside a built program
-make examples HE=FILE      runs a built program over all examples
+make examples HE=FILE      runs a built program over all examples, and compares what it writes with files and with a
+                           plain reading of the rules
 make documents HE=FILE     runs the command lines of the documents, and compares what stands below them
 make hostile HE=FILE       runs a built program over streams that fail, open pipes, too little memory
 make cost HE=FILE          bounds what a built program takes for a text of some megabytes: time and memory
@@ -44,7 +45,6 @@ make connect HE=FILE       connects by a built program in full: transfers of 100
 make proxy HE=FILE         connects through `he proxy` in full: curl, git and nc, 10,000 sessions under faults
 make fuzz SECONDS=60 SEED=1 HE=FILE
                            compares a built program with a plain reading of the rules, on texts that are drawn
-make explained HE=FILE     compares what a built program writes of the examples with a plain reading of the rules
 make page HE=FILE          reads pages that a built program draws as a browser would
 make manual HE=FILE        compares the help of a built program with its manual page and its completions
 endef
@@ -141,9 +141,6 @@ fuzz: program
 
 manual: program
 	scripts/manual $(HE)
-
-explained: program
-	scripts/explained $(HE)
 
 page: program
 	scripts/page $(HE)

@@ -1,20 +1,15 @@
-#!/usr/bin/env python3
 """A plain reading of the rules in docs/DEFINITIONS.md, RFC 8305 and RFC 6724, apart from the program.
 
-It says what `he replay` and `he order` write for a text: the output, and the line of a fault; what `he explain` and
-`he compare` write stands in plain_story.py and plain_compared.py. It is as slow and plain as it can be, and shares
-nothing with the program: who compares both (scripts/fuzz) finds where they differ.
+It says what `he replay` and `he order` write for a text: the output, and the line of a fault; what other commands write
+stands in the files plain_*.py beside it, of which plain_wanted.py is their command line. It is as slow and plain as it
+can be, and shares nothing with the program: who compares both (scripts/fuzz) finds where they differ.
 
 needs: python3, its standard library alone
-usage: scripts/plain.py order < TEXT
-       scripts/plain.py replay [NAME=N ..] < TEXT
-           with these settings in place of each race's own, as with --set
 """
 import copy
 import ipaddress
 import pathlib
 import re
-import sys
 from collections import namedtuple
 from functools import cached_property, lru_cache
 
@@ -61,6 +56,10 @@ SETTINGS = {
     "floor": (10, 2000, None, 2),
 }
 GROUPS = ["set", "policy", "source", "route", "aaaa", "a", "rtt", "used", "connect", "pause", "end"]
+# How many words a line of each has at the least and at the most, and how many lines of one there are at the most.
+LENGTHS = {"set": (3, 3), "policy": (4, 4), "source": (3, 5), "route": (3, 4), "aaaa": (3, None), "a": (3, None),
+           "rtt": (3, 3), "used": (2, 2), "connect": (4, 4), "pause": (3, 3), "end": (1, 1)}
+MOST_LINES = {"policy": MOST_LISTED, "source": MOST_LISTED, "route": MOST_LISTED, "pause": MOST_PAUSES, "aaaa": 1, "a": 1}
 # The words that a race has from version 2 on.
 NEW_GROUPS = ["rtt", "used"]
 
@@ -518,12 +517,8 @@ class Reader:
             raise Fault("word")
         self.group = GROUPS.index(word)
         self.counts[word] = self.counts.get(word, 0) + 1
-        if word in ("aaaa", "a") and self.counts[word] > 1:
-            raise Fault("repeated")
-        if word in ("policy", "source", "route") and self.counts[word] > MOST_LISTED:
-            raise Fault("too many")
-        if word == "pause" and self.counts[word] > MOST_PAUSES:
-            raise Fault("too many")
+        if self.counts[word] > MOST_LINES.get(word, self.counts[word]):
+            raise Fault("repeated" if word in ("aaaa", "a") else "too many")
         self.check_length(word, len(tokens))
         if word == "end":
             return True
@@ -535,11 +530,8 @@ class Reader:
         return False
 
     def check_length(self, word, length):
-        least = {"set": 3, "policy": 4, "source": 3, "route": 3, "aaaa": 3, "a": 3,
-                 "rtt": 3, "used": 2, "connect": 4, "pause": 3, "end": 1}
-        most = {"set": 3, "policy": 4, "source": 5, "route": 4,
-                "rtt": 3, "used": 2, "connect": 4, "pause": 3, "end": 1}
-        if length < least[word] or length > most.get(word, length):
+        least, most = LENGTHS[word]
+        if length < least or most is not None and length > most:
             raise Fault("word")
         if word in ("aaaa", "a") and length - 2 > MOST_ADDRESSES:
             raise Fault("too many")
@@ -704,25 +696,3 @@ def replayed(races, changes):
 def ordered(races, changes):
     """What `he order` writes, which no setting changes."""
     return "".join(order(race.changed(changes)) for race in races).encode()
-
-
-def answer(written, words):
-    """Reads standard input, writes what this function makes of its races with the settings of the words, and ends."""
-    races, fault = read_text(sys.stdin.buffer.read().decode("latin-1"))
-    sys.stdout.buffer.write(written(races, changes_of(words)))
-    sys.stdout.buffer.flush()
-    if fault:
-        sys.stderr.buffer.write(fault_line(fault.line, fault.kind))
-    sys.exit(1 if fault else 0)
-
-
-def main():
-    if sys.argv[1:2] == ["replay"]:
-        answer(replayed, sys.argv[2:])
-    if sys.argv[1:] != ["order"]:
-        sys.exit("usage: scripts/plain.py order < TEXT, or scripts/plain.py replay [NAME=N ..] < TEXT")
-    answer(ordered, [])
-
-
-if __name__ == "__main__":
-    main()

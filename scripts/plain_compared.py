@@ -1,13 +1,9 @@
-#!/usr/bin/env python3
 """A plain reading of what `he compare` writes, apart from the program, as plain.py is of the rules: by
 docs/DEFINITIONS.md and crates/he_compare/specs.
 
 needs: python3, its standard library alone
-usage: scripts/plain_compared.py [--json] [--races] NAME=N[,N ..] .. < TEXT
-           by these settings in place of each race's own, as with --set; one name may have a list
 """
 import json
-import sys
 from collections import Counter
 
 import plain
@@ -114,13 +110,3 @@ def written(races, changes):
     """What `he compare` writes for these races and settings, which have no list."""
     label = " ".join(f"{name}={number}" for name, number in changes.items())
     return written_for(races, [("as they stand", {}), (label, changes)], False, False)
-
-
-def main(words):
-    flags = {word for word in words if word.startswith("--")}
-    rows = rows_of([word for word in words if word not in flags])
-    plain.answer(lambda races, _: written_for(races, rows, "--json" in flags, "--races" in flags), [])
-
-
-if __name__ == "__main__":
-    main(sys.argv[1:])

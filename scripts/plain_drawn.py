@@ -1,15 +1,10 @@
-#!/usr/bin/env python3
 """A plain reading of what `he draw` draws, apart from the program, as plain.py is of the rules: the picture of each race,
 by docs/DEFINITIONS.md and crates/he_draw/specs, under the words of a story for how it ended.
 
 needs: python3, its standard library alone
-usage: scripts/plain_drawn.py [NAME=N ..] < TEXT
-           in 80 columns, with these settings in place of each race's own, as with --set
 """
-import sys
 from collections import namedtuple
 
-import plain
 from plain import print_address
 from plain_story import ending
 
@@ -86,7 +81,3 @@ def written(races, changes, width=80, signs=UNICODE):
 
 def written_ascii(races, changes):
     return written(races, changes, signs=ASCII)
-
-
-if __name__ == "__main__":
-    plain.answer(written, sys.argv[1:])

@@ -1,15 +1,9 @@
-#!/usr/bin/env python3
 """A plain reading of what `he replay --json`, `he order --json` and `he explain --json` write of a text without a name,
 apart from the program, as plain.py is of the rules: by docs/DEFINITIONS.md, the manual page and crates/he_json/specs.
 
 needs: python3, its standard library alone
-usage: scripts/plain_json.py order < TEXT
-       scripts/plain_json.py replay [NAME=N ..] < TEXT
-       scripts/plain_json.py explain [NAME=N ..] < TEXT
-           with these settings in place of each race's own, as with --set
 """
 import json
-import sys
 
 import plain
 import plain_story
@@ -121,13 +115,3 @@ def explained(races, changes):
     changed = [race.changed(changes) for race in races]
     return "".join(line_of(number, race, {"order": order(race), "events": events(race, race.report)})
                    for number, race in enumerate(changed, 1)).encode()
-
-
-if __name__ == "__main__":
-    if sys.argv[1:2] == ["replay"]:
-        plain.answer(replayed, sys.argv[2:])
-    if sys.argv[1:2] == ["explain"]:
-        plain.answer(explained, sys.argv[2:])
-    if sys.argv[1:] != ["order"]:
-        sys.exit("usage: scripts/plain_json.py order|replay|explain [NAME=N ..] < TEXT")
-    plain.answer(ordered, [])

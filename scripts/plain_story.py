@@ -1,12 +1,8 @@
-#!/usr/bin/env python3
 """A plain reading of what `he explain` writes, apart from the program, as plain.py is of the rules: the story of each
 race, by docs/DEFINITIONS.md and crates/he_story/specs.
 
 needs: python3, its standard library alone
-usage: scripts/plain_story.py [NAME=N ..] < TEXT
-           with these settings in place of each race's own, as with --set
 """
-import sys
 from collections import namedtuple
 
 import plain
@@ -281,7 +277,3 @@ def story(number, race):
 def written(races, changes):
     """What `he explain` writes for these races, with these settings in place of their own."""
     return "".join(story(number, race.changed(changes)) for number, race in enumerate(races, 1)).encode()
-
-
-if __name__ == "__main__":
-    plain.answer(written, sys.argv[1:])

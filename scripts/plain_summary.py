@@ -1,13 +1,9 @@
-#!/usr/bin/env python3
 """A plain reading of what `he summary` writes, apart from the program, as plain.py is of the rules: by
 docs/DEFINITIONS.md and crates/he_summary/specs.
 
 needs: python3, its standard library alone
-usage: scripts/plain_summary.py [--json] [--slowest N] [NAME=N ..] < TEXT
-           with these settings in place of each race's own, as with --set
 """
 import json
-import sys
 from collections import Counter, namedtuple
 
 import plain
@@ -169,18 +165,3 @@ def written(races, changes, slowest=0):
 
 def written_json(races, changes, slowest=0):
     return as_json(summed(races, changes), slowest).encode()
-
-
-def main(words):
-    make = written_json if "--json" in words else written
-    words = [word for word in words if word != "--json"]
-    slowest = 0
-    if "--slowest" in words:
-        place = words.index("--slowest")
-        slowest = int(words[place + 1])
-        del words[place:place + 2]
-    plain.answer(lambda races, changes: make(races, changes, slowest), words)
-
-
-if __name__ == "__main__":
-    main(sys.argv[1:])

@@ -1,4 +1,12 @@
-"""What a run of `he` must write for a text, by the plain readings beside this file."""
+#!/usr/bin/env python3
+"""What a run of `he` must write for a text, by the plain readings beside this file.
+
+needs: python3, its standard library alone
+usage: scripts/plain_wanted.py COMMAND [--json] [--ascii] [--races] [--slowest N] [NAME=N ..] < TEXT
+           with these settings in place of each race's own, as with --set; of `compare` one name may have a list
+"""
+import sys
+
 import plain
 import plain_compared
 import plain_drawn
@@ -38,3 +46,25 @@ class Wanted:
         counts = plain.counted(len(self.races), "race"), plain.counted(self.text.count("\n"), "line")
         output = b"" if faults else f"{', '.join(counts)}\n".encode()
         return output, b"".join(plain.fault_line(*fault) for fault in faults), 1 if faults else 0
+
+
+def main(words):
+    if not words or words[0] not in {command.split()[0] for command in WRITTEN}:
+        sys.exit(__doc__.strip())
+    wanted = Wanted(sys.stdin.buffer.read())
+    settings = [word for word in words if "=" in word]
+    if words[0] == "compare":
+        rows = plain_compared.rows_of(settings)
+        output = plain_compared.written_for(wanted.races, rows, "--json" in words, "--races" in words)
+    elif "--slowest" in words:
+        make = plain_summary.written_json if "--json" in words else plain_summary.written
+        output = make(wanted.races, plain.changes_of(settings), int(words[words.index("--slowest") + 1]))
+    else:
+        output = wanted.of(words)[0]
+    sys.stdout.buffer.write(output)
+    sys.stdout.buffer.flush()
+    sys.exit(plain.fault_line(*wanted.fault[:2]).decode().rstrip() if wanted.fault else 0)
+
+
+if __name__ == "__main__":
+    main(sys.argv[1:])

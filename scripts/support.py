@@ -1,17 +1,20 @@
 """What the scripts share that try a built program: how they begin, what they count, runs and namespaces of their own,
-addresses that answer, refuse or are silent, and a name server.
+addresses that answer, refuse or are silent, servers, and a name server.
 
 needs: Linux, python3, its standard library alone
 """
 import contextlib
+import hashlib
 import os
 import pathlib
 import re
+import resource
 import shutil
 import socket
 import struct
 import subprocess
 import sys
+import tempfile
 import threading
 import time
 
@@ -50,6 +53,12 @@ class Counts:
         sys.exit(self.failed > 0)
 
 
+def must(is_right, *told):
+    """Ends a check where something is wrong, which is told."""
+    if not is_right:
+        raise ValueError(" ".join(map(str, told)))
+
+
 def said_of(check):
     """What is wrong, or None."""
     try:
@@ -73,6 +82,20 @@ def run_check(check, is_timed):
     return wrong is None
 
 
+def timed(check):
+    """Marks a check that looks at times of more than a wait's least: a busy machine gets a second try."""
+    check.is_timed = True
+    return check
+
+
+def run_checks(script):
+    """Runs each function of a script (its globals) that is named check_*, in their order, or those that the command
+    line names (`log` is check_log), and ends as below."""
+    checks = {name: one for name, one in script.items() if name.startswith("check_")}
+    chosen = [f"check_{word}" for word in sys.argv if f"check_{word}" in checks] or checks
+    end_checks([run_check(checks[name], hasattr(checks[name], "is_timed")) for name in chosen])
+
+
 def end_checks(ends):
     """The last line, and the status."""
     print(f"{ends.count(True)} passed, {ends.count(False)} failed, {ends.count(None)} not tried")
@@ -94,10 +117,26 @@ def run(*words, **more):
     return subprocess.run([str(word) for word in words], **{"capture_output": True, "text": is_text, **more})
 
 
+def limit(kind, most):
+    """What a run is to do before it begins to have so much of a resource at most (as NOFILE); None for no limit."""
+    return most and (lambda: resource.setrlimit(getattr(resource, f"RLIMIT_{kind}"), (most, most)))
+
+
+def seconds_of_children():
+    """The processor time of all programs that were run."""
+    used = resource.getrusage(resource.RUSAGE_CHILDREN)
+    return used.ru_utime + used.ru_stime
+
+
 def attempts_of(transcript):
     """Each attempt's start, address and end."""
     found = re.findall(r"^attempt \d+ (\d+) (\S+) (\w+)", transcript, re.M)
     return [(int(start), ip, end) for start, ip, end in found]
+
+
+def winner_of(transcript):
+    """The address that won, or None."""
+    return next((ip for _, ip, end in attempts_of(transcript) if end == "won"), None)
 
 
 def in_namespaces(flags, setup, *words, **more):
@@ -176,6 +215,152 @@ def in_tcp_table(port, state, column):
 
 def is_listening(port):
     return in_tcp_table(port, "0A", 1) > 0
+
+
+# A network of a script's own: addresses that answer, others that are silent, a link, and names of a file of hosts
+
+
+SIX, FOUR = "2001:db8:1e::1", "127.0.0.1"  # addresses of this machine
+DEAD_SIX, DEAD_FOUR = "2001:db8:1e::9", "127.0.0.9"  # others, at which nothing answers
+WIDE_FOUR = "10.77.0.1"  # the IPv4 address of this machine beyond loopback, without which IPv4 is not asked for
+NAMES = {
+    "both.test": [SIX, FOUR],
+    "dead6.test": [DEAD_SIX, FOUR],
+    "dead.test": [DEAD_SIX, DEAD_FOUR],
+    "four.test": [FOUR],
+    "six.test": [SIX],
+    "far.test": ["198.51.100.9"],
+}
+# Where a server listens, the host that is asked for, and the address that wins.
+TAKEN = [(FOUR, "four.test", FOUR), (SIX, "six.test", SIX), (FOUR, FOUR, FOUR), (SIX, SIX, SIX),
+         (FOUR, "dead6.test", FOUR), (FOUR, "both.test", FOUR), (SIX, "both.test", SIX)]
+NETWORK = f"""
+ip link set lo up
+ip link add here type veth peer name there
+ip link set here up
+ip link set there up
+ip address add {SIX}/64 dev here nodad
+ip address add {DEAD_SIX}/64 dev here nodad
+ip address add {WIDE_FOUR}/24 dev here
+mount -t sysfs sysfs /sys
+"""
+
+
+def run_checks_in_network(script, **files):
+    """As run_checks, in the network above, with these files set in as /etc/NAME beside that of the hosts."""
+    if INSIDE in sys.argv:
+        run_checks(script)
+    files["hosts"] = "".join(f"{address} {name}\n" for name, found in NAMES.items() for address in found)
+    with tempfile.TemporaryDirectory() as folder:
+        setup = NETWORK
+        for name, text in files.items():
+            pathlib.Path(folder, name).write_text(text)
+            setup += f"[ ! -e /etc/{name} ] || mount --bind {folder}/{name} /etc/{name}\n"
+        done = in_namespaces("-n -m", setup)
+    if done is None:
+        print("not tried: no network and file of hosts of its own can be made")
+    sys.exit(done.returncode if done else 0)
+
+
+@contextlib.contextmanager
+def serving(serve, address=FOUR, interface=0, port=0):
+    """A server that calls `serve` with each connection, each in a thread, at an address that may be on one interface
+    alone; gives its port, at which the two addresses that are dead are silent."""
+    listener = listener_at(address, port, backlog=1024, interface=interface)
+    port = listener.getsockname()[1]
+
+    def take(connection):
+        with connection, contextlib.suppress(OSError):
+            serve(connection)
+
+    def accept():
+        with contextlib.suppress(OSError):
+            while True:
+                threading.Thread(target=take, args=(listener.accept()[0],), daemon=True).start()
+
+    threading.Thread(target=accept, daemon=True).start()
+    try:
+        with silent(DEAD_SIX, port), silent(DEAD_FOUR, port):
+            yield port
+    finally:
+        listener.shutdown(socket.SHUT_RDWR)
+        listener.close()
+
+
+def greet(connection):
+    connection.sendall(b"hello\n")
+
+
+def digest_of(given):
+    return hashlib.sha256(given).hexdigest().encode()
+
+
+def read_all(connection):
+    """The digest of all that comes, and its length."""
+    digest, length = hashlib.sha256(), 0
+    while piece := connection.recv(1 << 17):
+        digest.update(piece)
+        length += len(piece)
+    return digest.hexdigest().encode(), length
+
+
+def answer_digest(connection):
+    """Answers a whole transfer, once its end has come, with its digest."""
+    connection.sendall(read_all(connection)[0])
+
+
+def set_to_reset(connection):
+    """The end of the connection is then a reset."""
+    connection.setsockopt(socket.SOL_SOCKET, socket.SO_LINGER, struct.pack("ii", 1, 0))
+
+
+# Programs of others
+
+
+@contextlib.contextmanager
+def server_at(port, *command, **more):
+    """A program that listens at the port; one that does not cannot be tried."""
+    quiet = {"stdin": subprocess.DEVNULL, "stdout": subprocess.DEVNULL, "stderr": subprocess.DEVNULL}
+    with subprocess.Popen([str(word) for word in command], **{**quiet, **more}) as server:
+        try:
+            if not is_up(server, lambda: is_listening(port)):
+                raise FileNotFoundError(f"{command[0]} does not listen")
+            yield server
+        finally:
+            server.terminate()
+
+
+@contextlib.contextmanager
+def web_server(folder):
+    """python's web server, at the port that is given."""
+    port = unused_port()
+    with server_at(port, sys.executable, "-m", "http.server", "--bind", FOUR, "--directory", folder, port):
+        yield port
+
+
+SSHD = """Port {port}
+ListenAddress {address}
+HostKey {folder}/host
+AuthorizedKeysFile {folder}/key.pub
+PidFile none
+StrictModes no
+UsePAM no
+PermitRootLogin yes
+"""
+
+
+@contextlib.contextmanager
+def sshd(address, folder):
+    """sshd at an address, its files in the folder; gives its port, and the words of a client that may log in."""
+    needs("sshd", "ssh", "ssh-keygen")
+    for name in ("host", "key"):
+        subprocess.run(["ssh-keygen", "-q", "-t", "ed25519", "-N", "", "-f", f"{folder}/{name}"], check=True)
+    port = unused_port(address)
+    pathlib.Path(folder, "sshd").write_text(SSHD.format(port=port, address=address, folder=folder))
+    pathlib.Path("/run/sshd").mkdir(exist_ok=True)
+    options = ["StrictHostKeyChecking=no", "BatchMode=yes", f"UserKnownHostsFile={folder}/known", "LogLevel=ERROR"]
+    with server_at(port, shutil.which("sshd"), "-D", "-f", f"{folder}/sshd"):
+        yield port, ["ssh", "-F", "none", "-i", f"{folder}/key", *(f"-o{option}" for option in options)]
 
 
 # Messages of the domain name system, and a server
