@@ -9,7 +9,6 @@ use Rattle.he_front.specs.declared.replies.Ended.{Ended}
 use Rattle.he_live.specs.declared.endpoint.Endpoint.{Endpoint}
 use Rattle.he_race.specs.Resolving.{ReplaysGiven}
 use Rattle.he_race.specs.Winner.{WinnerGoes}
-use Rattle.he_race.specs.declared.faults.RaceFault.{RaceFault}
 use Rattle.he_race.specs.declared.live.Raced.{Raced}
 use Rattle.he_sessions.specs.declared.racer.Won.{Won}
 use Rattle.he_timeline.specs.Race.{Race}
@@ -30,9 +29,9 @@ runs_so own to its reach start raced same alike replays goes = record {
 }
 
 pub wins_so : (proxy : ProxyRequest) (places : List Place) (client : SocketAddr) (host : List ℕ) (port : ℕ)
-    (request : ConnectRequest) (setup : Setup) (reach : Reach) (gives : Result (Raced Joined) RaceFault → Type 0)
+    (request : ConnectRequest) (setup : Setup) (reach : Reach) (gives : Raced Joined → Type 0)
     → AsksFor proxy host port request → IsReachOf places proxy.allows_private client reach → IsSetUp request setup
-    → ((raced : Raced Joined) → gives (Ok raced) → RunsFrom setup.start setup.to reach raced)
+    → ((raced : Raced Joined) → gives raced → RunsFrom setup.start setup.to reach raced)
     → Wins (IsWonBy proxy places client host port) (λ end. HandsOut gives end)
 wins_so proxy places client host port request setup reach gives asks reaches set runs (Ok won) (raced, gave, handed) = record {
   request = request;
@@ -54,3 +53,7 @@ pub won_at : (proxy : ProxyRequest) (places : List Place) (client : SocketAddr) 
     (end : Result Won Ended) → IfOk end (IsWonBy proxy places client host port) → IfOk end (IsWonAt host port)
 won_at proxy places client host port (Ok won) by = record { proxy = proxy; places = places; client = client; by = by }
 won_at proxy places client host port (Err ended) by = tt
+
+pub at_ok : {A E : Type 0} (P Q : A → Type 0) → ((a : A) → P a → Q a) → (r : Result A E) → IfOk r P → IfOk r Q
+at_ok P Q f (Ok a) h = f a h
+at_ok P Q f (Err e) h = tt

@@ -1,5 +1,5 @@
 -- A source that hears another one is silent where that one is.
-use Rattle.std.proofs.Common.{ℕ, List, [], ◌∷◌}
+use Rattle.std.proofs.Common.{◌⊎◌, ℕ, List, [], ◌∷◌, inl, inr}
 use Rattle.std.specs.Prelude.{Option}
 use Rattle.he_addr.specs.declared.ip.Family.{Family}
 use Rattle.he_race.specs.Heard.{AnswerLists, IsSilent, StaysSilent, Tells}
@@ -17,3 +17,7 @@ module _ {S Inner : Type 0} (inner : S → Inner) (hears : Tells Inner) where
 
   pub silent_by : (s : S) (family : Family) → IsSilent hears (inner s) family → IsSilent hears_by s family
   silent_by s family silent = record { at = λ polls. stays polls s family (silent.at polls) }
+
+pub either : {A B C : Type 0} → (B → C) → A ⊎ B → A ⊎ C
+either f (inl a) = inl a
+either f (inr b) = inr (f b)

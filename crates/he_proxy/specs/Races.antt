@@ -9,7 +9,6 @@ use Rattle.he_front.specs.declared.replies.Ended.{Ended}
 use Rattle.he_plan.specs.Transcript.{Report}
 use Rattle.he_plan.specs.declared.transcript.Line.{Line}
 use Rattle.he_plan.specs.declared.transcript.Outcome3.TheVariants as results
-use Rattle.he_race.specs.declared.faults.RaceFault.{RaceFault}
 use Rattle.he_race.specs.declared.live.Raced.{Raced}
 use Rattle.he_sessions.specs.declared.racer.Winner.{Winner}
 use Rattle.he_sessions.specs.declared.racer.Won.{Won}
@@ -47,9 +46,9 @@ pub record IsWonOf (raced : Raced Joined) (won : Won) : Type 0 where
   pub is_winner : raced.winner ≡ Some joined
   pub stream : won.stream ≡ joined.stream
 
--- of what a race may give, what is handed out: a winner only where the race gave one, and that one
-abbrev pub HandsOut : (Result (Raced Joined) RaceFault → Type 0) → Result Won Ended → Type 0
-HandsOut gives (Ok won) = (raced : Raced Joined) × gives (Ok raced) × IsWonOf raced won
+-- of the ends that a race may give, what is handed out: a winner only where the race gave one, and that one
+abbrev pub HandsOut : (Raced Joined → Type 0) → Result Won Ended → Type 0
+HandsOut gives (Ok won) = (raced : Raced Joined) × gives raced × IsWonOf raced won
 HandsOut gives (Err ended) = ⊤
 
 -- the race of a session is asked for so: for the host and the port of the session, in all else as the proxy is

@@ -34,13 +34,14 @@ where
 {
     type Output = Result<Won, Ended>;
 
+    ghost use Rattle.std.specs.Prelude.{Ok};
     ghost use Rattle.he_proxy.specs.Races.{HandsOut};
 
     ghost can_poll = { λ s. F.can_poll s.race };
 
     ghost needs = { λ s. F.needs s.race };
 
-    ghost gives = { λ s end. HandsOut (F.gives s.race) end };
+    ghost gives = { λ s end. HandsOut (λ raced. F.gives s.race (Ok raced)) end };
 
     fn poll(&mut self, cx: &mut Context<'_>) -> Poll<Result<Won, Ended>> {
         match self.race.poll(cx) {
