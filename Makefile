@@ -1,5 +1,5 @@
 # What a newcomer needs. README.md and CONTRIBUTING.md say what each is for and how long it takes.
-.PHONY: help race test edits build install build-library install-library library deb examples documents page hostile cost refused hosts captures live names connect proxy fuzz manual kit program
+.PHONY: help race test edits build install build-library install-library library deb examples documents page hostile refused hosts captures live names connect proxy fuzz manual kit program
 
 PREFIX ?= /usr/local
 DESTDIR ?=
@@ -32,11 +32,11 @@ make library HE=FILE       proves and builds the library for C and the examples 
 make examples HE=FILE      runs a built program over all examples, and compares what it writes with files and with a
                            plain reading of the rules
 make documents HE=FILE     runs the command lines of the documents, and compares what stands below them
-make hostile HE=FILE       runs a built program over streams that fail, open pipes, too little memory
-make cost HE=FILE          bounds what a built program takes for a text of some megabytes: time and memory
+make hostile HE=FILE       runs a built program over streams that fail, open pipes, too little memory; bounds the time
+                           and memory that it takes for a text of some megabytes
 make refused HE=FILE       refuses each allocation of a built program in turn, also of a live race, and those of
                            the races that the crate cases runs
-make hosts HE=FILE         compares `he host` of a built program with scripts/host-lines, a second reading, and with
+make hosts HE=FILE         compares `he host` of a built program with a second reading (scripts/host_lines.py) and with
                            the kernel, in network namespaces; tries that reading on recorded hosts
 make captures HE=FILE      tries tools/from-capture and tools/compare-done on packet captures; needs tshark
 make live HE=FILE          runs live races of a built program, and looks from the other side at what it did
@@ -113,9 +113,6 @@ documents: program
 
 hostile: program
 	scripts/hostile $(HE)
-
-cost: program
-	scripts/cost $(HE)
 
 hosts: program
 	scripts/hosts $(HE)

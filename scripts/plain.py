@@ -59,7 +59,7 @@ GROUPS = ["set", "policy", "source", "route", "aaaa", "a", "rtt", "used", "conne
 # How many words a line of each has at the least and at the most, and how many lines of one there are at the most.
 LENGTHS = {"set": (3, 3), "policy": (4, 4), "source": (3, 5), "route": (3, 4), "aaaa": (3, None), "a": (3, None),
            "rtt": (3, 3), "used": (2, 2), "connect": (4, 4), "pause": (3, 3), "end": (1, 1)}
-MOST_LINES = {"policy": MOST_LISTED, "source": MOST_LISTED, "route": MOST_LISTED, "pause": MOST_PAUSES, "aaaa": 1, "a": 1}
+MOST_LINES = {**dict.fromkeys(("policy", "source", "route"), MOST_LISTED), "pause": MOST_PAUSES, "aaaa": 1, "a": 1}
 # The words that a race has from version 2 on.
 NEW_GROUPS = ["rtt", "used"]
 

@@ -59,59 +59,20 @@ def order(race):
             for number, fact in enumerate(facts)]
 
 
-def start(race, report, line):
-    before = report.lines[:line.place]
-    cause = plain_story.later_cause(race, before, line) if before else plain_story.first_cause(race, line.start)
-    delay = {} if cause.delay is None else {"delay": cause.delay, "after": cause.after}
-    number, count, turn = plain_story.place_in_list(race, line)
-    return {"event": "attempt", "attempt": line.place, "address": print_address(line.address), "cause": cause.name,
-            **delay, "held": cause.due < line.start, "listed": number, "of": count, "turn": turn}
-
-
-def met(race):
-    """The pauses, the answers, and the wait for the AAAA answer."""
-    told = [(begin, {"event": "pause", "until": end}) for begin, end in race.pauses]
-    for name in ("aaaa", "a"):
-        if name in race.answers:
-            usable = len(race.usable(name))
-            told.append((race.seen(plain_story.tick_of(race, name)),
-                         {"event": "answer", "family": name, "usable": usable}))
-    waits = plain_story.waits(race)
-    if waits:
-        until = plain_story.tick_of(race, "a") + race.setting("resolution")
-        told.append((waits[0][0], {"event": "wait", "family": "aaaa", "until": until}))
-    return told + [(tick, {"event": "delay over"}) for tick, _ in waits[1:]]
-
-
-def ends(report, fate):
-    return [(line.tick, {"event": fate, "attempt": line.place}) for line in report.lines if line.fate == fate]
-
-
-def events(race, report):
-    """All up to the race's end by tick, those of one tick in this order; a pause only where it begins before the end."""
-    kind, _, last = report.result
-    told = met(race) + ends(report, "failed")
-    told += [(line.start, start(race, report, line)) for line in report.lines]
-    told += ends(report, "won") if kind == "won" else [(last, {"event": kind})]
-    told += ends(report, "cancelled")
-    known = [(tick, event) for tick, event in told if tick < last or tick == last and event["event"] != "pause"]
-    return [{"tick": tick, **event} for tick, event in sorted(known, key=lambda one: one[0])]
+def lines_of(races, changes, value_of):
+    return "".join(line_of(number, race, value_of(race))
+                   for number, race in enumerate((race.changed(changes) for race in races), 1)).encode()
 
 
 def replayed(races, changes):
-    changed = [race.changed(changes) for race in races]
-    return "".join(line_of(number, race, {"attempts": [attempt(line) for line in race.report.lines],
-                                          "result": result(race.report)})
-                   for number, race in enumerate(changed, 1)).encode()
+    return lines_of(races, changes, lambda race: {"attempts": [attempt(line) for line in race.report.lines],
+                                                  "result": result(race.report)})
 
 
 def ordered(races, changes):
-    changed = [race.changed(changes) for race in races]
-    return "".join(line_of(number, race, {"order": [place(at, fact) for at, fact in enumerate(race.ranked())]})
-                   for number, race in enumerate(changed, 1)).encode()
+    return lines_of(races, changes, lambda race: {"order": [place(at, fact) for at, fact in enumerate(race.ranked())]})
 
 
 def explained(races, changes):
-    changed = [race.changed(changes) for race in races]
-    return "".join(line_of(number, race, {"order": order(race), "events": events(race, race.report)})
-                   for number, race in enumerate(changed, 1)).encode()
+    return lines_of(races, changes, lambda race: {"order": order(race), "events": [
+        {"tick": tick, **event} for tick, event, _ in plain_story.events(race, race.report)]})

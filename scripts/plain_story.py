@@ -160,12 +160,10 @@ def place_in_list(race, line):
     return place, len(addresses), "in turn" if is_other else "other run out"
 
 
-def listed(race, line):
+def listed(family, place, count, turn):
     """The same in words."""
-    place, count, turn = place_in_list(race, line)
     if count == 1:
         return "; the only address known"
-    family = line.address.family
     words = {"leads": f"IPv{family} first", "in turn": "IPv6 and IPv4 in turn",
              "other run out": f"IPv{family} alone is left"}
     return f"; number {place + 1} of {count} known, {words[turn]}"
@@ -177,23 +175,30 @@ def late(race, tick):
                  if end == tick and end - start < LEAST_PAUSE), "")
 
 
+# What happened: of each event its tick, its object in JSON, and its words in a story
+
+
 def started(race, before, line):
     cause = later_cause(race, before, line) if before else first_cause(race, line.start)
-    held = (late(race, line.start) or ", late because of a pause") if cause.due < line.start else ""
-    return f"attempt {line.place + 1} to {print_address(line.address)}: {cause.words}{held}{listed(race, line)}"
-
-
-# What happened: pairs of a tick and what is told of it
+    delay = {} if cause.delay is None else {"delay": cause.delay, "after": cause.after}
+    place, count, turn = place_in_list(race, line)
+    is_held, address = cause.due < line.start, print_address(line.address)
+    held = (late(race, line.start) or ", late because of a pause") if is_held else ""
+    where = listed(line.address.family, place, count, turn)
+    told = f"attempt {line.place + 1} to {address}: {cause.words}{held}{where}"
+    return line.start, {"event": "attempt", "attempt": line.place, "address": address, "cause": cause.name, **delay,
+                        "held": is_held, "listed": place, "of": count, "turn": turn}, told
 
 
 def answers(race):
     events = []
     for name in ("aaaa", "a"):
         if name in race.answers:
-            tick, other = race.seen(tick_of(race, name)), OTHER[name]
+            tick, other, usable = race.seen(tick_of(race, name)), OTHER[name], len(race.usable(name))
             missing = "" if race.is_seen(other, tick) else f"; the {NAMES[other]} answer is not there yet"
-            usable = counted(len(race.usable(name)), "address", "addresses")
-            events.append((tick, f"{NAMES[name]} answer{late(race, tick)}: {usable} to try{missing}"))
+            to_try = counted(usable, "address", "addresses")
+            told = f"{NAMES[name]} answer{late(race, tick)}: {to_try} to try{missing}"
+            events.append((tick, {"event": "answer", "family": name, "usable": usable}, told))
     return events
 
 
@@ -204,37 +209,39 @@ def waits(race):
     begin, end = race.seen(tick_of(race, "a")), tick_of(race, "a") + race.setting("resolution")
     if begin >= end or race.is_seen("aaaa", begin):
         return []
-    events = [(begin, f"wait for the AAAA answer until {end} ms (Resolution Delay)")]
-    over = race.seen(end)
+    told = f"wait for the AAAA answer until {end} ms (Resolution Delay)"
+    events, over = [(begin, {"event": "wait", "family": "aaaa", "until": end}, told)], race.seen(end)
     if not race.is_seen("aaaa", over):
-        events.append((over, f"the wait is over, without the AAAA answer{late(race, over)}"))
+        told = f"the wait is over, without the AAAA answer{late(race, over)}"
+        events.append((over, {"event": "delay over"}, told))
     return events
 
 
 def ends(race, report, fate):
     """The ends of the attempts of this fate."""
     words = {"failed": "failed", "won": "connected", "cancelled": "cancelled"}[fate]
-    return [(line.tick, f"attempt {line.place + 1} {words} after {line.tick - line.start} ms"
-             + (late(race, line.tick) if fate != "cancelled" else ""))
-            for line in report.lines if line.fate == fate]
+    return [(line.tick, {"event": fate, "attempt": line.place},
+             f"attempt {line.place + 1} {words} after {line.tick - line.start} ms"
+             + (late(race, line.tick) if fate != "cancelled" else "")) for line in report.lines if line.fate == fate]
 
 
 def events(race, report):
     """All up to the race's end by tick, those of one tick in this order."""
     over = {"exhausted": "nothing is left to try", "limit": "the limit: the race is given up"}
     kind, _, tick = report.result
-    told = [(start, f"pause: the client sees and starts nothing until {end} ms") for start, end in race.pauses
-            if start < tick and end - start >= LEAST_PAUSE]
+    told = [(start, {"event": "pause", "until": end}, f"pause: the client sees and starts nothing until {end} ms")
+            for start, end in race.pauses if start < tick]
     told += answers(race) + waits(race) + ends(race, report, "failed")
-    told += [(line.start, started(race, report.lines[:line.place], line)) for line in report.lines]
-    told += ends(race, report, "won") if kind == "won" else [(tick, over[kind])]
+    told += [started(race, report.lines[:line.place], line) for line in report.lines]
+    told += ends(race, report, "won") if kind == "won" else [(tick, {"event": kind}, over[kind])]
     told += ends(race, report, "cancelled")
     return sorted((event for event in told if event[0] <= tick), key=lambda event: event[0])
 
 
 def happened(race, report):
     width = len(str(report.result.tick)) + 2
-    return ["course:", *(f"{tick:>{width}} ms  {told}" for tick, told in events(race, report))]
+    return ["course:", *(f"{tick:>{width}} ms  {told}" for tick, event, told in events(race, report)
+                         if event["event"] != "pause" or event["until"] - tick >= LEAST_PAUSE)]
 
 
 # What had to wait, and what a floor would have changed

@@ -318,13 +318,13 @@ def set_to_reset(connection):
 
 
 @contextlib.contextmanager
-def server_at(port, *command, **more):
+def server_at(port, *command, is_there=None, **more):
     """A program that listens at the port; one that does not cannot be tried."""
     quiet = {"stdin": subprocess.DEVNULL, "stdout": subprocess.DEVNULL, "stderr": subprocess.DEVNULL}
     with subprocess.Popen([str(word) for word in command], **{**quiet, **more}) as server:
         try:
-            if not is_up(server, lambda: is_listening(port)):
-                raise FileNotFoundError(f"{command[0]} does not listen")
+            if not is_up(server, is_there or (lambda: is_listening(port))):
+                raise FileNotFoundError(f"{' '.join(map(str, command))} does not listen")
             yield server
         finally:
             server.terminate()
@@ -349,17 +349,25 @@ PermitRootLogin yes
 """
 
 
+def is_reached(address, port):
+    with contextlib.suppress(OSError), socket.create_connection((address, port), ALONE):
+        return True
+    return False
+
+
 @contextlib.contextmanager
-def sshd(address, folder):
-    """sshd at an address, its files in the folder; gives its port, and the words of a client that may log in."""
+def sshd(address, folder, port=None, inside=(), setting=""):
+    """sshd at an address, behind words that run it elsewhere, its files in the folder; gives its port, and the words of
+    a client that may log in."""
     needs("sshd", "ssh", "ssh-keygen")
     for name in ("host", "key"):
         subprocess.run(["ssh-keygen", "-q", "-t", "ed25519", "-N", "", "-f", f"{folder}/{name}"], check=True)
-    port = unused_port(address)
-    pathlib.Path(folder, "sshd").write_text(SSHD.format(port=port, address=address, folder=folder))
+    port = port or unused_port(address)
+    pathlib.Path(folder, "sshd").write_text(SSHD.format(port=port, address=address, folder=folder) + setting)
     pathlib.Path("/run/sshd").mkdir(exist_ok=True)
     options = ["StrictHostKeyChecking=no", "BatchMode=yes", f"UserKnownHostsFile={folder}/known", "LogLevel=ERROR"]
-    with server_at(port, shutil.which("sshd"), "-D", "-f", f"{folder}/sshd"):
+    command = [*inside, shutil.which("sshd"), "-D", "-f", f"{folder}/sshd"]
+    with server_at(port, *command, is_there=lambda: is_reached(address, port)):
         yield port, ["ssh", "-F", "none", "-i", f"{folder}/key", *(f"-o{option}" for option in options)]
 
 

@@ -17,6 +17,7 @@ import ipaddress
 import os
 import socket
 import time
+from typing import Any
 
 HE_DONE = 0
 START, WAIT, WON, EXHAUSTED, LIMIT = 1, 2, 3, 4, 5
@@ -63,7 +64,7 @@ class Race:
         return int((time.monotonic() - self.begun) * 1000)
 
     async def next_turn(self) -> None:
-        """Waits for a tick behind that of the last turn, and begins a turn there."""
+        """Waits for a tick after that of the last turn, and begins a turn there."""
         while self.ticks() <= self.last:
             await asyncio.sleep(0.001)
         self.last = self.ticks()
@@ -118,7 +119,7 @@ async def dial(ip: str, port: int) -> socket.socket | None:
     return sock
 
 
-def drop(task: asyncio.Task) -> None:
+def drop(task: asyncio.Task[Any]) -> None:
     """Closes what a task connected that is of no more use."""
     if not task.cancelled() and isinstance(task.result(), socket.socket):
         task.result().close()
@@ -126,9 +127,10 @@ def drop(task: asyncio.Task) -> None:
 
 async def run(race: Race, host: str, port: int) -> socket.socket | None:
     """Runs the race, and answers the socket that won, or None."""
-    lookups = {asyncio.create_task(look_up(host, family)): word for word, family in FAMILIES.items()}
-    attempts = {}  # by task: the attempt's place, address and start
-    sockets = {}  # by place
+    lookups: dict[asyncio.Task[list[str]], str] = {
+        asyncio.create_task(look_up(host, family)): word for word, family in FAMILIES.items()}
+    attempts: dict[asyncio.Task[socket.socket | None], tuple[int, str, int]] = {}  # their place, address and start
+    sockets: dict[int, socket.socket | None] = {}  # by place
     try:
         while True:
             step = race.next_step()
@@ -159,7 +161,7 @@ async def run(race: Race, host: str, port: int) -> socket.socket | None:
 
 
 async def open_connection(
-    host: str, port: int, *, race: Race | None = None, **streams
+    host: str, port: int, *, race: Race | None = None, **streams: Any
 ) -> tuple[asyncio.StreamReader, asyncio.StreamWriter]:
     """A (reader, writer) pair, as asyncio.open_connection has it. OSError where no address could be connected to."""
     sock = await run(race or Race(), host, port)

@@ -1,52 +1,20 @@
-#!/usr/bin/env python3
-"""Writes the `source` and `route` lines of a timeline for the machine that it runs on: a second reading of what
-`he host` writes, by `ip` of iproute2.
-
-usage: scripts/host-lines               reads `ip -j -d address`, `ip -j -4 route show table all` and the same with -6
-       scripts/host-lines --from DIR    reads what these printed from DIR/address.json, route4.json and route6.json
+"""The `source` and `route` lines of a timeline for a machine: a second reading of what `he host` writes, by `ip -j` of
+iproute2.
 
 Sources are the addresses of interfaces that are up; an address that is not yet, or never will be, in use (tentative,
 or found twice on the link) is left out. Routes are those of the main table, of each prefix the one with the least
-metric, and the loopback's own. Routes over interfaces that encapsulate have the mark `tunnel`. A timeline holds 64
-sources and 64 routes: more are refused, with status 1.
+metric, and the loopback's own. Routes over interfaces that encapsulate have the mark `tunnel`.
 """
-import argparse
 import ipaddress
 import json
-import pathlib
-import subprocess
-import sys
 
-MOST_LINES = 64
-MOST_INTERFACE = 65535
+from support import run
+
+COMMANDS = ("-d address", "-4 route show table all", "-6 route show table all")
 TUNNELS = {"tun", "wireguard", "sit", "gre", "ip6gre", "ipip", "ip6tnl", "vti", "vti6", "xfrm"}
 ROUTE_TYPES = {"unicast", "local"}
 LEAST_METRIC = {4: 0, 6: 1024}  # where none is printed: Linux prefers IPv4 routes of metric 0, IPv6 routes have 1024
 MAPPED = ipaddress.ip_network("::ffff:0:0/96")
-
-
-def stop(message):
-    sys.exit(f"host-lines: {message}")
-
-
-def read_from(folder):
-    try:
-        return [json.loads((folder / name).read_text() or "[]")
-                for name in ("address.json", "route4.json", "route6.json")]
-    except (OSError, ValueError) as fault:
-        stop(fault)
-
-
-def read_machine():
-    tables = ["route", "show", "table", "all"]
-    commands = (["-d", "address"], ["-4", *tables], ["-6", *tables])
-    try:
-        runs = [subprocess.run(["ip", "-j", *words], check=True, capture_output=True, text=True) for words in commands]
-        return [json.loads(run.stdout or "[]") for run in runs]
-    except FileNotFoundError:
-        stop("the command `ip` (iproute2) is needed")
-    except subprocess.CalledProcessError as fault:
-        stop(fault.stderr.strip())
 
 
 def is_usable(address):
@@ -73,11 +41,6 @@ def sources_of(interfaces):
     return sources
 
 
-def table_of(route):
-    """The main table's routes stand without its name."""
-    return route.get("table", "main")
-
-
 def hops_of(route):
     """The interfaces of a route, the first of which is taken; none where it is of no use."""
     if route.get("type", "unicast") not in ROUTE_TYPES:
@@ -98,7 +61,7 @@ def routes_of(interfaces, routes4, routes6):
     for version, routes in ((4, routes4), (6, routes6)):
         for route in routes:
             hops = [name for name in hops_of(route) if name in by_name]
-            if hops and table_of(route) == "main":
+            if hops and route.get("table", "main") == "main":
                 prefix = prefix_of(route, version)
                 metric = route.get("metric", LEAST_METRIC[version])
                 if prefix not in found or metric < found[prefix][0]:
@@ -114,30 +77,19 @@ def routes_of(interfaces, routes4, routes6):
 
 
 def lines_of(interfaces, routes4, routes6):
-    sources = sources_of(interfaces)
-    routes = routes_of(interfaces, routes4, routes6)
-    for name, lines in (("sources", sources), ("routes", routes)):
-        if len(lines) > MOST_LINES:
-            stop(f"{len(lines)} {name}, and a timeline holds {MOST_LINES}")
-    numbers = [number for _, number, _ in sources.values()] + [number for number, _ in routes.values()]
-    if max(numbers, default=1) > MOST_INTERFACE:
-        stop(f"interface number {max(numbers)}, and a timeline holds numbers up to {MOST_INTERFACE}")
-    for address, (length, number, marks) in sources.items():
-        yield " ".join(["source", f"{address}/{length}", str(number), *marks])
-    for prefix, (number, is_tunnel) in routes.items():
-        yield " ".join(["route", str(prefix), str(number)] + ["tunnel"] * is_tunnel)
+    for address, (length, number, marks) in sources_of(interfaces).items():
+        yield " ".join(["source", f"{address}/{length}", str(number), *marks]) + "\n"
+    for prefix, (number, is_tunnel) in routes_of(interfaces, routes4, routes6).items():
+        yield " ".join(["route", str(prefix), str(number)] + ["tunnel"] * is_tunnel) + "\n"
 
 
-def main():
-    parser = argparse.ArgumentParser(description=__doc__, usage=argparse.SUPPRESS,
-                                     formatter_class=argparse.RawDescriptionHelpFormatter)
-    parser.error = stop
-    parser.add_argument("--from", dest="folder", type=pathlib.Path, metavar="DIR",
-                        help="a host that was recorded, in place of this machine")
-    options = parser.parse_args()
-    given = read_from(options.folder) if options.folder else read_machine()
-    for line in list(lines_of(*given)):
-        print(line)
+def recorded_lines(folder):
+    """Of a host that was recorded: what the commands printed stands in three files."""
+    return "".join(lines_of(*(json.loads((folder / name).read_text() or "[]")
+                              for name in ("address.json", "route4.json", "route6.json"))))
 
 
-main()
+def machine_lines(*inside):
+    """Of this machine, or of that in which these words run a command."""
+    return "".join(lines_of(*(json.loads(run(*inside, "ip", "-j", *words.split(), check=True).stdout or "[]")
+                              for words in COMMANDS)))
