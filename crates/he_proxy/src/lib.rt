@@ -57,8 +57,6 @@ pub mod server;
 pub mod sockets;
 mod stamp;
 pub mod state;
-#[cfg(test)]
-mod tests;
 
 pub use fault::ProxyFault;
 pub use proxy::serve;

@@ -81,7 +81,7 @@ impl<F: Write + Drop> Log<F> {
 }
 
 // The line of a session that ended at this time, where the clock has one.
-pub(crate) fn line_of(
+fn line_of(
     alloc: Global,
     now: Option<String>,
     end: &SessionEnd<'_>,
@@ -108,9 +108,9 @@ pub(crate) fn line_of(
 
 // A line while it is written: `name=value name=value` or an object.
 #[derive(Drop)]
-pub(crate) struct Line {
-    pub(crate) is_json: bool,
-    pub(crate) text: Vec<u8>,
+struct Line {
+    is_json: bool,
+    text: Vec<u8>,
 }
 
 impl Line {

@@ -110,12 +110,7 @@ impl Records {
 }
 
 // The path of a record without its end: of the host, characters other than letters, digits, `-`, `.` and `:` are `_`.
-pub(crate) fn stem_of(
-    alloc: Global,
-    day: &str,
-    time: &str,
-    name: RecordName<'_>,
-) -> io::Result<String> {
+fn stem_of(alloc: Global, day: &str, time: &str, name: RecordName<'_>) -> io::Result<String> {
     let mut stem = String::from_str(alloc, day)?;
     stem.push('/')?;
     for byte in time.as_bytes() {
