@@ -1,5 +1,5 @@
-"""A plain reading of what `he draw` draws, apart from the program, as plain.py is of the rules: the picture of each race,
-by docs/DEFINITIONS.md and crates/he_draw/specs, under the words of a story for how it ended.
+"""A plain reading of what `he draw` draws, apart from the program, as plain.py is of the rules: the picture of each
+race, by docs/DEFINITIONS.md and crates/he_draw/specs, under the words of a story for how it ended.
 
 needs: python3, its standard library alone
 """

@@ -18,8 +18,8 @@ KINDS = {"64:ff9b::/96": " (NAT64)", "2002::/16": " (6to4)", "2001::/32": " (Ter
 # A pause of fewer milliseconds has no line. No more attempts are named that stood between.
 LEAST_PAUSE, MAX_NAMED = 5, 3
 
-# Why an attempt starts, in words, the tick from which it was due, and its name in JSON with a delay and the place of the
-# attempt that this is after.
+# Why an attempt starts, in words, the tick from which it was due, and its name in JSON with a delay and the place of
+# the attempt that this is after.
 Cause = namedtuple("Cause", "words due name delay after", defaults=(None, None))
 
 

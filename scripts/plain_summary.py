@@ -90,7 +90,7 @@ def summed(races, changes):
 
 
 def worst(summary):
-    """The addresses to which most attempts failed or were silent, those with as many by their number as IPv6 addresses."""
+    """The addresses to which most attempts failed or were silent, equal ones by their number as IPv6 addresses."""
     lost = summary.failed + summary.silent
     return sorted(lost, key=lambda address: (-lost[address], plain.mapped(address)))[:MOST_TOLD]
 
