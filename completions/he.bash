@@ -30,6 +30,8 @@ _he() {
             mapfile -t COMPREPLY < <(compgen -A service -- "$word"); return ;;
         "replay --workers" | "draw --width" | "summary --slowest")
             return ;;
+        "summary --by")
+            mapfile -t COMPREPLY < <(compgen -W 'file hour family' -- "$word"); return ;;
     esac
     case $command in
         connect) options='-4 -6 -z --timeout --set --wait --host --resolver --record --json --explain --verbose -v --help -h' words=HOST ;;
@@ -39,7 +41,7 @@ _he() {
         replay) options='--workers --set --json --verbose -v --help -h' words=FILE ;;
         explain) options='--set --json --verbose -v --help -h' words=FILE ;;
         draw) options='--ascii --width --svg --html --set --verbose -v --help -h' words=FILE ;;
-        summary) options='--json --openmetrics --slowest --keep-going --set --verbose -v --help -h' words=FILE ;;
+        summary) options='--json --openmetrics --slowest --by --keep-going --set --verbose -v --help -h' words=FILE ;;
         compare) options='--json --races --keep-going --set --verbose -v --help -h' words=FILE ;;
         order) options='--json --verbose -v --help -h' words=FILE ;;
         check) options='--all --help -h' words=FILE ;;

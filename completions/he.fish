@@ -69,6 +69,7 @@ complete -c he -n '__fish_seen_subcommand_from summary' -F
 complete -c he -n '__fish_seen_subcommand_from summary' -l json -d 'Write the sums as one JSON object, on one line'
 complete -c he -n '__fish_seen_subcommand_from summary' -l openmetrics -d 'Write the counts and times as OpenMetrics text'
 complete -c he -n '__fish_seen_subcommand_from summary' -l slowest -x -d 'Add the N slowest races that were won, each with its file and line'
+complete -c he -n '__fish_seen_subcommand_from summary' -l by -x -a 'file hour family' -d 'Write a row for each file, hour or family'
 complete -c he -n '__fish_seen_subcommand_from summary' -l keep-going -d 'Go on to the next file after a faulty one'
 complete -c he -n '__fish_seen_subcommand_from summary' -l set -x -a 'attempt= resolution= count= limit= floor=' -d 'Override a setting in every race'
 complete -c he -n '__fish_seen_subcommand_from summary' -s v -l verbose -d 'Explain the fault of a file as `he check` does, and say why a file can'\''t be read or written'

@@ -10,6 +10,7 @@ import sys
 import plain
 import plain_compared
 import plain_drawn
+import plain_groups
 import plain_json
 import plain_story
 import plain_summary
@@ -19,8 +20,10 @@ WRITTEN = {
     "order": plain.ordered, "replay": plain.replayed, "order --json": plain_json.ordered,
     "replay --json": plain_json.replayed, "explain": plain_story.written, "compare": plain_compared.written,
     "draw": plain_drawn.written, "draw --ascii": plain_drawn.written_ascii, "summary": plain_summary.written,
-    "summary --json": plain_summary.written_json, "explain --json": plain_json.explained,
+    "summary --json": plain_summary.written_json, "explain --json": plain_json.explained, **plain_groups.WRITTEN,
 }
+# The words that tell what is written, of a command that has settings too.
+WORDS = ("--json", "--ascii", "--by", *plain_groups.GROUPINGS)
 
 
 class Wanted:
@@ -34,7 +37,7 @@ class Wanted:
     def of(self, words):
         if words == ["check", "--all"]:
             return self.of_check()
-        command = " ".join([words[0], *(word for word in words if word in ("--json", "--ascii"))])
+        command = " ".join([words[0], *(word for word in words if word in WORDS)])
         changes = [word for word in words if "=" in word]
         key = (command, *changes)
         if key not in self.outputs:

@@ -5,6 +5,7 @@ import subprocess
 from dataclasses import dataclass
 
 SETTINGS = ("attempt", "resolution", "count", "limit", "floor")
+GROUPS = "file hour family"
 
 
 @dataclass
@@ -132,6 +133,7 @@ def bash_values(commands):
         "FILE": 'compopt -o filenames; mapfile -t COMPREPLY < <(compgen -f -- "$word"); return',
         "PORT": 'mapfile -t COMPREPLY < <(compgen -A service -- "$word"); return',
         "RESOLVER": 'mapfile -t COMPREPLY < <(compgen -W system -- "$word"); return',
+        "GROUP": f"mapfile -t COMPREPLY < <(compgen -W '{GROUPS}' -- \"$word\"); return",
         "NAME=N": "compopt -o nospace; mapfile -t COMPREPLY < <(compgen -W '"
         + " ".join(f"{name}=" for name in SETTINGS)
         + '\' -- "$word"); return',
@@ -182,6 +184,7 @@ def fish_option(option):
         "": "",
         "FILE": " -r -F",
         "RESOLVER": " -x -a system",
+        "GROUP": f" -x -a '{GROUPS}'",
         "NAME=N": " -x -a '" + " ".join(f"{name}=" for name in SETTINGS) + "'",
     }
     short = f" -s {option.short[1:]}" if option.short else ""
@@ -230,6 +233,7 @@ def zsh_options(command):
             "FILE": ":file:_files",
             "PORT": ":port:_ports",
             "RESOLVER": ":resolver:(system)",
+            "GROUP": f":group:({GROUPS})",
             "NAME=N": ":setting:_he_settings",
         }
         action = values.get(option.kind(), f":{option.value}:")

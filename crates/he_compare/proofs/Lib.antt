@@ -1,0 +1,4 @@
+mod Alike
+mod Forms
+mod Grouped
+mod Tables

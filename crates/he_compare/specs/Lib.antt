@@ -1,3 +1,6 @@
+pub mod Cuts
+pub mod Groups
+pub mod Hours
 pub mod Lines
 pub mod Rows
 pub mod Table

@@ -66,7 +66,7 @@ pub(crate) fn push_row<A: Allocator>(row: Row, text: &mut Vec<Part<Said>, A>) ->
     push_verdicts(row.verdicts, text)
 }
 
-fn push_times<A: Allocator>(
+pub(crate) fn push_times<A: Allocator>(
     times: Option<Spread>,
     text: &mut Vec<Part<Said>, A>,
 ) -> Result<(), Memory>
@@ -86,7 +86,7 @@ fn push_times<A: Allocator>(
 }
 
 // How many attempts a race has, in the mean, to a hundredth.
-fn push_mean<A: Allocator>(
+pub(crate) fn push_mean<A: Allocator>(
     attempts: Option<Spread>,
     text: &mut Vec<Part<Said>, A>,
 ) -> Result<(), Memory>
@@ -116,7 +116,7 @@ fn mean(total: u64, count: u64) -> u64
     rounded.min(u64::MAX as u128) as u64
 }
 
-fn push_share<A: Allocator>(
+pub(crate) fn push_share<A: Allocator>(
     number: u64,
     of: u64,
     text: &mut Vec<Part<Said>, A>,

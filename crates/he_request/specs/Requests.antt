@@ -20,10 +20,12 @@ use Rattle.he_request.specs.declared.refusal.Refusal.{Refusal}
 use Rattle.he_request.specs.declared.refusal.Refusal.TheVariants as refusals
 use Rattle.he_request.specs.declared.request.Request.{Request}
 use Rattle.he_request.specs.declared.request.Request.TheVariants as requests
+use Rattle.he_request.specs.declared.texts.By.{By}
+use Rattle.he_request.specs.declared.texts.By.TheVariants as by
 use Rattle.he_request.specs.declared.texts.Content.{Content}
 use Rattle.he_request.specs.declared.texts.Content.TheVariants as contents
 use Rattle.he_request.specs.declared.texts.Task.{Task}
-use Rattle.he_request.specs.declared.texts.Task.TheVariants.{Write, Compare, Check, Summarize}
+use Rattle.he_request.specs.declared.texts.Task.TheVariants.{Write, Compare, Check, Group, Summarize}
 use Rattle.he_request.specs.declared.texts.Texts.{Texts}
 
 -- the number of workers, where there are any, is in its range
@@ -79,11 +81,21 @@ AsksExplain found task =
     (json : Bool) × HasFlag found (codes "json") json
     × (task ≡ Write (if json then contents.ExplanationJson else contents.Story) 1)
 
+abbrev pub named_by : List ℕ → By
+named_by word =
+    if bytes_eq word (codes "hour") then by.Hour else if bytes_eq word (codes "family") then by.Family else by.File
+
+-- all races in one, with so many of the slowest, or group by group
+abbrev pub IsSummary : {E : Type 0} → (List ℕ → Result ℕ E → Type 0) → Found → Bool → Option (List ℕ) → Task → Type 0
+IsSummary gives found json None task =
+    (metrics : Bool) × (slowest : Option ℕ) × HasFlag found (codes "openmetrics") metrics
+    × HasNumber gives found (codes "slowest") slowest × (task ≡ Summarize json metrics (unwrap_or slowest 0))
+IsSummary gives found json (Some word) task = task ≡ Group json (named_by word)
+
 abbrev pub AsksSummary : {E : Type 0} → (List ℕ → Result ℕ E → Type 0) → Found → Task → Type 0
 AsksSummary gives found task =
-    (json metrics : Bool) × (slowest : Option ℕ) × HasFlag found (codes "json") json
-    × HasFlag found (codes "openmetrics") metrics × HasNumber gives found (codes "slowest") slowest
-    × (task ≡ Summarize json metrics (unwrap_or slowest 0))
+    (json : Bool) × HasFlag found (codes "json") json
+    × IsSummary gives found json (first_value found (codes "by")) task
 
 -- a comparison, as JSON or not, with the races or without, of the files and with the settings of the line
 pub record AsksComparison (found : Found) (texts : Texts) : Type 0 where

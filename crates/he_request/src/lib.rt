@@ -55,4 +55,4 @@ pub use proxy::{Proxy, SessionLog};
 pub use refusal::Refusal;
 pub use request::{Request, read_words, takes_text};
 pub use resolver::Resolver;
-pub use texts::{Content, Task, Texts};
+pub use texts::{By, Content, Task, Texts};

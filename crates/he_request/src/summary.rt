@@ -1,10 +1,11 @@
 //! `he summary`.
+ghost use Rattle.std.specs.Prelude.{◌≡◌};
 ghost use Rattle.clap.specs.Matches.{found_of};
-ghost use Rattle.he_request.specs.Requests.{AsksSummary};
+ghost use Rattle.he_request.specs.Requests.{AsksSummary, named_by};
 
 use crate::arguments::{FILES_HELP, files, flag, flag_of, number_of, plain, value, verbose};
 use crate::settings::set;
-use crate::texts::Task;
+use crate::texts::{By, Task};
 use clap::{ArgMatches, Command, value_parser};
 use std::alloc::{AllocError, Global};
 use std::str::FromStr;
@@ -17,6 +18,13 @@ const METRICS_HELP: &str = "Write the counts and times as OpenMetrics text";
 
 const SLOWEST_HELP: &str = "Add the N slowest races that were won, each with its\nfile and line";
 
+const BY_HELP: &str = "Write a row for each file, hour or family; hours are\n\
+those in the names that `he proxy --record` gives,\n\
+the family is that of the address that won";
+
+// The words for groups.
+const GROUPS: &[&str] = &["file", "hour", "family"];
+
 const KEEP_GOING_HELP: &str = "Go on to the next file after a faulty one";
 
 const EXAMPLE: &str = "\
@@ -27,8 +35,8 @@ failed or were silent, and how much, from the winner's answer to its attempt;
 the attempts; in how many races the Resolution Delay was waited out (RFC 8305
 section 3); and the ten addresses to which most attempts failed or were silent.
 Nothing is written before the end of the last file. In a file with a fault the
-races before it count; standard error says how many files were not read to their
-end.
+races before it count; standard error says how many files were not read to
+their end. With --by there is a table of groups of races, and no addresses.
 
 For the example of `he draw --help` it writes (lines are broken here):
 
@@ -48,6 +56,11 @@ pub(crate) fn command<'a>(alloc: Global) -> Result<Command<'a>, AllocError> {
     let metrics = flag(alloc, "openmetrics", METRICS_HELP)
         .conflicts_with("json")?
         .conflicts_with("slowest")?;
+    let by = value(alloc, "by", "GROUP", BY_HELP)
+        .value_parser(GROUPS)
+        .hide_possible_values(true)
+        .conflicts_with("openmetrics")?
+        .conflicts_with("slowest")?;
     let args = vec![in alloc;
         files(alloc, FILES_HELP),
         flag(alloc, "json", JSON_HELP),
@@ -55,6 +68,7 @@ pub(crate) fn command<'a>(alloc: Global) -> Result<Command<'a>, AllocError> {
         value(alloc, "slowest", "N", SLOWEST_HELP).value_parser(value_parser!(u16).range(
             1..=65_535
         )),
+        by,
         flag(alloc, "keep-going", KEEP_GOING_HELP),
         set(alloc),
         verbose(alloc),
@@ -66,9 +80,29 @@ pub(crate) fn command<'a>(alloc: Global) -> Result<Command<'a>, AllocError> {
 pub(crate) fn task_of(matches: &ArgMatches<'_>) -> Task
     ensures { AsksSummary ⟦<u16 as FromStr>⟧.from_str_gives (found_of matches.now) result }
 {
-    Task::Summarize {
-        is_json: flag_of(matches, "json"),
-        is_metrics: flag_of(matches, "openmetrics"),
-        slowest: number_of(matches, "slowest").unwrap_or(0),
+    let is_json = flag_of(matches, "json");
+    match matches.get_str("by") {
+        Some(word) => Task::Group {
+            is_json,
+            by: named_by(word),
+        },
+        None => Task::Summarize {
+            is_json,
+            is_metrics: flag_of(matches, "openmetrics"),
+            slowest: number_of(matches, "slowest").unwrap_or(0),
+        },
+    }
+}
+
+// The groups that a word names. clap takes these words alone.
+fn named_by(word: &str) -> By
+    ensures { result ≡ named_by word.now }
+{
+    if word == "hour" {
+        By::Hour
+    } else if word == "family" {
+        By::Family
+    } else {
+        By::File
     }
 }

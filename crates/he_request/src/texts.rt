@@ -38,6 +38,19 @@ pub enum Task {
         is_metrics: bool,
         slowest: u16,
     },
+    /// The same in groups: as JSON, or in a table.
+    Group {
+        is_json: bool,
+        by: By,
+    },
+}
+
+/// By what races are put into groups: their files, the hours in the names of these, or the families that won.
+#[derive(Clone, Copy)]
+pub enum By {
+    File,
+    Hour,
+    Family,
 }
 
 /// What is written of a race.

@@ -1,5 +1,5 @@
 -- What is written of the races that are summed.
-use Rattle.std.specs.Prelude.{ℕ, zero, suc, ◌≡◌, ◌++◌, List, [], ◌∷◌, filter, map, take, IsPermutation, Option, Some}
+use Rattle.std.specs.Prelude.{ℕ, zero, suc, ◌≡◌, ◌++◌, List, [], ◌∷◌, codes, filter, map, slice_get, take, IsPermutation, Option, Some}
 use Rattle.std.specs.List.Sorted.{IsSortedByKey}
 use Rattle.std.specs.Option.{unwrap_or}
 use Rattle.std.specs.Ordering.{nat_cmp, ordering_then}
@@ -27,6 +27,10 @@ use Rattle.he_summary.specs.declared.totals.Totals.{Totals}
 -- a text that states these facts, among words, has been appended
 abbrev pub Tells : {S : Type 0} → List (Fact S) → List ℕ → List ℕ → Type 0
 Tells told old new = (text : List ℕ) × States told text × (new ≡ old ++ text)
+
+-- the name of a file by its place; `-` where there is none
+abbrev pub name_at : List (List ℕ) → ℕ → List ℕ
+name_at names place = unwrap_or (slice_get names place) (codes "-")
 
 -- the time to connect, and the race's place
 abbrev pub slow_key : Kept → ℕ × (ℕ × ℕ)

@@ -53,8 +53,12 @@ pub struct Figure {
     pub of: u64,
 }
 
-// Tells what is counted of races.
-pub(crate) fn push_totals<A: Allocator>(
+/// Tells what is counted of races.
+///
+/// # Errors
+///
+/// `Memory` where an allocation was refused.
+pub fn push_totals<A: Allocator>(
     form: Form,
     totals: Totals,
     text: &mut Vec<Part<Said>, A>,
@@ -274,7 +278,8 @@ fn push_sums<A: Allocator>(totals: Totals, text: &mut Vec<Part<Said>, A>) -> Res
     )
 }
 
-fn total_of(spread: Option<Spread>) -> u64
+/// The sum of some numbers; 0 of none.
+pub fn total_of(spread: Option<Spread>) -> u64
     ensures { result ≡ total_of spread }
 {
     match spread {
@@ -349,7 +354,7 @@ fn push_share<A: Allocator>(
     )
 }
 
-// Of a thousand, rounded to the nearest, and at most all of them.
+/// Of a thousand, rounded to the nearest, and at most all of them.
 pub fn share(number: u64, of: u64) -> u64
     requires { 0 < of }
     ensures { result ≡ share number of }

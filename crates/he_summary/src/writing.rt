@@ -1,5 +1,5 @@
 // A summary, written.
-ghost use Rattle.std.specs.Prelude.{◌≡◌, ◌++◌, filter, IfOk, IsPermutation, List, OnOk, map};
+ghost use Rattle.std.specs.Prelude.{◌≡◌, ◌++◌, filter, IfOk, IsPermutation, List, OnOk, map, string_bytes};
 ghost use Rattle.std.specs.List.{flat_map};
 ghost use Rattle.std.specs.List.Sorted.{IsSortedByKey};
 ghost use Rattle.he_print.specs.Parts.{fact_of};
@@ -7,7 +7,7 @@ ghost use Rattle.he_summary.specs.Kept.{Run};
 ghost use Rattle.he_summary.specs.Figures.{summary_facts, tally_facts};
 ghost use Rattle.he_summary.specs.Summed.{HasSummed};
 ghost use Rattle.he_summary.specs.Totals.{is_kind};
-ghost use Rattle.he_summary.specs.Written.{AreSlowest, HasWords, IsWritten, Tells, TellsEach, TellsSlowest, place_facts, slow_facts, slow_key, slowest_first};
+ghost use Rattle.he_summary.specs.Written.{AreSlowest, HasWords, IsWritten, Tells, TellsEach, TellsSlowest, name_at, place_facts, slow_facts, slow_key, slowest_first};
 ghost use Rattle.he_summary.specs.declared.totals.Kind.TheVariants.{Won};
 
 use crate::figures::{Form, Said, push_metrics, push_tally, push_totals};
@@ -166,7 +166,9 @@ fn write_slowest<A: Allocator + Copy>(
 }
 
 /// The name of this place; `-` where there is none.
-pub fn name_of(place: usize, names: &[String]) -> &str {
+pub fn name_of(place: usize, names: &[String]) -> &str
+    ensures { result.now ≡ name_at (map string_bytes names.now) place }
+{
     match names.get(place) {
         Some(name) => name.as_str(),
         None => "-",

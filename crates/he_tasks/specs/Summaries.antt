@@ -3,8 +3,11 @@ use Rattle.std.specs.Prelude.{◌≡◌, ◌≢◌, ◌⊎◌, ℕ, Bool, true, 
 use Rattle.he_timeline.specs.Changes.{ChangeValues}
 use Rattle.he_stream.specs.declared.stream.InputStream as inputs
 use Rattle.he_stream.specs.declared.stream.OutputStream as outputs
+use Rattle.he_compare.specs.Groups.{IsGroupTable}
 use Rattle.he_compare.specs.Lines.{AreLines}
 use Rattle.he_compare.specs.Table.{IsTable}
+use Rattle.he_compare.specs.declared.grouping.By.{By as Dividing}
+use Rattle.he_compare.specs.declared.grouping.By.TheVariants as dividing
 use Rattle.he_summary.specs.Kept.{Run, kept_of}
 use Rattle.he_summary.specs.Summed.{Adds, HasSummed, Sums}
 use Rattle.he_summary.specs.Written.{IsWritten}
@@ -13,8 +16,11 @@ use Rattle.he_summary.specs.declared.figures.Form.TheVariants as forms
 use Rattle.he_summary.specs.declared.kept.Kept.{Kept}
 use Rattle.he_inputs.specs.declared.stream_fault.StreamFault.{StreamFault}
 use Rattle.he_inputs.specs.declared.stream_fault.StreamFault.TheVariants.{Memory}
+use Rattle.he_request.specs.Shown.{shown}
+use Rattle.he_request.specs.declared.texts.By.{By}
+use Rattle.he_request.specs.declared.texts.By.TheVariants as by
 use Rattle.he_request.specs.declared.texts.Task.{Task}
-use Rattle.he_request.specs.declared.texts.Task.TheVariants.{Compare, Summarize, Write}
+use Rattle.he_request.specs.declared.texts.Task.TheVariants.{Compare, Group, Summarize, Write}
 use Rattle.he_request.specs.declared.texts.Content.TheVariants.{Section}
 use Rattle.he_request.specs.declared.texts.Texts.{Texts}
 use Rattle.he_tasks.specs.Pages.{PutsTail}
@@ -25,6 +31,7 @@ use Rattle.he_tasks.specs.declared.reports.TheConstants.{DONE, FAULT}
 abbrev pub keeps : Task → Bool
 keeps (Compare json races) = true
 keeps (Summarize json metrics slowest) = true
+keeps (Group json by) = true
 keeps (Write Section workers) = true
 keeps _ = false
 
@@ -32,6 +39,7 @@ keeps _ = false
 abbrev pub rows_by : Task → Texts → List ChangeValues
 rows_by (Compare json races) texts = texts.rows.items
 rows_by (Summarize json metrics slowest) texts = texts.changes ∷ []
+rows_by (Group json by) texts = texts.changes ∷ []
 rows_by (Write Section workers) texts = texts.changes ∷ []
 rows_by _ texts = []
 
@@ -60,19 +68,31 @@ abbrev pub IsCompared : Bool → Form → List Kept → ℕ → List ℕ → Lis
 IsCompared races form kept rows old new =
     (between : List ℕ) × AreLinesOf races form kept old between × IsTable form kept 0 rows between new
 
--- a summary of these races, or a comparison of so many rows
-abbrev pub IsTold : Task → List Run → ℕ → List ℕ → List ℕ → Type 0
-IsTold (Summarize json metrics slowest) runs rows old new = IsWritten (form_of json metrics) runs slowest old new
-IsTold (Compare json races) runs rows old new =
-    IsCompared races (form_of json false) (map kept_of runs) rows old new
-IsTold _ runs rows old new = Unit {0}
+-- the names of the files of a line, as they may be shown
+abbrev pub shown_names : Texts → List (List ℕ)
+shown_names texts = map (λ file. shown file.now) texts.files.items
+
+-- by what the races are divided
+abbrev pub by_of : By → Dividing
+by_of by.File = dividing.File
+by_of by.Hour = dividing.Hour
+by_of by.Family = dividing.Family
+
+-- a summary of these races, of all or group by group, or a comparison
+abbrev pub IsTold : Task → Texts → List Run → List ℕ → List ℕ → Type 0
+IsTold (Summarize json metrics slowest) texts runs old new = IsWritten (form_of json metrics) runs slowest old new
+IsTold (Group json by) texts runs old new =
+    IsGroupTable (form_of json false) (record { by = by_of by; names = shown_names texts }) (map kept_of runs) old new
+IsTold (Compare json races) texts runs old new =
+    IsCompared races (form_of json false) (map kept_of runs) (length texts.labels.items) old new
+IsTold _ texts runs old new = Unit {0}
 
 -- that, or a first part of it, was put into the output; or there was no memory for it
 abbrev pub PutsSums : {O : Type 0} → outputs.Ghosts O → Texts → Sums → O → O → ℕ → Type 0
 PutsSums output texts sums before after status =
     ((status ≡ FAULT) × (after ≡ before))
     ⊎ ((text : List ℕ)
-    × ((runs : List Run) → HasSummed sums runs → IsTold texts.task runs (length texts.labels.items) [] text)
+    × ((runs : List Run) → HasSummed sums runs → IsTold texts.task texts runs [] text)
     × PutsText output text before after status)
 
 -- what ends the output of a task: what is told of these sums, where it sums up; nothing, where there are none for want
@@ -80,12 +100,14 @@ PutsSums output texts sums before after status =
 abbrev pub EndsTask : {O : Type 0} → outputs.Ghosts O → Texts → Task → Option Sums → O → O → ℕ → Type 0
 EndsTask output texts (Summarize json metrics slowest) (Some sums) before after status =
     PutsSums output texts sums before after status
+EndsTask output texts (Group json by) (Some sums) before after status = PutsSums output texts sums before after status
 EndsTask output texts (Compare json races) (Some sums) before after status =
     PutsSums output texts sums before after status
 EndsTask output texts (Write Section workers) (Some sums) before after status =
     PutsTail output sums before after status
 EndsTask output texts (Write Section workers) None before after status = (after ≡ before) × (status ≡ FAULT)
 EndsTask output texts (Summarize json metrics slowest) None before after status = (after ≡ before) × (status ≡ FAULT)
+EndsTask output texts (Group json by) None before after status = (after ≡ before) × (status ≡ FAULT)
 EndsTask output texts (Compare json races) None before after status = (after ≡ before) × (status ≡ FAULT)
 EndsTask output texts task sums before after status = (after ≡ before) × (status ≡ DONE)
 

@@ -17,7 +17,7 @@ use Rattle.he_request.specs.Shown.{shown}
 use Rattle.he_request.specs.declared.texts.Content.TheVariants as asked
 use Rattle.he_request.specs.declared.texts.Content.{Content as Asked}
 use Rattle.he_request.specs.declared.texts.Task.{Task}
-use Rattle.he_request.specs.declared.texts.Task.TheVariants.{Write, Compare, Check, Summarize}
+use Rattle.he_request.specs.declared.texts.Task.TheVariants.{Write, Compare, Check, Group, Summarize}
 use Rattle.he_request.specs.declared.texts.Texts.{Texts}
 use Rattle.he_tasks.specs.Pages.{PutsSections}
 use Rattle.he_tasks.specs.Status.{first_fault, status_of}
@@ -68,6 +68,8 @@ RunsTask input output (Check is_all) changes file first last before after =
     Checks (Gave input first last) (GaveSoFar input first last) (TookAll output before.0 after.0)
     (TookPart output before.0 after.0) (after.0 ≡ before.0)
 RunsTask input output (Summarize json metrics slowest) changes file first last before after =
+    λ result. (after.0 ≡ before.0) × AddsSums input first last before.1 after.1 result
+RunsTask input output (Group json by) changes file first last before after =
     λ result. (after.0 ≡ before.0) × AddsSums input first last before.1 after.1 result
 
 -- a line as head(1) and tail(1) write it above each of several files

@@ -74,11 +74,11 @@ fn run_files<R: TaskSystem, I: InputStream, O: OutputStream, F: Write>(
 // Says how many files are not in a summary or a comparison, or only in part.
 fn tell_unread<F: Write>(task: Task, unread: usize, faults: &mut F) {
     let _ = match (task, unread) {
-        (Task::Compare { .. } | Task::Summarize { .. }, 1) => writeln!(
+        (Task::Compare { .. } | Task::Summarize { .. } | Task::Group { .. }, 1) => writeln!(
             faults,
             "he: 1 file not read to its end"
         ),
-        (Task::Compare { .. } | Task::Summarize { .. }, 2..) => writeln!(
+        (Task::Compare { .. } | Task::Summarize { .. } | Task::Group { .. }, 2..) => writeln!(
             faults,
             "he: {unread} files not read to their end"
         ),

@@ -1,17 +1,17 @@
 //! One summary, or one comparison, of the races of all texts.
-ghost use Rattle.std.specs.Prelude.{◌≡◌, length, List, OnOk};
+ghost use Rattle.std.specs.Prelude.{◌≡◌, IfOk, List, map, OnOk, string_bytes};
 ghost use Rattle.he_summary.specs.Kept.{Run};
 ghost use Rattle.he_summary.specs.Summed.{HasSummed};
-ghost use Rattle.he_tasks.specs.Summaries.{AreLinesOf, EndsTexts, IsTold, PutsSums, form_of};
+ghost use Rattle.he_tasks.specs.Summaries.{AreLinesOf, EndsTexts, IsTold, PutsSums, by_of, form_of, shown_names};
 
 use crate::page::put_tail;
 use crate::reports::{DONE, FAULT, report};
 use crate::session::{Session, put_all};
 use he_addr::Memory;
-use he_compare::{write_lines, write_table};
+use he_compare::{Grouping, write_groups, write_lines, write_table};
 use he_inputs::StreamFault;
 use he_request::shown::shown;
-use he_request::{Content, Task, Texts};
+use he_request::{By, Content, Task, Texts};
 use he_stream::OutputStream;
 use he_summary::{Form, Kept, Races};
 use std::alloc::{AllocError, Global};
@@ -26,9 +26,8 @@ pub(crate) fn end_texts<R, O: OutputStream, F: Write>(
     ensures { EndsTexts O.OutputStream texts.now sums session.old.output session.new.output result }
 {
     match (texts.task, sums) {
-        (Task::Compare { .. } | Task::Summarize { .. }, Some(races)) => put_sums(
-            session, texts, &races,
-        ),
+        (Task::Compare { .. } | Task::Summarize { .. } | Task::Group { .. }, Some(races)) =>
+            put_sums(session, texts, &races),
         (
             Task::Write {
                 content: Content::Section,
@@ -39,6 +38,7 @@ pub(crate) fn end_texts<R, O: OutputStream, F: Write>(
         (
             Task::Compare { .. }
             | Task::Summarize { .. }
+            | Task::Group { .. }
             | Task::Write {
                 content: Content::Section,
                 ..
@@ -72,7 +72,7 @@ fn tell(
     text: &mut Vec<u8>,
 ) -> Result<(), Memory>
     ensures { (runs : List Run) → HasSummed races.now runs
-        → OnOk result (IsTold texts.now.task runs (length texts.now.labels.items) text.old.items text.new.items) }
+        → OnOk result (IsTold texts.now.task texts.now runs text.old.items text.new.items) }
 {
     let names = shown_names(alloc, texts)?;
     match texts.task {
@@ -83,6 +83,13 @@ fn tell(
         } => {
             let form = form_of(is_json, is_metrics);
             races.write(form, slowest as usize, names.as_slice(), text)
+        }
+        Task::Group { is_json, by } => {
+            let grouping = Grouping {
+                by: by_of(by),
+                names: names.as_slice(),
+            };
+            write_groups(alloc, form_of(is_json, false), grouping, races.kept(), text)
         }
         Task::Compare {
             is_json,
@@ -126,7 +133,20 @@ fn form_of(is_json: bool, is_metrics: bool) -> Form
     }
 }
 
-fn shown_names(alloc: Global, texts: &Texts<'_>) -> Result<Vec<String>, AllocError> {
+fn by_of(by: By) -> he_compare::By
+    ensures { result ≡ by_of by }
+{
+    match by {
+        By::File => he_compare::By::File,
+        By::Hour => he_compare::By::Hour,
+        By::Family => he_compare::By::Family,
+    }
+}
+
+// The names of the files, as they may be shown.
+fn shown_names(alloc: Global, texts: &Texts<'_>) -> Result<Vec<String>, AllocError>
+    ensures { IfOk result (λ names. map string_bytes names.items ≡ shown_names texts.now) }
+{
     let mut names = Vec::new(alloc);
     for name in &texts.files {
         names.push(shown(alloc, name)?)?;

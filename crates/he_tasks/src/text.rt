@@ -151,7 +151,9 @@ fn run_task<R: TaskSystem, I: InputStream, O: OutputStream, F>(
             replay(session.system, alloc, &asked, workers, input, output)
         }
         Task::Check { is_all } => check(alloc, is_all, input, &mut session.output, told),
-        Task::Compare { .. } | Task::Summarize { .. } => add_text(session.place, input, sums),
+        Task::Compare { .. } | Task::Summarize { .. } | Task::Group { .. } => {
+            add_text(session.place, input, sums)
+        }
     }
 }
 

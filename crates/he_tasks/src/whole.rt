@@ -132,6 +132,7 @@ fn rows_of(alloc: Global, texts: &Texts<'_>) -> Result<Vec<Changes>, AllocError>
     match texts.task {
         Task::Compare { .. } => rows.extend_from_slice(texts.rows.as_slice())?,
         Task::Summarize { .. }
+        | Task::Group { .. }
         | Task::Write {
             content: Content::Section,
             ..

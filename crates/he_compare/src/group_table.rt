@@ -1,0 +1,123 @@
+//! The table of groups of races.
+ghost use Rattle.std.specs.Prelude.{ℕ, ◌≡◌, ◌++◌, List, OnOk};
+ghost use Rattle.std.specs.List.{flat_map};
+ghost use Rattle.he_print.specs.Parts.{fact_of};
+ghost use Rattle.he_compare.specs.Groups.{IsGroupTable, IsGroupText, cell_facts, division_of, label_of, lost};
+ghost use Rattle.he_summary.specs.declared.figures.Form.TheVariants as forms;
+
+use crate::grouping::{By, Grouping, label_of};
+use crate::groups::{Group, groups_of};
+use crate::row::{Said, push_mean, push_share, push_times};
+use he_addr::Memory;
+use he_print::{Part, push_parts, write_parts, write_string};
+use he_summary::figures::{push_totals, total_of};
+use he_summary::{Form, Kept, Totals};
+use std::alloc::Allocator;
+
+/// Appends a table of the groups of these races: a row for each group that has a race, in order. As JSON it is an
+/// object for each, on a line.
+///
+/// # Errors
+///
+/// `Memory` where an allocation was refused. A first part of the table may then have been appended.
+pub fn write_groups<A: Allocator + Copy>(
+    alloc: A,
+    form: Form,
+    grouping: Grouping<'_>,
+    kept: &[Kept],
+    text: &mut Vec<u8, A>,
+) -> Result<(), Memory>
+    ensures { OnOk result (IsGroupTable form (division_of grouping.entry) kept.now text.old.items text.new.items) }
+{
+    let groups = groups_of(alloc, grouping, kept)?;
+    text.extend_from_slice(heading(form, grouping.by))?;
+    for group in &groups {
+        write_group(alloc, form, grouping, *group, text)?;
+    }
+    Ok(())
+}
+
+fn heading(form: Form, by: By) -> &'static [u8] {
+    match (form, by) {
+        (Form::Json | Form::Metrics, _) => b"",
+        (Form::Text, By::File) =>
+            b"  races     won    p50    p90    p99  attempts    IPv6   lost ms  file\n",
+        (Form::Text, By::Hour) =>
+            b"  races     won    p50    p90    p99  attempts    IPv6   lost ms  hour\n",
+        (Form::Text, By::Family) =>
+            b"  races     won    p50    p90    p99  attempts    IPv6   lost ms  family\n",
+    }
+}
+
+fn write_group<A: Allocator + Copy>(
+    alloc: A,
+    form: Form,
+    grouping: Grouping<'_>,
+    group: Group,
+    text: &mut Vec<u8, A>,
+) -> Result<(), Memory>
+    ensures { OnOk result ((told : List ℕ) × IsGroupText form group.totals (label_of (division_of grouping.entry) group.key) told
+        × (text.new.items ≡ text.old.items ++ told)) }
+{
+    let label = label_of(alloc, grouping, group.key)?;
+    match form {
+        Form::Text => write_line(alloc, group.totals, label.as_slice(), text),
+        Form::Json | Form::Metrics => write_object(alloc, group.totals, label.as_slice(), text),
+    }
+}
+
+fn write_line<A: Allocator + Copy>(
+    alloc: A,
+    totals: Totals,
+    label: &[u8],
+    text: &mut Vec<u8, A>,
+) -> Result<(), Memory>
+    ensures { OnOk result ((told : List ℕ) × IsGroupText forms.Text totals label.now told
+        × (text.new.items ≡ text.old.items ++ told)) }
+{
+    let mut cells = Vec::new(alloc);
+    push_cells(totals, &mut cells)?;
+    write_parts(cells.as_slice(), text)?;
+    text.extend_from_slice(b"  ")?;
+    text.extend_from_slice(label)?;
+    text.extend_from_slice(b"\n")?;
+    Ok(())
+}
+
+fn write_object<A: Allocator + Copy>(
+    alloc: A,
+    totals: Totals,
+    label: &[u8],
+    text: &mut Vec<u8, A>,
+) -> Result<(), Memory>
+    ensures { OnOk result ((told : List ℕ) × IsGroupText forms.Json totals label.now told
+        × (text.new.items ≡ text.old.items ++ told)) }
+{
+    let mut parts = Vec::new(alloc);
+    push_totals(Form::Json, totals, &mut parts)?;
+    write_parts(parts.as_slice(), text)?;
+    text.extend_from_slice(b",\"group\":")?;
+    write_string(label, text)?;
+    text.extend_from_slice(b"}\n")?;
+    Ok(())
+}
+
+// The cells of a group.
+fn push_cells<A: Allocator>(totals: Totals, cells: &mut Vec<Part<Said>, A>) -> Result<(), Memory>
+    ensures { OnOk result (flat_map fact_of cells.new.items ≡ flat_map fact_of cells.old.items ++ cell_facts totals) }
+{
+    let counts = totals.counts;
+    push_parts(&[Part::Aligned(7, counts.races)], cells)?;
+    push_share(counts.won, counts.races, cells)?;
+    push_times(totals.times, cells)?;
+    push_mean(totals.attempts, cells)?;
+    push_share(counts.by_v6, counts.won, cells)?;
+    push_parts(&[Part::Aligned(10, lost(totals))], cells)
+}
+
+// What was lost to dead addresses, in milliseconds.
+fn lost(totals: Totals) -> u64
+    ensures { result ≡ lost totals }
+{
+    total_of(totals.lost_to_failed).saturating_add(total_of(totals.lost_to_silent))
+}

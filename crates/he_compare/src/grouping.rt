@@ -1,0 +1,90 @@
+//! By what races are put into groups, and what each group is called.
+ghost use Rattle.std.specs.Prelude.{◌≡◌, map, string_bytes, IfOk};
+ghost use Rattle.he_compare.specs.Groups.{division_of, family_key, family_text, hour_key, key_of, label_of};
+
+use crate::hours::{hour_of, push_hour};
+use he_addr::{Family, Memory};
+use he_summary::totals::{Kind, is_kind};
+use he_summary::{Kept, name_of};
+use std::alloc::Allocator;
+
+/// The number of the races whose file's name has no hour: it comes after those of all hours.
+pub const NO_HOUR: u64 = 10_000_000_000;
+
+/// That of the races that neither IPv6 nor IPv4 won.
+pub const NO_FAMILY: u64 = 2;
+
+/// By what races are put into groups.
+#[derive(Clone, Copy, Debug, PartialEq, Eq)]
+pub enum By {
+    /// By their files, in the order in which these were read.
+    File,
+    /// By the day and the hour in the names of their files, where these are named as the records of a proxy are.
+    Hour,
+    /// By the family of the address that won: IPv6, IPv4, and those that none won.
+    Family,
+}
+
+/// Groups of races, whose files have these names by their places, as they may be shown.
+#[derive(Clone, Copy)]
+pub struct Grouping<'n> {
+    pub by: By,
+    pub names: &'n [String],
+}
+
+// The number of a race's group.
+pub(crate) fn key_of(grouping: Grouping<'_>, race: &Kept) -> u64
+    ensures { result ≡ key_of (division_of grouping.entry) race.now }
+{
+    match grouping.by {
+        By::File => race.place.file as u64,
+        By::Hour => hour_key(name_of(race.place.file, grouping.names)),
+        By::Family => family_key(race),
+    }
+}
+
+fn hour_key(name: &str) -> u64
+    ensures { result ≡ hour_key name.now }
+{
+    hour_of(name).unwrap_or(NO_HOUR)
+}
+
+fn family_key(race: &Kept) -> u64
+    ensures { result ≡ family_key race.now }
+{
+    if is_kind(Kind::WonBy(Family::V6), race) {
+        0
+    } else if is_kind(Kind::WonBy(Family::V4), race) {
+        1
+    } else {
+        NO_FAMILY
+    }
+}
+
+// What the group of this number is called.
+pub(crate) fn label_of<A: Allocator>(
+    alloc: A,
+    grouping: Grouping<'_>,
+    key: u64,
+) -> Result<Vec<u8, A>, Memory>
+    ensures { IfOk result (λ label. label.items ≡ label_of (division_of grouping.entry) key) }
+{
+    let mut label = Vec::new(alloc);
+    match grouping.by {
+        By::File => label.extend_from_slice(name_of(key as usize, grouping.names).as_bytes())?,
+        By::Hour if key == NO_HOUR => label.extend_from_slice(b"other")?,
+        By::Hour => push_hour(key, &mut label)?,
+        By::Family => label.extend_from_slice(family_text(key))?,
+    }
+    Ok(label)
+}
+
+fn family_text(key: u64) -> &'static [u8]
+    ensures { result.now ≡ family_text key }
+{
+    match key {
+        0 => b"IPv6",
+        1 => b"IPv4",
+        _ => b"none",
+    }
+}

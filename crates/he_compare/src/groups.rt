@@ -1,0 +1,72 @@
+//! The groups of races.
+ghost use Rattle.std.specs.Prelude.{◌≡◌, ◌≤◌, length, IfOk, IsPermutation};
+ghost use Rattle.std.specs.List.Sorted.{IsNonDecreasingBy};
+ghost use Rattle.he_compare.specs.Groups.{AreGroups, division_of, key_of};
+ghost use Rattle.he_compare.specs.Cuts.{AreCut, run_length};
+
+use crate::grouping::{Grouping, key_of};
+use he_addr::Memory;
+use he_summary::{Kept, Totals};
+use std::alloc::Allocator;
+
+/// A group of races: its number, and what is counted of its races.
+#[derive(Clone, Copy, Debug, PartialEq, Eq)]
+pub struct Group {
+    pub key: u64,
+    pub totals: Totals,
+}
+
+// The groups of these races, in order.
+pub(crate) fn groups_of<A: Allocator + Copy>(
+    alloc: A,
+    grouping: Grouping<'_>,
+    kept: &[Kept],
+) -> Result<Vec<Group, A>, Memory>
+    ensures { IfOk result (λ groups. AreGroups (division_of grouping.entry) kept.now groups.items) }
+{
+    let mut sorted = Vec::from_slice(alloc, kept)?;
+    sort_by_key(grouping, &mut sorted);
+    cut(alloc, grouping, sorted.as_slice())
+}
+
+fn sort_by_key<A: Allocator>(grouping: Grouping<'_>, kept: &mut Vec<Kept, A>)
+    ensures permutation { IsPermutation kept.old.items kept.new.items }
+    ensures sorted { IsNonDecreasingBy (key_of (division_of grouping.entry)) kept.new.items }
+{
+    kept.sort_unstable_by_key(|race| key_of(grouping, race));
+}
+
+// Cuts races that stand in the order of their groups into these.
+fn cut<A: Allocator + Copy>(
+    alloc: A,
+    grouping: Grouping<'_>,
+    sorted: &[Kept],
+) -> Result<Vec<Group, A>, Memory>
+    requires { IsNonDecreasingBy (key_of (division_of grouping)) sorted.now }
+    ensures { IfOk result (λ groups. AreCut (division_of grouping.entry) sorted.now groups.items) }
+{
+    let mut groups = Vec::new(alloc);
+    let mut rest = sorted;
+    while let Some(first) = rest.first() {
+        let key = key_of(grouping, first);
+        let (own, later) = rest.split_at(run_length(grouping, key, rest));
+        groups.push(Group {
+            key,
+            totals: Totals::of(alloc, own)?,
+        })?;
+        rest = later;
+    }
+    Ok(groups)
+}
+
+// How many of the first of these races are of this group.
+fn run_length(grouping: Grouping<'_>, key: u64, races: &[Kept]) -> usize
+    ensures is { result ≡ run_length (division_of grouping.entry) key races.now }
+    ensures most { result ≤ length races.now }
+{
+    let mut count = 0;
+    while count < races.len() && key_of(grouping, &races[count]) == key {
+        count += 1;
+    }
+    count
+}
