@@ -12,29 +12,38 @@ _he() {
     [ "$word" = = ] && word=
     [ "$before" = = ] && before=${COMP_WORDS[COMP_CWORD - 2]}
     if [ "$COMP_CWORD" -eq 1 ]; then
-        mapfile -t COMPREPLY < <(compgen -W 'connect names host live replay explain draw summary compare order check help --help -h --version -V' -- "$word")
+        mapfile -t COMPREPLY < <(compgen -W 'connect proxy names host live replay explain draw summary compare order check help --help -h --version -V' -- "$word")
         return
     fi
     case "$command $before" in
-        "connect --timeout" | "connect --wait" | "live --timeout")
+        "connect --timeout" | "connect --wait" | "proxy --timeout" | "live --timeout")
             return ;;
-        "connect --set" | "live --set" | "replay --set" | "explain --set" | "draw --set" | "summary --set" | "compare --set")
+        "connect --set" | "proxy --set" | "live --set" | "replay --set" | "explain --set" | "draw --set" | "summary --set" | "compare --set")
             compopt -o nospace; mapfile -t COMPREPLY < <(compgen -W 'attempt= resolution= count= limit= floor=' -- "$word"); return ;;
-        "connect --host" | "connect --record" | "live --record" | "draw --html")
+        "connect --host" | "connect --record" | "proxy --host" | "live --record" | "draw --html")
             compopt -o filenames; mapfile -t COMPREPLY < <(compgen -f -- "$word"); return ;;
-        "connect --resolver" | "names --resolver")
+        "connect --resolver" | "proxy --resolver" | "names --resolver")
             mapfile -t COMPREPLY < <(compgen -W system -- "$word"); return ;;
+        "proxy --listen")
+            return ;;
+        "proxy --allow")
+            return ;;
+        "proxy --record")
+            return ;;
+        "proxy --record-most" | "proxy --most" | "replay --workers" | "draw --width" | "summary --slowest")
+            return ;;
+        "proxy --idle")
+            return ;;
         "host --for")
             return ;;
         "live --port")
             mapfile -t COMPREPLY < <(compgen -A service -- "$word"); return ;;
-        "replay --workers" | "draw --width" | "summary --slowest")
-            return ;;
         "summary --by")
             mapfile -t COMPREPLY < <(compgen -W 'file hour family' -- "$word"); return ;;
     esac
     case $command in
         connect) options='-4 -6 -z --timeout --set --wait --host --resolver --record --json --explain --verbose -v --help -h' words=HOST ;;
+        proxy) options='--listen --allow --allow-private -4 -6 --timeout --set --host --resolver --record --record-most --most --idle --quiet -q --log-json --help -h' words= ;;
         names) options='--resolver --json --verbose -v --help -h' words=HOST ;;
         host) options='--for --json --help -h' words= ;;
         live) options='--port --timeout --set --record --must-connect --verbose -v --help -h' words=FILE ;;
@@ -53,7 +62,7 @@ _he() {
             case $words in
                 FILE) compopt -o filenames; mapfile -t COMPREPLY < <(compgen -f -- "$word") ;;
                 HOST) mapfile -t COMPREPLY < <(_he_hosts "$word" | sort -u) ;;
-                COMMAND) mapfile -t COMPREPLY < <(compgen -W 'connect names host live replay explain draw summary compare order check help' -- "$word") ;;
+                COMMAND) mapfile -t COMPREPLY < <(compgen -W 'connect proxy names host live replay explain draw summary compare order check help' -- "$word") ;;
             esac ;;
     esac
 }
