@@ -23,10 +23,22 @@ pub(crate) fn run_proxy<R: System, O: OutputStream, F: Write>(
     ensures status { result ≡ status_of_proxy proxy.now }
     ensures output { session.new.output ≡ session.old.output }
 {
-    if let Resolver::System = proxy.resolver {
-        let _ = session.faults.write_all(NOT_SYSTEM);
-        return USAGE;
+    match proxy.resolver {
+        Resolver::System => {
+            let _ = session.faults.write_all(NOT_SYSTEM);
+            USAGE
+        }
+        Resolver::Configured | Resolver::Server(_) => serve_clients(session, proxy),
     }
+}
+
+fn serve_clients<R: System, O: OutputStream, F: Write>(
+    session: &mut Session<'_, '_, R, O, F>,
+    proxy: &Proxy<'_>,
+) -> u8
+    ensures status { result ≡ FAULT }
+    ensures output { session.new.output ≡ session.old.output }
+{
     let request = request_of(proxy);
     match serve(session.system, session.alloc, &request, &mut session.faults) {
         Ok(()) => FAULT,
