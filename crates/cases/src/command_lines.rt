@@ -4,6 +4,7 @@ use crate::check_rows::CHECK_ROWS;
 use crate::command_rows::{Row, Streams};
 use crate::example::Counts;
 use crate::glance_rows::GLANCE_ROWS;
+use crate::group_rows::GROUP_ROWS;
 use crate::host_rows::HOST_ROWS;
 use crate::refused_rows::REFUSED_ROWS;
 use crate::telling_rows::TELLING_ROWS;
@@ -73,6 +74,7 @@ where
     run_rows(rt, system, "telling", &TELLING_ROWS, &mut counts)?;
     run_rows(rt, system, "check", &CHECK_ROWS, &mut counts)?;
     run_rows(rt, system, "glance", &GLANCE_ROWS, &mut counts)?;
+    run_rows(rt, system, "group", &GROUP_ROWS, &mut counts)?;
     run_rows(rt, system, "host", &HOST_ROWS, &mut counts)?;
     run_rows(rt, system, "refused", &REFUSED_ROWS, &mut counts)?;
     Ok(counts)

@@ -19,6 +19,7 @@ mod command_lines;
 mod command_rows;
 mod example;
 mod glance_rows;
+mod group_rows;
 mod host_rows;
 mod refused_rows;
 mod resolving;
