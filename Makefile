@@ -16,7 +16,7 @@ make race                  replays an example race, with the program unproved: t
 make race RACE='FILE ..'   replays the races of files the same way, with one build for all; a program that was built
                            and proved is taken as it is
 make test                  the gate (proves every crate, tries the wrong edits, runs the tests), and then tries the
-                           built program as a whole: all of examples to fuzz below, in three minutes
+                           built program as a whole: all of examples to fuzz below, in some ten minutes
 make edits                 tries the wrong edits that the gate leaves out: each must be refused
 make build                 proves and builds the program, and tells of each crate when it is proved
 make install PREFIX=DIR    puts the program at DIR/bin/he, its manual page, completions and licence below
