@@ -10,7 +10,11 @@
 #![tactic(auto)]
 
 pub mod cache;
+pub mod history;
+pub mod history_text;
 #[cfg(test)]
 mod tests;
 
 pub use cache::AnswerCache;
+pub use history::{History, Seen};
+pub use history_text::{ReadHistory, read_history, write_history};

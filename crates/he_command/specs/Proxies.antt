@@ -37,6 +37,7 @@ pub record IsServed (proxy : Proxy) (request : ProxyRequest) : Type 0 where
   pub resolver : request.resolver ≡ choice_of proxy.resolver
   pub records : request.record ≡ proxy.record
   pub record_most : request.record_most ≡ unwrap_or proxy.record_most DEFAULT_RECORDS
+  pub history : request.history ≡ proxy.history
   pub log : request.log ≡ log_of proxy.log
   pub most : request.most ≡ unwrap_or proxy.most DEFAULT_SESSIONS
   pub idle : request.idle ≡ proxy.idle

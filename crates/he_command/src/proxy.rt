@@ -42,24 +42,28 @@ fn serve_clients<R: System, O: OutputStream, F: Write>(
     let request = request_of(proxy);
     match serve(session.system, session.alloc, &request, &mut session.faults) {
         Ok(()) => FAULT,
-        Err(fault) => report_fault(session, fault, proxy.record),
+        Err(fault) => report_fault(session, fault, proxy),
     }
 }
 
-// Says why it does not serve; a fault of the records has the name of their directory.
+// Says why it does not serve; a fault of the records has the name of their directory, and one of what is known of
+// addresses that of its file.
 fn report_fault<R, O: OutputStream, F: Write>(
     session: &mut Session<'_, '_, R, O, F>,
     fault: ProxyFault,
-    record: Option<&str>,
+    proxy: &Proxy<'_>,
 ) -> u8
     ensures status { result ≡ FAULT }
     ensures output { session.new.output ≡ session.old.output }
 {
-    match (fault, record) {
-        (ProxyFault::Record(_), Some(path)) => {
-            report_path(session.alloc, path, fault, &mut session.faults)
-        }
-        _ => report(fault, &mut session.faults),
+    let path = match fault {
+        ProxyFault::Record(_) => proxy.record,
+        ProxyFault::History(_) => proxy.history,
+        _ => None,
+    };
+    match path {
+        Some(path) => report_path(session.alloc, path, fault, &mut session.faults),
+        None => report(fault, &mut session.faults),
     }
 }
 
@@ -77,6 +81,7 @@ fn request_of<'a>(proxy: &'a Proxy<'_>) -> ProxyRequest<'a>
         resolver: choice_of(proxy.resolver),
         record: proxy.record,
         record_most: proxy.record_most.unwrap_or(DEFAULT_RECORDS),
+        history: proxy.history,
         log: log_of(proxy.log),
         most: proxy.most.unwrap_or(DEFAULT_SESSIONS),
         idle: proxy.idle,

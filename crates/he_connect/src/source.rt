@@ -152,8 +152,8 @@ where
         self.lookup.ttl(family)
     }
 
-    // What the race is told of the family: its addresses, or nothing, and why is noted.
-    fn answer_of(&self, family: Family, told: Result<Vec<Ip>, NamesFault>) -> Answer
+    /// What the race is told of the family: these addresses with their lines, or nothing, and why is noted.
+    pub fn answer_of(&self, family: Family, told: Result<Vec<Ip>, NamesFault>) -> Answer
         ensures { IsToldOf (is_some self.now.machine) told (lists_of result) }
     {
         match self.find_answer(family, told) {

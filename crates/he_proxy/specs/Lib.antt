@@ -3,3 +3,4 @@ pub mod Dials
 pub mod Kept
 pub mod Races
 pub mod Sockets
+pub mod Sources

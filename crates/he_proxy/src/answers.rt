@@ -1,24 +1,15 @@
-//! The answers of name servers, kept for later races to the same host.
-ghost use Rattle.std.specs.Prelude.{◌≡◌, ◌++◌, IfOk, IfSome, Some, map};
-ghost use Rattle.futures.specs.Poll.{IfReady, OnPending};
-ghost use Rattle.futures.specs.Task.{Covers, Keeps};
+//! The answers of name servers, kept for other races to the same host, and for which hosts they are being asked.
+ghost use Rattle.std.specs.Prelude.{◌≡◌, ◌++◌, IfOk, IfSome, Some};
 ghost use Rattle.he_proxy.specs.Kept.{AreKept, kept_part};
 
-use futures::task::{Context, Poll};
 use he_addr::{Family, Ip, Memory};
 use he_cache::AnswerCache;
-use he_connect::{HostAnswers, LookupFaults};
-use he_live::Quiet;
-use he_race::{Answer, AnswerSource};
-use he_resolver::NamesFault;
-use he_select::Known;
-use std::alloc::{AllocError, AllocGlobal, Global};
+use std::alloc::{AllocError, Global};
 use std::cell::Cell;
 use std::io;
-use std::net::Net;
-use std::random::RandomSource;
-use std::rt::Files;
+use std::mem::drop;
 use std::time::{Clock, Instant};
+use tokio::sync::Notify;
 
 /// The addresses that name servers told, each answer kept for its time.
 #[derive(Drop)]
@@ -27,6 +18,37 @@ pub struct KeptAnswers {
     // From when on seconds are counted.
     start: Instant,
     cache: Cell<Option<AnswerCache<Vec<Ip>>>>,
+    // What races are asking for now.
+    asked: Cell<Option<Vec<Question>>>,
+    /// Fires where one of them has its answer, or goes away.
+    pub answered: Notify,
+}
+
+// A family of a host.
+#[derive(Drop)]
+struct Question {
+    host: String,
+    family: Family,
+}
+
+impl Question {
+    fn is_of(&self, host: &str, family: Family) -> bool {
+        self.family == family && self.host.eq_ignore_ascii_case(host)
+    }
+}
+
+/// That a race asks name servers for a family of a host, until this is dropped.
+pub struct Asking<'h> {
+    kept: &'h KeptAnswers,
+    question: Question,
+}
+
+impl Drop for Asking<'_> {
+    fn drop(self) {
+        let Self { kept, question } = self;
+        kept.remove(&question);
+        drop(question);
+    }
 }
 
 impl KeptAnswers {
@@ -44,6 +66,8 @@ impl KeptAnswers {
             alloc,
             start: Instant::now(rt)?,
             cache: Cell::new(Some(cache)),
+            asked: Cell::new(Some(Vec::new(alloc))),
+            answered: Notify::new(alloc)?,
         })
     }
 
@@ -66,8 +90,20 @@ impl KeptAnswers {
         }
     }
 
-    // Keeps what was told of a family of the host; where memory is refused it is not kept.
-    fn keep<R: Clock>(&self, rt: &R, host: &str, family: Family, ips: Vec<Ip>, ttl: Option<u32>) {
+    /// The addresses of the family that are kept of the host, of which there may be none.
+    pub fn known_of<R: Clock>(&self, rt: &R, host: &str, family: Family) -> Option<Vec<Ip>> {
+        self.known(rt, host, Some(family))
+    }
+
+    /// Keeps what was told of a family of the host; where memory is refused it is not kept.
+    pub fn keep<R: Clock>(
+        &self,
+        rt: &R,
+        host: &str,
+        family: Family,
+        ips: Vec<Ip>,
+        ttl: Option<u32>,
+    ) {
         let Some(now) = self.second(rt) else {
             return;
         };
@@ -76,6 +112,60 @@ impl KeptAnswers {
         };
         let _ = cache.keep(now, host, family, ips, ttl);
         self.cache.set(Some(cache));
+    }
+
+    /// Whether a race asks for the family of the host.
+    pub fn is_asked(&self, host: &str, family: Family) -> bool {
+        let asked = self.asked.take();
+        let is_asked = match &asked {
+            Some(asked) => asked.iter().any(|question| question.is_of(host, family)),
+            None => false,
+        };
+        self.asked.set(asked);
+        is_asked
+    }
+
+    /// Notes that a race asks for the family of the host.
+    ///
+    /// # Errors
+    ///
+    /// `AllocError` where an allocation was refused: it is not noted.
+    pub fn ask(&self, host: &str, family: Family) -> Result<Asking<'_>, AllocError> {
+        let noted = Question {
+            host: String::from_str(self.alloc, host)?,
+            family,
+        };
+        let question = Question {
+            host: String::from_str(self.alloc, host)?,
+            family,
+        };
+        let Some(mut asked) = self.asked.take() else {
+            return Err(AllocError);
+        };
+        let pushed = asked.push(noted);
+        self.asked.set(Some(asked));
+        match pushed {
+            Ok(()) => Ok(Asking {
+                kept: self,
+                question,
+            }),
+            Err(_) => Err(AllocError),
+        }
+    }
+
+    // The race has its answer, or goes away; those that wait are woken.
+    fn remove(&self, question: &Question) {
+        let Some(mut asked) = self.asked.take() else {
+            return;
+        };
+        let place = asked
+            .iter()
+            .position(|other| other.is_of(&question.host, question.family));
+        if let Some(place) = place {
+            drop(asked.swap_remove(place));
+        }
+        self.asked.set(Some(asked));
+        self.answered.notify_waiters();
     }
 }
 
@@ -120,94 +210,5 @@ fn part_in(
     match cache.answer(now, host, family)? {
         Some(ips) => Ok(Some(Vec::from_slice(alloc, ips)?)),
         None => Ok(None),
-    }
-}
-
-/// The answers of a race's look-up, each of which is kept as it comes.
-#[derive(Drop)]
-pub struct KeepingAnswers<'h, R> {
-    rt: &'h R,
-    alloc: Global,
-    answers: HostAnswers<'h, R, Quiet>,
-    // Why a family has no address.
-    why: LookupFaults,
-    host: String,
-    kept: &'h KeptAnswers,
-}
-
-impl<'h, R> KeepingAnswers<'h, R>
-where
-    R: Net + RandomSource + Clock + Files + AllocGlobal,
-{
-    /// The answers of this host, which note in `why` why a family has none.
-    ///
-    /// # Errors
-    ///
-    /// `AllocError` where an allocation was refused.
-    pub fn new(
-        rt: &'h R,
-        host: &str,
-        answers: HostAnswers<'h, R, Quiet>,
-        why: LookupFaults,
-        kept: &'h KeptAnswers,
-    ) -> Result<KeepingAnswers<'h, R>, AllocError> {
-        let alloc = rt.alloc();
-        Ok(KeepingAnswers {
-            rt,
-            alloc,
-            answers,
-            why,
-            host: String::from_str(alloc, host)?,
-            kept,
-        })
-    }
-
-    // Keeps what name servers told of the family: its addresses, or that there are none.
-    fn keep(&self, family: Family, answer: &Answer) {
-        let ttl = self.answers.ttl(family);
-        let fault = self.why.families().of(family);
-        if ttl.is_none() && !fault.is_some_and(is_of_servers) {
-            return;
-        }
-        if let Ok(ips) = ips_of(self.alloc, &answer.known) {
-            self.kept.keep(self.rt, &self.host, family, ips, ttl);
-        }
-    }
-}
-
-// Whether the fault is what name servers said, or that none answered.
-fn is_of_servers(fault: NamesFault) -> bool {
-    matches!(
-        fault,
-        NamesFault::NoAddress
-            | NamesFault::NoSuchName
-            | NamesFault::NoAnswer
-            | NamesFault::Server(_)
-    )
-}
-
-fn ips_of(alloc: Global, known: &[Known]) -> Result<Vec<Ip>, AllocError>
-    ensures { IfOk result (λ ips. ips.items ≡ map (λ known. known.ip) known.now) }
-{
-    known.iter().map(|known| known.ip).collect(alloc)
-}
-
-impl<'h, R> AnswerSource for KeepingAnswers<'h, R>
-where
-    R: Net + RandomSource + Clock + Files + AllocGlobal,
-{
-    ghost needs = { λ s family. ⟦<HostAnswers<'h, R, Quiet> as AnswerSource>⟧.needs s.answers family };
-
-    ghost hears = { λ old family now told new. ⟦<HostAnswers<'h, R, Quiet> as AnswerSource>⟧.hears old.answers family
-        now told new.answers };
-
-    fn poll_answer(&mut self, family: Family, now: u64, cx: &mut Context<'_>) -> Poll<Answer> {
-        match self.answers.poll_answer(family, now, cx) {
-            Poll::Pending => Poll::Pending,
-            Poll::Ready(answer) => {
-                self.keep(family, &answer);
-                Poll::Ready(answer)
-            }
-        }
     }
 }

@@ -3,7 +3,7 @@ ghost use Rattle.std.specs.Prelude.{◌≡◌, IfOk};
 ghost use Rattle.futures.specs.Poll.{IfReady, OnPending};
 ghost use Rattle.futures.specs.Task.{Covers, Keeps};
 
-use crate::access::Reach;
+use crate::access::{Reach, ip_of};
 use futures::Future;
 use futures::task::{Context, Poll};
 use he_addr::Ip;
@@ -22,6 +22,11 @@ pub struct Joined {
 }
 
 impl Joined {
+    /// The address of this machine that it comes from. None where the system does not say.
+    pub fn source(&self) -> Option<Ip> {
+        Some(ip_of(self.stream.local_addr().ok()?.ip()))
+    }
+
     /// The stream.
     pub fn into_stream(self) -> TcpStream
         ensures { result ≡ self.stream }

@@ -20,6 +20,9 @@ pub enum ProxyFault {
     /// The directory of the records can't be made or read.
     #[error("cannot keep records there: {0}")]
     Record(ErrorKind),
+    /// The file of what is known of addresses can't be read or written, or is one of something else.
+    #[error("cannot keep there what is known of addresses: {0}")]
+    History(ErrorKind),
     /// The lines of the races can't be read.
     #[error("{0}")]
     Lines(ConnectFault),

@@ -5,6 +5,7 @@ ghost use Rattle.he_proxy.specs.Races.{IsWinner, IsWonOf};
 
 use crate::access::Reach;
 use crate::dial::Joined;
+use crate::known::KnownAddresses;
 use crate::recent::{Recent, Shown};
 use crate::record::{RecordName, Records};
 use crate::sockets::{Noted, SharedLoop};
@@ -23,6 +24,7 @@ use std::alloc::{AllocGlobal, Global};
 use std::mem::drop;
 use std::random::RandomSource;
 use std::rt::Files;
+use std::time::Clock;
 
 /// What is to be known of a race at its end.
 #[derive(Drop)]
@@ -32,6 +34,8 @@ pub struct Keeping<'h, R> {
     pub records: Option<&'h Records>,
     /// Where it is shown.
     pub recent: &'h Recent,
+    /// Where what it says of addresses is kept.
+    pub known: &'h KnownAddresses,
     /// When it began, as the name of its record has it.
     pub began: String,
     pub host: String,
@@ -41,14 +45,16 @@ pub struct Keeping<'h, R> {
     pub families: Families,
 }
 
-impl<'h, R: Files + RandomSource + AllocGlobal + Copy> Keeping<'h, R> {
-    /// Keeps the record of the race, and hands out its winner, or why there is none.
+impl<'h, R: Clock + Files + RandomSource + AllocGlobal + Copy> Keeping<'h, R> {
+    /// Keeps the record of the race and what it says of addresses, and hands out its winner, or why there is none.
     pub fn end(&self, raced: Raced<Joined>) -> Result<Won, Ended>
         ensures { IfOk result (IsWonOf raced) }
     {
         let ended = self.ended(&raced.transcript);
         let winner = winner_of(self.shared.alloc, &raced);
         let _ = self.keep(&raced.recorded);
+        let source = raced.winner.as_ref().and_then(Joined::source);
+        self.known.learn(self.shared.rt, &raced.transcript, source);
         let Raced {
             transcript,
             recorded,

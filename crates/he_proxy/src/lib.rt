@@ -4,8 +4,9 @@
 //! [`serve`] listens, and runs each client's session (`he_sessions`) as one task of many in one event loop. A
 //! session's race is the one that `he connect` runs: it begins as `he_connect` sets it up, takes its ticks from
 //! `he_live`, and its turns are those of `he_race`. Its record is a file of its own in the directory that is asked
-//! for, which `he replay` reads. What name servers answer serves later races to the host for its TTL (`he_cache`). Each
-//! session is a line on standard error; `GET /` has the last hundred races as a page, and `GET /proxy.pac` the
+//! for, which `he replay` reads. What name servers answer serves other races to the host, those that begin while they
+//! are asked and those within its TTL, and what was seen of an address is told to later ones for a day (`he_cache`).
+//! Each session is a line on standard error; `GET /` has the last hundred races as a page, and `GET /proxy.pac` the
 //! auto-config text of the proxy.
 //!
 //! # Whom it serves, and what it reaches
@@ -45,6 +46,7 @@ pub mod clients;
 pub mod dial;
 pub mod fault;
 pub mod keeping;
+pub mod known;
 pub mod log;
 pub mod pages;
 pub mod proxy;
@@ -55,6 +57,7 @@ pub mod record;
 pub mod request;
 pub mod server;
 pub mod sockets;
+pub mod source;
 mod stamp;
 pub mod state;
 

@@ -55,6 +55,17 @@ impl<F: Write + Drop> Log<F> {
         }
     }
 
+    /// Says which lines of the file of known addresses are wrong.
+    pub fn tell_passed_over(&self, lines: &[u64]) {
+        for line in lines {
+            if let Ok(what) = format!(in self.alloc;
+                "line {line} of the history was passed over: it is not ADDRESS SOURCE MILLISECONDS SECOND"
+            ) {
+                self.say(&what);
+            }
+        }
+    }
+
     /// Says at which places the proxy listens, in a log of text.
     pub fn tell_places(&self, places: &[Place]) {
         if self.form != LogForm::Text {

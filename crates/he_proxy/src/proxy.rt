@@ -9,6 +9,7 @@ use crate::answers::KeptAnswers;
 use crate::beginning::Beginning;
 use crate::clients::{Clients, Service};
 use crate::fault::ProxyFault;
+use crate::known::{KnownAddresses, KnownAtStart};
 use crate::log::Log;
 use crate::racer::LoopRacer;
 use crate::recent::Recent;
@@ -54,14 +55,17 @@ where
     let mut runtime = LocalRuntime::new(rt)?;
     let handle = runtime.handle().clone()?;
     let (sockets, own) = listen(rt, alloc, &handle, request.listen)?;
+    let KnownAtStart { known, wrong } = open_known(rt, alloc, request)?;
     let state = ProxyState {
         own,
         answers: KeptAnswers::new(rt, alloc)?,
+        known,
         records: open_records(rt, alloc, request)?,
         recent: Recent::new(alloc),
         beginning: Beginning::new(),
         log: Log::new(alloc, request.log, faults),
     };
+    state.log.tell_passed_over(&wrong);
     state.log.tell_places(&state.own);
     let shared = SharedLoop {
         rt: &*rt,
@@ -231,5 +235,16 @@ fn open_records<R: Files + AllocGlobal + Copy>(
     match Records::open(rt, alloc, dir, request.record_most) {
         Ok(records) => Ok(Some(records)),
         Err(error) => Err(ProxyFault::Record(error.kind())),
+    }
+}
+
+fn open_known<R: Files + RandomSource + AllocGlobal + Copy>(
+    rt: &R,
+    alloc: Global,
+    request: &ProxyRequest<'_>,
+) -> Result<KnownAtStart, ProxyFault> {
+    match KnownAddresses::open(rt, alloc, request.history) {
+        Ok(known) => Ok(known),
+        Err(error) => Err(ProxyFault::History(error.kind())),
     }
 }

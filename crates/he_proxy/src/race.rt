@@ -11,6 +11,7 @@ use he_sessions::Won;
 use std::alloc::AllocGlobal;
 use std::random::RandomSource;
 use std::rt::Files;
+use std::time::Clock;
 
 /// A race that a session asks for, over whatever race there is. Once it has ended its record is kept.
 #[derive(Drop)]
@@ -29,7 +30,7 @@ impl<'h, R, F: Drop> LoopRace<'h, R, F> {
 
 impl<'h, R, F> Future for LoopRace<'h, R, F>
 where
-    R: Files + RandomSource + AllocGlobal + Copy,
+    R: Clock + Files + RandomSource + AllocGlobal + Copy,
     F: Future<Output = Result<Raced<Joined>, RaceFault>>,
 {
     type Output = Result<Won, Ended>;

@@ -8,6 +8,7 @@ use crate::pages::{Asked, write_answer};
 use crate::race::LoopRace;
 use crate::request::ProxyRequest;
 use crate::sockets::{Noted, SharedLoop, SocketRace, socket_race};
+use crate::source::Earlier;
 use crate::stamp::stamp_now;
 use crate::state::ProxyState;
 use futures::Future;
@@ -96,8 +97,11 @@ where
     {
         let noted = Noted::new(self.shared.alloc)?;
         let keeping = self.keeping(&setup.request, reach, noted)?;
-        let answers = &self.state.answers;
-        let race = socket_race(self.shared, setup, reach, answers, &keeping.noted)?;
+        let earlier = Earlier {
+            kept: &self.state.answers,
+            known: &self.state.known,
+        };
+        let race = socket_race(self.shared, setup, reach, earlier, &keeping.noted)?;
         Ok(LoopRace::new(race, keeping))
     }
 
@@ -115,6 +119,7 @@ where
             shared: self.shared,
             records: self.state.records.as_ref(),
             recent: &self.state.recent,
+            known: &self.state.known,
             began,
             host: String::from_str(alloc, request.host)?,
             port: request.port,

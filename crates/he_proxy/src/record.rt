@@ -144,7 +144,8 @@ fn free_path<R: Files>(rt: &R, alloc: Global, stem: &str) -> io::Result<String> 
     Err(ErrorKind::AlreadyExists.into())
 }
 
-fn write_file<R: Files + RandomSource + AllocGlobal>(
+// Writes a file beside the one of this path, and puts it in its place once all is written.
+pub(crate) fn write_file<R: Files + RandomSource + AllocGlobal>(
     rt: &R,
     alloc: Global,
     path: &str,

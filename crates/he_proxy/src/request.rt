@@ -47,6 +47,8 @@ pub struct ProxyRequest<'a> {
     pub record: Option<&'a str>,
     /// How many records are kept, at least 1.
     pub record_most: u32,
+    /// The file that keeps what is known of addresses; with none, that is known until the proxy ends.
+    pub history: Option<&'a str>,
     pub log: LogForm,
     /// How many sessions there are at once, at least 1.
     pub most: u32,

@@ -6,8 +6,9 @@ ghost use Rattle.he_proxy.specs.Kept.{BeginsBy};
 ghost use Rattle.he_proxy.specs.Races.{RunsFrom};
 
 use crate::access::Reach;
-use crate::answers::{KeepingAnswers, KeptAnswers};
+use crate::answers::KeptAnswers;
 use crate::dial::LoopConnector;
+use crate::source::{Earlier, RaceSource};
 use futures::Future;
 use he_connect::{ConnectFault, ConnectRequest, HostAnswers, LookupFaults, Setup};
 use he_live::{LiveTicker, Quiet, Steps};
@@ -23,7 +24,7 @@ use tokio::runtime::Handle;
 /// The race over the sockets of the event loop.
 pub type SocketRace<'h, R> = ResolvingRace<
     LoopConnector<'h, R>,
-    KeepingAnswers<'h, R>,
+    RaceSource<'h, R>,
     LiveTicker<'h, R, Quiet>,
 >;
 
@@ -92,7 +93,7 @@ pub fn socket_race<'h, R>(
     shared: SharedLoop<'h, R>,
     setup: &Setup<'_>,
     reach: Reach<'h>,
-    kept: &'h KeptAnswers,
+    earlier: Earlier<'h>,
     noted: &Noted,
 ) -> Result<SocketRace<'h, R>, ConnectFault>
 where
@@ -103,10 +104,10 @@ where
 {
     let SharedLoop { rt, alloc, handle } = shared;
     let start = Instant::now(rt)?;
-    let lookup = look_up(shared, &setup.request, kept)?;
+    let lookup = look_up(shared, &setup.request, earlier.kept)?;
     let machine = if setup.brings_lines { Some(rt) } else { None };
     let answers = HostAnswers::new(alloc, lookup, machine, noted.why.share()?, Quiet)?;
-    let source = KeepingAnswers::new(rt, setup.request.host, answers, noted.why.share()?, kept)?;
+    let source = RaceSource::new(rt, setup.request.host, answers, noted.why.share()?, earlier)?;
     let steps = noted.steps.share()?;
     let connector = LoopConnector::new(rt, handle.reactor(), setup.to, reach, steps);
     let steps = noted.steps.share()?;

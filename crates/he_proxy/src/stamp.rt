@@ -9,3 +9,8 @@ pub fn stamp_now<R: Clock>(rt: &R, alloc: Global) -> Option<String> {
     let now = Timestamp::now(rt).ok()?;
     format!(in alloc; "{now:.3}").ok()
 }
+
+/// The whole seconds since 1970, by the clock of the time of day. None where the clock fails, or is before that.
+pub fn second_now<R: Clock>(rt: &R) -> Option<u64> {
+    u64::try_from(Timestamp::now(rt).ok()?.as_second()).ok()
+}

@@ -35,7 +35,7 @@ log_of true json = logs.Nothing
 log_of false true = logs.Json
 log_of false false = logs.Line
 
--- the addresses, the networks, the settings and the folder of the line
+-- the addresses, the networks, the settings, the folder and the file of the line
 pub record AsksProxy {E : Type 0} (gives : List ℕ → Result ℕ E → Type 0) (found : Found) (proxy : Proxy) : Type 0 where
   pub listen : AreNamed NamesAddress (values_of found (codes "listen")) proxy.listen.items
   pub allow : AreNamed SpellsPrefix (values_of found (codes "allow")) proxy.allow.items
@@ -47,6 +47,7 @@ pub record AsksProxy {E : Type 0} (gives : List ℕ → Result ℕ E → Type 0)
   pub lines : option_map (λ path. path.now) proxy.lines ≡ first_value found (codes "host-lines")
   pub record_is : option_map (λ path. path.now) proxy.record ≡ first_value found (codes "record")
   pub record_most : HasNumber gives found (codes "record-most") proxy.record_most
+  pub history : option_map (λ path. path.now) proxy.history ≡ first_value found (codes "history")
   pub most : HasNumber gives found (codes "most") proxy.most
   pub idle : HasNumber gives found (codes "idle") proxy.idle
   pub quiet : Bool

@@ -36,6 +36,9 @@ const RECORD_HELP: &str = "Write each race to a file of its own under DIR";
 const RECORD_MOST_HELP: &str =
     "Keep N records; the oldest days are removed first;\ndefault is 10000";
 
+const HISTORY_HELP: &str =
+    "Keep in FILE what is known of addresses that were\nconnected to, for a day";
+
 const MOST_HELP: &str = "Serve N clients at once; default is 1000";
 
 const IDLE_HELP: &str = "Close a tunnel on which nothing came for so many\n\
@@ -65,6 +68,10 @@ time (UTC) and target in its name, and which all commands read that take races:
 
   he summary day/*/*.timeline
   he draw --html day.html day/*/*.timeline
+
+An address that was connected to in the last day, from the same address of this
+machine, comes before others of its family, the fastest first (RFC 6724 section
+6, RFC 8305 section 4). With --history this is known after a restart too.
 
 Standard error has a line for each session: the time, the client, what it asked
 for, the address that won, milliseconds, milliseconds lost, bytes from the
@@ -97,6 +104,7 @@ pub(crate) fn command<'a>(alloc: Global) -> Result<Command<'a>, AllocError> {
         value(alloc, "resolver", "RESOLVER", RESOLVER_HELP),
         value(alloc, "record", "DIR", RECORD_HELP),
         records.value_parser(value_parser!(u32).range(1..=i64::from(MOST_RECORDS))),
+        value(alloc, "history", "FILE", HISTORY_HELP),
         most.value_parser(value_parser!(u32).range(1..=i64::from(MOST_SESSIONS))),
         idle.value_parser(value_parser!(u32).range(1..=i64::from(MOST_IDLE))),
         quiet,
@@ -137,6 +145,8 @@ pub struct Proxy<'a> {
     pub record: Option<&'a str>,
     /// How many records are kept, where that is given.
     pub record_most: Option<u32>,
+    /// The file of what is known of addresses.
+    pub history: Option<&'a str>,
     /// How many sessions there may be at once, where that is given.
     pub most: Option<u32>,
     /// After how many seconds an idle tunnel is closed, where that is given.
@@ -162,6 +172,7 @@ pub(crate) fn proxy_of<'a>(alloc: Global, matches: &ArgMatches<'a>) -> Result<Pr
         resolver,
         record: matches.get_str("record"),
         record_most: matches.get_one::<u32>("record-most"),
+        history: matches.get_str("history"),
         most: matches.get_one::<u32>("most"),
         idle: matches.get_one::<u32>("idle"),
         log: log_of(flag_of(matches, "quiet"), flag_of(matches, "log-json")),

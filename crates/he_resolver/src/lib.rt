@@ -27,10 +27,10 @@
 //! twice, at most 256, of all that a message answers to the question for one of these names, or of what is known, and
 //! the TTL is that of this message (`specs/Heard`); where a poll is pending, it has registered at every socket and
 //! timer that the family waits for, and where it settles what the other family is told, the task is polled again
-//! (`specs/Needs`); [`write_names`] writes the two lines, and nothing after any fault but `Write` (`specs/Told`); which
-//! interface a zone names (`specs/Scopes`). And, of functions inside: what a message comes to (`specs/Replies`), that
-//! answers are taken of the id that was sent, when the next server is asked (`specs/Asking`), after which faults, and
-//! which fault is told (`specs/Faults`), and which event an answer is (`specs/Events`). What a log holds is in no
+//! (`specs/Needs`); [`write_names`] writes the two lines, and nothing after any fault but `Write` (`specs/Told`);
+//! which interface a zone names (`specs/Scopes`). And, of functions inside: what a message comes to (`specs/Replies`),
+//! that answers are taken of the id that was sent, when the next server is asked (`specs/Asking`), after which faults,
+//! and which fault is told (`specs/Faults`), and which event an answer is (`specs/Events`). What a log holds is in no
 //! clause, since it is shared. Only tested, on loopback: that queries leave, when, to whom, and that it is a server's
 //! message that is read.
 #![tactic(auto)]

@@ -154,7 +154,7 @@ impl<'h, R: Net + RandomSource + Clock> Lookup<'h, R> {
         }
     }
 
-    /// A look-up of a host whose addresses are known from an earlier one: it tells these, and nothing is read or asked.
+    /// A look-up of a host whose addresses are known from an earlier one: it tells these; nothing is read or asked.
     ///
     /// # Errors
     ///

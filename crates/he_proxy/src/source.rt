@@ -1,0 +1,190 @@
+//! Where the answers of a race come from: its own look-up, or that of another race for the same host.
+ghost use Rattle.std.specs.Prelude.{◌≡◌, IfOk, map};
+ghost use Rattle.futures.specs.Poll.{IfReady, OnPending};
+ghost use Rattle.futures.specs.Task.{Covers, Keeps};
+ghost use Rattle.he_race.specs.Heard.{ips_of, lists_of};
+ghost use Rattle.he_proxy.specs.Sources.{HasSameLines};
+
+use crate::answers::{Asking, KeptAnswers};
+use crate::known::KnownAddresses;
+use futures::Future;
+use futures::task::{Context, Poll};
+use he_addr::{Family, Ip};
+use he_connect::{HostAnswers, LookupFaults};
+use he_live::Quiet;
+use he_race::{Answer, AnswerSource};
+use he_resolver::NamesFault;
+use he_select::Known;
+use std::alloc::{AllocError, AllocGlobal, Global};
+use std::net::Net;
+use std::random::RandomSource;
+use std::rt::Files;
+use std::time::Clock;
+use tokio::sync::Notified;
+
+/// What the races of a proxy share of earlier ones.
+#[derive(Clone, Copy)]
+pub struct Earlier<'h> {
+    pub kept: &'h KeptAnswers,
+    pub known: &'h KnownAddresses,
+}
+
+// Who asks for the host.
+#[derive(Drop)]
+enum Turn<'h> {
+    // The race itself; what others may wait for is noted.
+    Asks(Option<Asking<'h>>, Option<Asking<'h>>),
+    // Another race, until it is answered or goes away.
+    Waits(Notified<'h>),
+}
+
+/// The answers of a race. Where another race asks for the host, what that one is told is waited for; where it goes
+/// away first, or is told what isn't kept, the look-up of this one asks itself. What name servers tell is kept, and
+/// each address comes with what is known of it.
+#[derive(Drop)]
+pub struct RaceSource<'h, R> {
+    rt: &'h R,
+    alloc: Global,
+    answers: HostAnswers<'h, R, Quiet>,
+    // Why a family has no address.
+    why: LookupFaults,
+    host: String,
+    earlier: Earlier<'h>,
+    turn: Turn<'h>,
+}
+
+impl<'h, R> RaceSource<'h, R>
+where
+    R: Net + RandomSource + Clock + Files + AllocGlobal,
+{
+    /// The answers of this host, whose look-up notes in `why` why a family has none.
+    ///
+    /// # Errors
+    ///
+    /// `AllocError` where an allocation was refused.
+    pub fn new(
+        rt: &'h R,
+        host: &str,
+        answers: HostAnswers<'h, R, Quiet>,
+        why: LookupFaults,
+        earlier: Earlier<'h>,
+    ) -> Result<RaceSource<'h, R>, AllocError> {
+        let alloc = rt.alloc();
+        Ok(RaceSource {
+            rt,
+            alloc,
+            answers,
+            why,
+            host: String::from_str(alloc, host)?,
+            earlier,
+            turn: turn_for(earlier.kept, host),
+        })
+    }
+
+    // What the look-up tells; it is kept.
+    fn poll_own(&mut self, family: Family, now: u64, cx: &mut Context<'_>) -> Poll<Answer> {
+        match self.answers.poll_answer(family, now, cx) {
+            Poll::Pending => Poll::Pending,
+            Poll::Ready(answer) => {
+                self.keep(family, &answer);
+                self.answered(family);
+                Poll::Ready(self.with_known(answer))
+            }
+        }
+    }
+
+    // What the race that asks for the host is told, once that is kept.
+    fn poll_kept(&mut self, family: Family, cx: &mut Context<'_>) -> Poll<Answer> {
+        let kept = self.earlier.kept;
+        let mut answered = kept.answered.notified();
+        if let Some(ips) = kept.known_of(self.rt, &self.host, family) {
+            return Poll::Ready(self.with_known(self.answers.answer_of(family, Ok(ips))));
+        }
+        if kept.is_asked(&self.host, family) && answered.poll(cx).is_pending() {
+            self.turn = Turn::Waits(answered);
+            return Poll::Pending;
+        }
+        self.turn = Turn::Asks(None, None);
+        cx.yield_now()
+    }
+
+    // Others need not wait for the family any more.
+    fn answered(&mut self, family: Family) {
+        if let Turn::Asks(six, four) = &mut self.turn {
+            match family {
+                Family::V6 => *six = None,
+                Family::V4 => *four = None,
+            }
+        }
+    }
+
+    // Keeps what name servers told of the family: its addresses, or that there are none.
+    fn keep(&self, family: Family, answer: &Answer) {
+        let ttl = self.answers.ttl(family);
+        let fault = self.why.families().of(family);
+        if ttl.is_none() && !fault.is_some_and(is_of_servers) {
+            return;
+        }
+        if let Ok(ips) = ips_of(self.alloc, &answer.known) {
+            self.earlier
+                .kept
+                .keep(self.rt, &self.host, family, ips, ttl);
+        }
+    }
+
+    // The answer, with what is known of its addresses.
+    fn with_known(&self, answer: Answer) -> Answer
+        ensures { HasSameLines (lists_of answer) (lists_of result) }
+    {
+        match self.earlier.known.tell(self.rt, &answer.known) {
+            Ok(known) => Answer { known, ..answer },
+            Err(_) => answer,
+        }
+    }
+}
+
+// Another race's turn, where one asks for the host; else the race's own.
+fn turn_for<'h>(kept: &'h KeptAnswers, host: &str) -> Turn<'h> {
+    if kept.is_asked(host, Family::V6) || kept.is_asked(host, Family::V4) {
+        return Turn::Waits(kept.answered.notified());
+    }
+    Turn::Asks(
+        kept.ask(host, Family::V6).ok(),
+        kept.ask(host, Family::V4).ok(),
+    )
+}
+
+// Whether the fault is what name servers said, or that none answered.
+fn is_of_servers(fault: NamesFault) -> bool {
+    matches!(
+        fault,
+        NamesFault::NoAddress
+            | NamesFault::NoSuchName
+            | NamesFault::NoAnswer
+            | NamesFault::Server(_)
+    )
+}
+
+fn ips_of(alloc: Global, known: &[Known]) -> Result<Vec<Ip>, AllocError>
+    ensures { IfOk result (λ ips. ips.items ≡ map (λ known. known.ip) known.now) }
+{
+    known.iter().map(|known| known.ip).collect(alloc)
+}
+
+impl<'h, R> AnswerSource for RaceSource<'h, R>
+where
+    R: Net + RandomSource + Clock + Files + AllocGlobal,
+{
+    ghost use Rattle.he_proxy.specs.Sources.{HearsBy, needs_by};
+
+    ghost needs = { λ s family. needs_by (⟦<HostAnswers<'h, R, Quiet> as AnswerSource>⟧.needs s.answers family) s };
+
+    ghost hears = { HearsBy ⟦<HostAnswers<'h, R, Quiet> as AnswerSource>⟧.hears };
+
+    fn poll_answer(&mut self, family: Family, now: u64, cx: &mut Context<'_>) -> Poll<Answer> {
+        match self.turn {
+            Turn::Asks(..) => self.poll_own(family, now, cx),
+            Turn::Waits(_) => self.poll_kept(family, cx),
+        }
+    }
+}
