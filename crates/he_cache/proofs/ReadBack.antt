@@ -1,14 +1,12 @@
 -- What is written of an address is read as it.
-use Rattle.std.proofs.Common.{◌≡◌, ℕ, ◌==◌, Bool, false, List, [], ◌∷◌, ◌++◌, Some, refl, ap, sym, ◌∙◌, eqb, decimal}
+use Rattle.std.proofs.Common.{◌≡◌, ℕ, false, List, [], ◌∷◌, ◌++◌, refl, ap, ◌∙◌, eqb, decimal}
 use Rattle.std.specs.List.{slice_split}
 use Rattle.std.proofs.lemmas.List.Elements.{All-from_recursion}
 use Rattle.std.proofs.lemmas.List.Splits.{slice_split_at, slice_split_none}
 use Rattle.he_addr.specs.Printing.{printed}
-use Rattle.he_addr.specs.Reading.{ip_in, number_in}
 use Rattle.he_addr.specs.Text.{Lacks}
 use Rattle.he_addr.proofs.TextLaws.{addresses_read_back, numbers_read_back, addresses_are_tokens, numbers_are_tokens}
-use Rattle.he_cache.specs.declared.history.Seen.{Seen}
-use Rattle.he_cache.specs.KnownText.{ReadsBack, line_of, seen_by, seen_in, seen_of_fields}
+use Rattle.he_cache.specs.KnownText.{ReadsBack, seen_in, seen_of_fields}
 
 -- four texts without a space, and a space between each two, are parted into these
 parted : (a b c d : List ℕ) → Lacks 32 a → Lacks 32 b → Lacks 32 c → Lacks 32 d

@@ -40,6 +40,9 @@ pub fn read_history(alloc: Global, text: &[u8]) -> Result<ReadHistory, Memory> {
 }
 
 fn lines(alloc: Global, text: &[u8]) -> Result<Vec<&[u8]>, AllocError> {
+    if text.is_empty() {
+        return Ok(Vec::new(alloc));
+    }
     text.strip_suffix(&[LINE_END])
         .unwrap_or(text)
         .split(|byte| *byte == LINE_END)

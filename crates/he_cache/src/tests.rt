@@ -36,9 +36,9 @@ use crate::history::{History, SECONDS_KNOWN, Seen};
 use crate::history_text::{read_history, write_history};
 use he_addr::Ip;
 
-fn seen(last: u32, at: u64) -> Seen {
+fn seen(last: u8, at: u64) -> Seen {
     Seen {
-        ip: Ip::V4(0xc633_6400 + last),
+        ip: Ip::V4(0xc633_6400 + u32::from(last)),
         source: Ip::V4(0xc000_0201),
         rtt: u64::from(last) * 10,
         at,
@@ -80,6 +80,13 @@ fn a_history_is_read_back(rt: HostRuntime) -> Result<(), Fail> {
     let mut again = Vec::new(rt.alloc());
     write_history(&read.history, &mut again)?;
     assert!(rt; again.as_slice() == wanted);
+    Ok(())
+}
+
+#[test]
+fn an_empty_text_has_no_wrong_line(rt: HostRuntime) -> Result<(), Fail> {
+    let read = read_history(rt.alloc(), b"")?;
+    assert!(rt; read.wrong.is_empty() && read.history.is_empty());
     Ok(())
 }
 
