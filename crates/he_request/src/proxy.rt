@@ -69,9 +69,9 @@ time (UTC) and target in its name, and which all commands read that take races:
   he summary day/*/*.timeline
   he draw --html day.html day/*/*.timeline
 
-An address that was connected to in the last day, from the same address of this
-machine, comes before others of its family, the fastest first (RFC 6724 section
-6, RFC 8305 section 4). With --history this is known after a restart too.
+Of addresses that RFC 6724 leaves alike, those that were connected to in the last
+day from the same source come first, the fastest before the others (RFC 8305
+section 4). With --history this is known after a restart too.
 
 Standard error has a line for each session: the time, the client, what it asked
 for, the address that won, milliseconds, milliseconds lost, bytes from the
