@@ -76,10 +76,11 @@ edits: kit
 	scripts/edits $(CRATES)
 
 build: kit
-	scripts/build he_tool run
+	scripts/build program
 
 # Copies alone, so that it may run as root after a build as the user.
 install: | $(HE)
+	@'$(HE)' --version | grep -q '[(,] *proved)$$' || echo 'make: $(HE) is not known to be proved: make build' >&2
 	install -D -m 755 '$(HE)' '$(TO)/bin/he'
 	install -D -m 644 docs/he.1 '$(TO)/share/man/man1/he.1'
 	install -D -m 644 completions/he.bash '$(TO)/share/bash-completion/completions/he'
@@ -94,7 +95,7 @@ deb: program
 	scripts/make-deb $(HE) he.deb
 
 build-library: kit
-	scripts/build he_c lib
+	scripts/build library
 
 install-library: | $(LIBRARY)
 	scripts/make-library '$(PREFIX)' '$(DESTDIR)'

@@ -19,6 +19,9 @@ use he_tasks::{Session, USAGE, run_texts};
 use std::alloc::Global;
 use std::io::Write;
 
+// Of this crate; the program adds which build it is.
+const VERSION: &str = "1.0.0";
+
 /// Runs the command line `words`, of which the first is the program's name, and answers the exit status. Output and
 /// help that was asked for go to the session's output; what is wrong goes to its faults.
 pub fn run_words<'a, R: System, I: InputStream, O: OutputStream + Send, F: Write>(
@@ -30,7 +33,7 @@ pub fn run_words<'a, R: System, I: InputStream, O: OutputStream + Send, F: Write
         × RunsLine I.InputStream ⟦<FromReader<R::File> as InputStream>⟧ ⟦<ToWriter<R::File> as OutputStream>⟧
         O.OutputStream line input.old input.new session.old.output session.new.output result }
 {
-    let line = read_words(session.alloc, words, columns_of(session.system));
+    let line = read_words(session.alloc, words, VERSION, columns_of(session.system));
     run_line(session, line, input)
 }
 

@@ -41,11 +41,11 @@ a command line that is refused; 3 if `connect` or `live --must-connect` made no
 connection.";
 
 // The whole command line of the program.
-fn command<'a>(alloc: Global) -> Result<Command<'a>, AllocError> {
+fn command<'a>(alloc: Global, version: &'a str) -> Result<Command<'a>, AllocError> {
     let commands = commands(alloc)?;
     Command::new(alloc, "he")
         .bin_name("he")?
-        .version("1.0.0")
+        .version(version)
         .about(ABOUT)
         .after_help(EXIT_STATUS)
         .subcommand_required(true)
@@ -70,7 +70,8 @@ fn commands<'a>(alloc: Global) -> Result<Vec<Command<'a>>, AllocError> {
     Ok(commands)
 }
 
-/// Reads the words of a command line, of which the first is the program's name; a terminal has so many columns.
+/// Reads the words of a command line, of which the first is the program's name; the version is what `--version` tells,
+/// and a terminal has so many columns.
 ///
 /// # Errors
 ///
@@ -78,11 +79,12 @@ fn commands<'a>(alloc: Global) -> Result<Vec<Command<'a>>, AllocError> {
 pub fn read_words<'a>(
     alloc: Global,
     words: &'a [&'a str],
+    version: &'a str,
     columns: u16,
 ) -> Result<Request<'a>, Refusal>
     ensures { IfOk result IsRequest }
 {
-    let matches = command(alloc)?.try_get_matches_from(words)?;
+    let matches = command(alloc, version)?.try_get_matches_from(words)?;
     request_of(alloc, &matches, columns)
 }
 

@@ -4,6 +4,9 @@
 //! exit status.
 #![tactic(auto)]
 
+mod build;
+
+use build::VERSION;
 use he_command::{
     Session, System, columns_of, read_words, report, report_not_text, run_line, takes_text,
     tell_waiting,
@@ -68,7 +71,7 @@ where
         place: 0,
         unread: 0,
     };
-    let line = read_words(session.alloc, words, columns_of(system));
+    let line = read_words(session.alloc, words, VERSION, columns_of(system));
     if takes_text(&line) && rt.stdin().is_terminal() {
         tell_waiting(&mut session.faults);
     }
