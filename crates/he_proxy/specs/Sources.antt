@@ -33,12 +33,12 @@ IsOfKept brings (Some told) =
 
 -- the race asks for its host itself
 abbrev pub Asks : Turn → Type 0
-Asks (turns.Asks six four) = ⊤
+Asks (turns.Asks asked) = ⊤
 Asks (turns.Waits answered) = ⊥
 
 -- where it asks itself it waits for what its look-up does, else for the race that asks
 abbrev pub needs_at : Turn → (ℕ → Type 0) → ℕ → ℕ → Type 0
-needs_at (turns.Asks six four) own answered s = own s
+needs_at (turns.Asks asked) own answered s = own s
 needs_at (turns.Waits _) own answered s = s ≡ answered
 
 module _ {R : Type 0} where
@@ -47,7 +47,7 @@ module _ {R : Type 0} where
 
   -- it is told what its look-up tells, or what is kept
   abbrev pub HearsAt : Turn → Tells (HostAnswers R Quiet) → Tells (RaceSource R)
-  HearsAt (turns.Asks six four) own old family now told new =
+  HearsAt (turns.Asks asked) own old family now told new =
       Asks new.turn × ((bare : Option AnswerLists) × IsToldWith bare told × own old.answers family now bare new.answers)
   HearsAt (turns.Waits _) own old family now told new = IsOfKept (is_some old.answers.machine) told
 

@@ -29,11 +29,36 @@ pub struct Earlier<'h> {
     pub known: &'h KnownAddresses,
 }
 
+// That the families of a host are asked for, each where it is noted and not answered yet.
+#[derive(Drop)]
+struct AskedFor<'h> {
+    six: Option<Asking<'h>>,
+    four: Option<Asking<'h>>,
+}
+
+impl<'h> AskedFor<'h> {
+    // Nothing is noted.
+    fn nothing() -> AskedFor<'h> {
+        AskedFor {
+            six: None,
+            four: None,
+        }
+    }
+
+    // The family is answered.
+    fn end(&mut self, family: Family) {
+        match family {
+            Family::V6 => self.six = None,
+            Family::V4 => self.four = None,
+        }
+    }
+}
+
 // Who asks for the host.
 #[derive(Drop)]
 enum Turn<'h> {
-    // The race itself; what others may wait for is noted.
-    Asks(Option<Asking<'h>>, Option<Asking<'h>>),
+    // The race itself, and others may wait for it.
+    Asks(AskedFor<'h>),
     // Another race, until it is answered or goes away.
     Waits(Notified<'h>),
 }
@@ -104,17 +129,14 @@ where
             self.turn = Turn::Waits(answered);
             return Poll::Pending;
         }
-        self.turn = Turn::Asks(None, None);
+        self.turn = Turn::Asks(AskedFor::nothing());
         cx.yield_now()
     }
 
     // Others need not wait for the family any more.
     fn answered(&mut self, family: Family) {
-        if let Turn::Asks(six, four) = &mut self.turn {
-            match family {
-                Family::V6 => *six = None,
-                Family::V4 => *four = None,
-            }
+        if let Turn::Asks(asked) = &mut self.turn {
+            asked.end(family);
         }
     }
 
@@ -148,10 +170,10 @@ fn turn_for<'h>(kept: &'h KeptAnswers, host: &str) -> Turn<'h> {
     if kept.is_asked(host, Family::V6) || kept.is_asked(host, Family::V4) {
         return Turn::Waits(kept.answered.notified());
     }
-    Turn::Asks(
-        kept.ask(host, Family::V6).ok(),
-        kept.ask(host, Family::V4).ok(),
-    )
+    Turn::Asks(AskedFor {
+        six: kept.ask(host, Family::V6).ok(),
+        four: kept.ask(host, Family::V4).ok(),
+    })
 }
 
 // Whether the fault is what name servers said, or that none answered.
@@ -183,7 +205,7 @@ where
 
     fn poll_answer(&mut self, family: Family, now: u64, cx: &mut Context<'_>) -> Poll<Answer> {
         match self.turn {
-            Turn::Asks(..) => self.poll_own(family, now, cx),
+            Turn::Asks(_) => self.poll_own(family, now, cx),
             Turn::Waits(_) => self.poll_kept(family, cx),
         }
     }
