@@ -45,10 +45,15 @@ module _ {R : Type 0} where
   abbrev pub needs_by : (ℕ → Type 0) → RaceSource R → ℕ → Type 0
   needs_by own source s = needs_at source.turn own (told_source source.earlier.kept.now.answered) s
 
-  -- it is told what its look-up tells, or what is kept
+  -- it is told what its look-up tells
+  abbrev pub HearsOwn : Tells (HostAnswers R Quiet) → Tells (RaceSource R)
+  HearsOwn own old family now told new =
+      (bare : Option AnswerLists) × IsToldWith bare told × own old.answers family now bare new.answers
+
+  -- that, where it asks itself, or what is kept
   abbrev pub HearsAt : Turn → Tells (HostAnswers R Quiet) → Tells (RaceSource R)
   HearsAt (turns.Asks asked) own old family now told new =
-      Asks new.turn × ((bare : Option AnswerLists) × IsToldWith bare told × own old.answers family now bare new.answers)
+      Asks new.turn × HearsOwn own old family now told new
   HearsAt (turns.Waits _) own old family now told new = IsOfKept (is_some old.answers.machine) told
 
   abbrev pub HearsBy : Tells (HostAnswers R Quiet) → Tells (RaceSource R)

@@ -1,9 +1,11 @@
 //! Where the answers of a race come from: its own look-up, or that of another race for the same host.
-ghost use Rattle.std.specs.Prelude.{◌≡◌, IfOk, map};
+ghost use Rattle.std.specs.Prelude.{◌≡◌, ◌≤◌, ◌⊎◌, IfOk, None, Some, is_some, map};
 ghost use Rattle.futures.specs.Poll.{IfReady, OnPending};
 ghost use Rattle.futures.specs.Task.{Covers, Keeps};
-ghost use Rattle.he_race.specs.Heard.{ips_of, lists_of};
-ghost use Rattle.he_proxy.specs.Sources.{HasSameLines};
+ghost use Rattle.he_addr.specs.declared.ip.Family.{Family};
+ghost use Rattle.he_race.specs.Heard.{IsSilent, lists_of};
+ghost use Rattle.he_race.specs.declared.limits.TheConstants.{MAX_POLL_TICK};
+ghost use Rattle.he_proxy.specs.Sources.{Asks, HasSameLines, HearsOwn, IsOfKept, needs_by};
 
 use crate::answers::{Asking, KeptAnswers};
 use crate::known::KnownAddresses;
@@ -107,7 +109,21 @@ where
     }
 
     // What the look-up tells; it is kept.
-    fn poll_own(&mut self, family: Family, now: u64, cx: &mut Context<'_>) -> Poll<Answer> {
+    fn poll_own(&mut self, family: Family, now: u64, cx: &mut Context<'_>) -> Poll<Answer>
+        requires in_time { now ≤ MAX_POLL_TICK }
+        ensures pending { OnPending result (HearsOwn ⟦<HostAnswers<'h, R, Quiet> as AnswerSource>⟧.hears self.old
+            family now None self.new) }
+        ensures ready { IfReady result (λ answer. HearsOwn ⟦<HostAnswers<'h, R, Quiet> as AnswerSource>⟧.hears
+            self.old family now (Some (lists_of answer)) self.new) }
+        ensures waits { OnPending result (
+            Covers cx.new (⟦<HostAnswers<'h, R, Quiet> as AnswerSource>⟧.needs self.new.answers family)
+            ⊎ IsSilent ⟦<HostAnswers<'h, R, Quiet> as AnswerSource>⟧.hears self.new.answers family) }
+        ensures other { (other : Family) → (other ≡ family → ⊥)
+            → Covers cx.old (⟦<HostAnswers<'h, R, Quiet> as AnswerSource>⟧.needs self.old.answers other)
+            → Covers cx.new (⟦<HostAnswers<'h, R, Quiet> as AnswerSource>⟧.needs self.new.answers other) }
+        ensures kept { Keeps cx.old cx.new }
+        ensures asks { Asks self.old.turn → Asks self.new.turn }
+    {
         match self.answers.poll_answer(family, now, cx) {
             Poll::Pending => Poll::Pending,
             Poll::Ready(answer) => {
@@ -119,7 +135,14 @@ where
     }
 
     // What the race that asks for the host is told, once that is kept.
-    fn poll_kept(&mut self, family: Family, cx: &mut Context<'_>) -> Poll<Answer> {
+    fn poll_kept(&mut self, family: Family, cx: &mut Context<'_>) -> Poll<Answer>
+        ensures ready { IfReady result (λ answer. IsOfKept (is_some self.old.answers.machine)
+            (Some (lists_of answer))) }
+        ensures same { IfReady result (λ _. (self.new ≡ self.old) × (cx.new ≡ cx.old)) }
+        ensures waits { OnPending result ((any : Family) → Covers cx.new (needs_by
+            (⟦<HostAnswers<'h, R, Quiet> as AnswerSource>⟧.needs self.new.answers any) self.new)) }
+        ensures kept { Keeps cx.old cx.new }
+    {
         let kept = self.earlier.kept;
         let mut answered = kept.answered.notified();
         if let Some(ips) = kept.known_of(self.rt, &self.host, family) {
@@ -134,7 +157,10 @@ where
     }
 
     // Others need not wait for the family any more.
-    fn answered(&mut self, family: Family) {
+    fn answered(&mut self, family: Family)
+        ensures answers { self.new.answers ≡ self.old.answers }
+        ensures asks { Asks self.old.turn → Asks self.new.turn }
+    {
         if let Turn::Asks(asked) = &mut self.turn {
             asked.end(family);
         }
