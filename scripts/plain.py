@@ -9,6 +9,7 @@ needs: python3, its standard library alone
 import copy
 import ipaddress
 import itertools
+import json
 import math
 import pathlib
 import re
@@ -429,6 +430,11 @@ def order(race):
 def counted(number, one, many=None):
     """The number with its noun, by default with an s for more or none."""
     return f"{number} {one if number == 1 else many or one + 's'}"
+
+
+def one_line(value):
+    """An object of JSON."""
+    return json.dumps(value, separators=(",", ":"), ensure_ascii=False) + "\n"
 
 
 # Texts of timelines and their faults, check by check
