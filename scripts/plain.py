@@ -8,9 +8,12 @@ needs: python3, its standard library alone
 """
 import copy
 import ipaddress
+import itertools
+import json
+import math
 import pathlib
 import re
-from collections import namedtuple
+from collections import Counter, namedtuple
 from functools import cached_property, lru_cache
 
 ROOT = pathlib.Path(__file__).resolve().parent.parent
@@ -48,17 +51,12 @@ MAPPED_BLOCK = Prefix(MAPPED, 96)
 ALL = Prefix(0, 0)
 HEADERS = {"race 1": 1, "race 2": 2}
 # By name: the least value, the greatest, the one that holds where none is given, the first version that has it.
-SETTINGS = {
-    "resolution": (0, 1000, 50, 1),
-    "attempt": (10, 2000, 250, 1),
-    "count": (1, 8, 1, 1),
-    "limit": (1, MOST_TICK, 30_000, 1),
-    "floor": (10, 2000, None, 2),
-}
+SETTINGS = {"resolution": (0, 1000, 50, 1), "attempt": (10, 2000, 250, 1), "count": (1, 8, 1, 1),
+            "limit": (1, MOST_TICK, 30_000, 1), "floor": (10, 2000, None, 2)}
 GROUPS = ["set", "policy", "source", "route", "aaaa", "a", "rtt", "used", "connect", "pause", "end"]
 # How many words a line of each has at the least and at the most, and how many lines of one there are at the most.
-LENGTHS = {"set": (3, 3), "policy": (4, 4), "source": (3, 5), "route": (3, 4), "aaaa": (3, None), "a": (3, None),
-           "rtt": (3, 3), "used": (2, 2), "connect": (4, 4), "pause": (3, 3), "end": (1, 1)}
+LENGTHS = {"set": (3, 3), "policy": (4, 4), "source": (3, 5), "route": (3, 4), "aaaa": (3, math.inf),
+           "a": (3, math.inf), "rtt": (3, 3), "used": (2, 2), "connect": (4, 4), "pause": (3, 3), "end": (1, 1)}
 MOST_LINES = {**dict.fromkeys(("policy", "source", "route"), MOST_LISTED), "pause": MOST_PAUSES, "aaaa": 1, "a": 1}
 # The words that a race has from version 2 on.
 NEW_GROUPS = ["rtt", "used"]
@@ -123,13 +121,8 @@ def scope(address):
 @kept
 def common(source, destination):
     """RFC 6724 section 2.2: the length of the common prefix, at most the source's prefix length."""
-    bits = bits_of(destination.family)
-    length = 0
-    while length < source.length and (
-        source.address.number >> (bits - length - 1) == destination.number >> (bits - length - 1)
-    ):
-        length += 1
-    return length
+    apart = (source.address.number ^ destination.number).bit_length()
+    return min(source.length, bits_of(destination.family) - apart)
 
 
 def read_parts(text):
@@ -154,23 +147,18 @@ def read_prefix(text):
 # The rules of RFC 6724
 
 
-STANDARD_ROWS = [
-    ("::1/128", 50, 0),
-    ("::/0", 40, 1),
-    ("::ffff:0:0/96", 35, 4),
-    ("2002::/16", 30, 2),
-    ("2001::/32", 5, 5),
-    ("fc00::/7", 3, 13),
-    ("::/96", 1, 3),
-    ("fec0::/10", 1, 11),
-    ("3ffe::/16", 1, 12),
-]
-STANDARD = [Row(read_prefix(text), precedence, label) for text, precedence, label in STANDARD_ROWS]
+STANDARD = [Row(read_prefix(text), precedence, label) for text, precedence, label in [
+    ("::1/128", 50, 0), ("::/0", 40, 1), ("::ffff:0:0/96", 35, 4), ("2002::/16", 30, 2), ("2001::/32", 5, 5),
+    ("fc00::/7", 3, 13), ("::/96", 1, 3), ("fec0::/10", 1, 11), ("3ffe::/16", 1, 12)]]
 
 
 @kept
 def is_v4_prefix(prefix):
     return prefix.length >= 96 and covers(MAPPED_BLOCK, prefix.number)
+
+
+def longest(matching):
+    return max(matching, key=lambda one: one.prefix.length, default=None)
 
 
 class Host:
@@ -183,16 +171,11 @@ class Host:
         self.row, self.route, self.ranked = kept(self.row), kept(self.route), kept(self.ranked)
 
     def row(self, address):
-        matching = [row for row in self.rows if covers(row.prefix, mapped(address))]
-        return max(matching, key=lambda row: row.prefix.length)
+        return longest(row for row in self.rows if covers(row.prefix, mapped(address)))
 
     def route(self, destination):
-        matching = [
-            route
-            for route in self.routes
-            if covers(route.prefix, mapped(destination)) and is_v4_prefix(route.prefix) == (destination.family == 4)
-        ]
-        return max(matching, key=lambda route: route.prefix.length, default=None)
+        return longest(route for route in self.routes if covers(route.prefix, mapped(destination))
+                       and is_v4_prefix(route.prefix) == (destination.family == 4))
 
     def candidates(self, destination):
         route = self.route(destination)
@@ -205,24 +188,18 @@ class Host:
 
     def is_better_source(self, one, two, destination):
         """RFC 6724 section 5: whether one goes before two."""
-        if (one.address == destination) != (two.address == destination):
-            return one.address == destination
-        if scope(one.address) != scope(two.address):
-            if scope(one.address) < scope(two.address):
-                return scope(one.address) >= scope(destination)
-            return scope(two.address) < scope(destination)
-        if one.deprecated != two.deprecated:
-            return two.deprecated
-        out = self.route(destination).interface
-        if (one.interface == out) != (two.interface == out):
-            return one.interface == out
-        label = self.row(destination).label
-        matches = [self.row(source.address).label == label for source in (one, two)]
-        if matches[0] != matches[1]:
-            return matches[0]
-        if one.temporary != two.temporary:
-            return one.temporary
-        return common(one, destination) > common(two, destination)
+        own, other = scope(one.address), scope(two.address)
+        if (one.address == destination) == (two.address == destination) and own != other:
+            return own >= scope(destination) if own < other else other < scope(destination)
+
+        def merits(source):
+            """What the other rules ask of a source, in order: of the first that differs, the greater goes first."""
+            is_out = source.interface == self.route(destination).interface
+            has_label = self.row(source.address).label == self.row(destination).label
+            return (source.address == destination, not source.deprecated, is_out, has_label, source.temporary,
+                    common(source, destination))
+
+        return merits(one) > merits(two)
 
     def source(self, destination):
         candidates = self.candidates(destination)
@@ -233,19 +210,13 @@ class Host:
 
     def facts(self, address):
         """What the destination rules ask of an address."""
-        source, route = self.source(address), self.route(address)
+        source, route, row = self.source(address), self.route(address), self.row(address)
         return {
-            "address": address,
-            "source": source,
-            "scope": scope(address),
-            "source scope": None if source is None else scope(source.address),
-            "label": self.row(address).label,
-            "source label": None if source is None else self.row(source.address).label,
-            "precedence": self.row(address).precedence,
-            "native": route is None or not route.tunnel,
-            "rtt": self.rtts.get(address),
-            "used": address in self.used,
-            "common": 0 if source is None else common(source, address),
+            "address": address, "source": source, "scope": scope(address), "label": row.label,
+            "source scope": source and scope(source.address), "source label": source and self.row(source.address).label,
+            "precedence": row.precedence, "native": route is None or not route.tunnel,
+            "rtt": self.rtts.get(address), "used": address in self.used,
+            "common": common(source, address) if source else 0,
         }
 
     def ranked(self, addresses):
@@ -260,33 +231,30 @@ class Host:
         return [places[place] for place in range(len(facts))]
 
 
+# RFC 6724 section 6, with the two rules that RFC 8305 section 4 adds: what each rule asks of an address, by its facts;
+# of the first rule that tells two addresses apart, the greater goes first.
+MERITS = {
+    "1": lambda fact: fact["source"] is not None,
+    "2": lambda fact: fact["scope"] == fact["source scope"],
+    "3": lambda fact: fact["source"] is not None and not fact["source"].deprecated,
+    "5": lambda fact: fact["label"] == fact["source label"],
+    "6": lambda fact: fact["precedence"],
+    "7": lambda fact: fact["native"],
+    "8": lambda fact: -fact["scope"],
+    # A round trip time that is not known counts as greater than each that is.
+    "8a": lambda fact: -math.inf if fact["rtt"] is None else -fact["rtt"],
+    "8b": lambda fact: fact["used"],
+    "9": lambda fact: fact["common"],
+}
+
+
 def deciding_rule(one, two):
-    """RFC 6724 section 6, with the two rules that RFC 8305 section 4 adds: the first rule that tells two addresses
-    apart, and whether one goes first by it (None: the one that stood first)."""
-    reached = [one["source"] is not None, two["source"] is not None]
-    if reached[0] != reached[1]:
-        return "1", reached[0]
-    if all(reached):
-        scopes, labels = ([fact[of] == fact["source " + of] for fact in (one, two)] for of in ("scope", "label"))
-        if scopes[0] != scopes[1]:
-            return "2", scopes[0]
-        if one["source"].deprecated != two["source"].deprecated:
-            return "3", two["source"].deprecated
-        if labels[0] != labels[1]:
-            return "5", labels[0]
-    if one["precedence"] != two["precedence"]:
-        return "6", one["precedence"] > two["precedence"]
-    if one["native"] != two["native"]:
-        return "7", one["native"]
-    if one["scope"] != two["scope"]:
-        return "8", one["scope"] < two["scope"]
-    if one["rtt"] != two["rtt"]:
-        # A round trip time that is not known counts as greater than each that is.
-        return "8a", two["rtt"] is None or one["rtt"] is not None and one["rtt"] < two["rtt"]
-    if one["used"] != two["used"]:
-        return "8b", one["used"]
-    if all(reached) and one["address"].family == two["address"].family and one["common"] != two["common"]:
-        return "9", one["common"] > two["common"]
+    """The first rule that tells two addresses apart, and whether one goes first by it (None: the one that stood
+    first). Rule 9 compares addresses of one family."""
+    for rule, merit in MERITS.items():
+        own, other = merit(one), merit(two)
+        if own != other and (rule != "9" or one["address"].family == two["address"].family):
+            return rule, own > other
     return "10", None
 
 
@@ -397,40 +365,33 @@ class Race:
     def attempts(self):
         """Pairs of start and address."""
         tried, made = [], []
+        def is_start(tick):
+            may_start = self.seen(tick) == tick and (self.may_follow(made, tick) if made else self.may_begin(tick))
+            return may_start and not set(self.received(tick)) <= set(tried)
+
         while len(tried) < len(self.usable("aaaa") + self.usable("a")):
-            for tick in self.ticks_behind(made):
-                if self.seen(tick) != tick or not (self.may_follow(made, tick) if made else self.may_begin(tick)):
-                    continue
-                if all(address in tried for address in self.received(tick)):
-                    continue
-                address = next(address for address in self.listed(tick) if address not in tried)
-                tried.append(address)
-                made.append((tick, address))
+            tick = next(filter(is_start, self.ticks_behind(made)), None)
+            if tick is None:
                 break
-            else:
-                break
+            tried.append(next(address for address in self.listed(tick) if address not in tried))
+            made.append((tick, tried[-1]))
         return made
 
     @cached_property
     def report(self):
         """What its transcript tells."""
-        limit, attempts, finishes = self.setting("limit"), self.attempts(), []
-        for start, address in attempts:
-            end = self.finish(start, address)
-            finishes.append(None if end is None or end[1] > limit else end)
+        limit, attempts = self.setting("limit"), self.attempts()
+        finishes = [end if end and end[1] <= limit else None for end in (self.finish(*attempt) for attempt in attempts)]
         successes = [(end[1], place) for place, end in enumerate(finishes) if end and end[0] == "ok"]
         stop, winner = min(successes, default=(limit, None))
-        lines = []
-        for place, ((start, address), end) in enumerate(zip(attempts, finishes)):
-            if start >= stop:
-                continue
-            if place == winner:
-                fate, tick = "won", stop
-            elif end and end[0] == "fail" and end[1] <= stop:
-                fate, tick = "failed", end[1]
-            else:
-                fate, tick = "cancelled", stop
-            lines.append(Line(place, start, address, fate, tick))
+
+        def fate(place, end):
+            if end and end[0] == "fail" and end[1] <= stop:
+                return "failed", end[1]
+            return "won" if place == winner else "cancelled", stop
+
+        lines = [Line(place, start, address, *fate(place, end))
+                 for place, ((start, address), end) in enumerate(zip(attempts, finishes)) if start < stop]
         return Report(lines, self.result(attempts, finishes, stop, winner))
 
     def result(self, attempts, finishes, stop, winner):
@@ -438,8 +399,7 @@ class Race:
         if winner is not None:
             return Result("won", winner, stop)
         answered = self.is_seen("aaaa", limit) and self.is_seen("a", limit)
-        all_tried = len(attempts) == len(self.usable("aaaa")) + len(self.usable("a"))
-        if answered and all_tried and all(finishes):
+        if answered and all(finishes) and len(attempts) == len(self.usable("aaaa") + self.usable("a")):
             ticks = [self.seen(answer.tick) for answer in self.answers.values()] + [end[1] for end in finishes]
             return Result("exhausted", None, max(ticks))
         return Result("limit", None, limit)
@@ -460,16 +420,21 @@ def transcript(race):
 
 
 def order(race):
-    lines = []
-    for place, fact in enumerate(race.ranked()):
-        name = "none" if fact["source"] is None else print_address(fact["source"].address)
-        lines.append(f"{place} {print_address(fact['address'])} from {name}\n")
-    return "".join(lines) + "end\n"
+    def source(fact):
+        return print_address(fact["source"].address) if fact["source"] else "none"
+
+    return "".join(f"{place} {print_address(fact['address'])} from {source(fact)}\n"
+                   for place, fact in enumerate(race.ranked())) + "end\n"
 
 
 def counted(number, one, many=None):
     """The number with its noun, by default with an s for more or none."""
     return f"{number} {one if number == 1 else many or one + 's'}"
+
+
+def one_line(value):
+    """An object of JSON."""
+    return json.dumps(value, separators=(",", ":"), ensure_ascii=False) + "\n"
 
 
 # Texts of timelines and their faults, check by check
@@ -505,36 +470,30 @@ class Reader:
     """Reads one race from the lines of a text; a line is its bytes without the line feed, as Latin-1."""
 
     def __init__(self, version, line):
-        self.race, self.version, self.group, self.counts = Race(line), version, -1, {}
+        self.race, self.version, self.group, self.counts = Race(line), version, 0, Counter()
 
     def line(self, line, next_line):
         """Reads a line; true for the last one. The next line is None where no whole one of fit length follows."""
         tokens = line.split(" ")
-        word = tokens[0]
-        if word not in GROUPS or GROUPS.index(word) < self.group:
-            raise Fault("word")
+        word, is_answer = tokens[0], tokens[0] in ("aaaa", "a")
+        keyword(word, GROUPS[self.group:])
         if self.version == 1 and word in NEW_GROUPS:
             raise Fault("word")
         self.group = GROUPS.index(word)
-        self.counts[word] = self.counts.get(word, 0) + 1
-        if self.counts[word] > MOST_LINES.get(word, self.counts[word]):
-            raise Fault("repeated" if word in ("aaaa", "a") else "too many")
-        self.check_length(word, len(tokens))
-        if word == "end":
-            return True
-        getattr(self, "answer" if word in ("aaaa", "a") else word)(tokens)
-        if word == "policy" and (next_line is None or next_line.split(" ")[0] != "policy"):
-            self.check_table()
-        if word == "set" and (next_line is None or next_line.split(" ")[0] != "set"):
-            self.check_floor()
-        return False
-
-    def check_length(self, word, length):
+        self.counts[word] += 1
+        if self.counts[word] > MOST_LINES.get(word, math.inf):
+            raise Fault("repeated" if is_answer else "too many")
         least, most = LENGTHS[word]
-        if length < least or most is not None and length > most:
+        if not least <= len(tokens) <= most:
             raise Fault("word")
-        if word in ("aaaa", "a") and length - 2 > MOST_ADDRESSES:
+        if is_answer and len(tokens) - 2 > MOST_ADDRESSES:
             raise Fault("too many")
+        if word != "end":
+            getattr(self, "answer" if is_answer else word)(tokens)
+        # (the last of these lines)
+        if word in ("policy", "set") and (next_line or "").split(" ")[0] != word:
+            self.check_table() if word == "policy" else self.check_floor()
+        return word == "end"
 
     def set(self, tokens):
         name = keyword(tokens[1], [name for name in SETTINGS if SETTINGS[name][3] <= self.version])
@@ -555,15 +514,12 @@ class Reader:
 
     def check_table(self):
         rows = self.race.rows
-        if ALL not in [row.prefix for row in rows]:
-            raise Fault("policy has no ::/0")
-        if MAPPED_BLOCK not in [row.prefix for row in rows]:
-            raise Fault("policy has no ::ffff:0:0/96")
-        for one, first in enumerate(rows):
-            for two, second in enumerate(rows):
-                same = first.precedence == second.precedence
-                if one < two and same and is_v4_prefix(first.prefix) != is_v4_prefix(second.prefix):
-                    raise Fault(f"policy rows {one} and {two} share a precedence")
+        for prefix, text in ((ALL, "::/0"), (MAPPED_BLOCK, "::ffff:0:0/96")):
+            if prefix not in [row.prefix for row in rows]:
+                raise Fault(f"policy has no {text}")
+        for (one, first), (two, second) in itertools.combinations(enumerate(rows), 2):
+            if first.precedence == second.precedence and is_v4_prefix(first.prefix) != is_v4_prefix(second.prefix):
+                raise Fault(f"policy rows {one} and {two} share a precedence")
 
     def source(self, tokens):
         parts = read_parts(tokens[1])
@@ -574,18 +530,14 @@ class Reader:
             raise Fault("address")
         interface = number(tokens[2], 1, MOST_WORD)
         marks = tokens[3:]
-        if len(marks) == 1:
-            keyword(marks[0], ["deprecated", "temporary"])
-        elif len(marks) == 2 and marks != ["deprecated", "temporary"]:
-            raise Fault("word")
+        keyword(marks, [[], ["deprecated"], ["temporary"], ["deprecated", "temporary"]])
         once(address, [source.address for source in self.race.sources])
         self.race.sources.append(Source(address, length, interface, "deprecated" in marks, "temporary" in marks))
 
     def route(self, tokens):
         prefix = prefix_of(tokens[1])
         interface = number(tokens[2], 1, MOST_WORD)
-        if len(tokens) == 4:
-            keyword(tokens[3], ["tunnel"])
+        keyword(tokens[3:], [[], ["tunnel"]])
         once(prefix, [route.prefix for route in self.race.routes])
         self.race.routes.append(Route(prefix, interface, len(tokens) == 4))
 
@@ -643,20 +595,16 @@ def read_text(text):
         if reader is None and not is_whole and line == "":
             return races, None
         try:
-            if reader is None and len(races) == MOST_RACES:
-                raise Fault("too many")
-            if len(line) > MOST_LINE_BYTES:
+            if reader is None and len(races) == MOST_RACES or len(line) > MOST_LINE_BYTES:
                 raise Fault("too many")
             if not is_whole:
                 raise Fault("unfinished")
+            if reader is None and line not in HEADERS:
+                raise Fault("header")
+            next_line, follows = lines[place + 1]
             if reader is None:
-                if line not in HEADERS:
-                    raise Fault("header")
                 reader = Reader(HEADERS[line], place + 1)
-                continue
-            follows = lines[place + 1]
-            next_line = follows[0] if follows[1] and len(follows[0]) <= MOST_LINE_BYTES else None
-            if reader.line(line, next_line):
+            elif reader.line(line, next_line if follows and len(next_line) <= MOST_LINE_BYTES else None):
                 races.append(reader.race)
                 reader = None
         except Fault as fault:

@@ -3,11 +3,11 @@ docs/DEFINITIONS.md and crates/he_compare/specs.
 
 needs: python3, its standard library alone
 """
-import json
 from collections import Counter
 
 import plain
-from plain_summary import percentile
+from plain import one_line
+from plain_summary import percentiles, rounded
 
 VERDICTS = ("sooner", "later", "same", "only_with", "only_without")
 # What the lines and the objects of races say.
@@ -15,7 +15,7 @@ LINE_WORDS = {"sooner": "sooner", "later": "later", "same": "the same", "only_wi
               "only_without": "won only without", "neither": "not won either way"}
 ENDINGS = {"won": "connected to {1} after {0} ms", "exhausted": "not connected: nothing is left to try after {0} ms",
            "limit": "not connected by the limit of {0} ms"}
-HEADING = ("    p50    p90    p99  attempts    IPv6  sooner   later    same  only with  only without  settings\n")
+HEADING = "    p50    p90    p99  attempts    IPv6  sooner   later    same  only with  only without  settings\n"
 
 
 def verdict_of(own, other):
@@ -25,11 +25,6 @@ def verdict_of(own, other):
     if other.kind == "won":
         return "only_with"
     return "only_without" if own.kind == "won" else "neither"
-
-
-def rounded(number, of, unit):
-    """So many units of a share or a mean, rounded to the nearest."""
-    return (2 * unit * number + of) // (2 * of)
 
 
 def rows_of(words):
@@ -44,66 +39,47 @@ def rows_of(words):
     return rows
 
 
-def row_of(races, changes):
+def row_of(races, changes, label):
     reports = [race.changed(changes).report for race in races]
     won = [report for report in reports if report.result.kind == "won"]
+    verdicts = Counter(verdict_of(race.report.result, report.result) for race, report in zip(races, reports))
     return {
         "races": len(reports), "won": len(won),
         "ipv6": sum(report.lines[report.result.place].address.family == 6 for report in won),
-        "times": [report.result.tick for report in won],
+        "connect_ms": percentiles([report.result.tick for report in won], ("median", "p90", "p99")),
         "attempts": sum(len(report.lines) for report in reports),
-        "verdicts": Counter(verdict_of(race.report.result, report.result) for race, report in zip(races, reports)),
+        **{verdict: verdicts[verdict] for verdict in VERDICTS}, "settings": label,
     }
 
 
-def as_text(row, label):
-    times = [percentile(row["times"], percent) for percent in (50, 90, 99)] if row["times"] else ["-"] * 3
+def as_text(row):
+    times = row["connect_ms"] or dict.fromkeys(("median", "p90", "p99"), "-")
     mean = rounded(row["attempts"], row["races"], 100) if row["races"] else 0
     share = rounded(row["ipv6"], row["won"], 1000) if row["won"] else None
-    cells = "".join(f"{time:>7}" for time in times) + f"{mean // 100:>7}.{mean % 100:02}"
+    cells = "".join(f"{time:>7}" for time in times.values()) + f"{mean // 100:>7}.{mean % 100:02}"
     cells += "       -" if share is None else f"{share // 10:>4}.{share % 10} %"
-    for width, verdict in zip((8, 8, 8, 11, 14), VERDICTS):
-        cells += f"{row['verdicts'][verdict]:>{width}}"
-    return f"{cells}  {label}\n"
+    cells += "".join(f"{row[verdict]:>{width}}" for width, verdict in zip((8, 8, 8, 11, 14), VERDICTS))
+    return f"{cells}  {row['settings']}\n"
 
 
-def as_object(row, label):
-    times = {name: percentile(row["times"], percent) for name, percent in (("median", 50), ("p90", 90), ("p99", 99))} \
-        if row["times"] else None
-    return {"races": row["races"], "won": row["won"], "ipv6": row["ipv6"], "connect_ms": times,
-            "attempts": row["attempts"], **{verdict: row["verdicts"][verdict] for verdict in VERDICTS},
-            "settings": label}
-
-
-def line_of(number, race, changes, label):
+def line_of(number, race, changes, label, is_json):
     report = race.changed(changes).report
     kind, place, tick = report.result
-    address = plain.print_address(report.lines[place].address) if kind == "won" else ""
-    verdict = LINE_WORDS[verdict_of(race.report.result, report.result)]
-    return f"-:{race.line} race {number}: {ENDINGS[kind].format(tick, address)}, {verdict} ({label})\n"
-
-
-def line_object(number, race, changes, label):
-    report = race.changed(changes).report
-    kind, place, tick = report.result
-    told = {"file": "-", "race": number, "line": race.line, "ended": kind}
-    if kind == "won":
-        told["address"] = plain.print_address(report.lines[place].address)
-    told["ms"] = tick
-    told["verdict"] = verdict_of(race.report.result, report.result).replace("_", " ")
-    told["settings"] = label
-    return json.dumps(told, separators=(",", ":")) + "\n"
+    address = {"address": plain.print_address(report.lines[place].address)} if kind == "won" else {}
+    verdict = verdict_of(race.report.result, report.result)
+    if is_json:
+        return one_line({"file": "-", "race": number, "line": race.line, "ended": kind, **address, "ms": tick,
+                         "verdict": verdict.replace("_", " "), "settings": label})
+    ending = ENDINGS[kind].format(tick, *address.values())
+    return f"-:{race.line} race {number}: {ending}, {LINE_WORDS[verdict]} ({label})\n"
 
 
 def written_for(races, rows, is_json, tells_races):
-    make = line_object if is_json else line_of
-    lines = [make(number, race, changes, label) for number, race in enumerate(races, 1) for label, changes in rows]
-    made = [(row_of(races, changes), label) for label, changes in rows]
-    if is_json:
-        table = json.dumps({"rows": [as_object(*one) for one in made]}, separators=(",", ":")) + "\n"
-    else:
-        table = HEADING + "".join(as_text(*one) for one in made)
-    return ("".join(lines if tells_races else []) + table).encode()
+    lines = [line_of(number, race, changes, label, is_json) for number, race in enumerate(races, 1)
+             for label, changes in rows] if tells_races else []
+    made = [row_of(races, changes, label) for label, changes in rows]
+    table = [one_line({"rows": made})] if is_json else [HEADING, *map(as_text, made)]
+    return "".join(lines + table).encode()
 
 
 def written(races, changes):

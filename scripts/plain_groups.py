@@ -6,14 +6,13 @@ needs: python3, its standard library alone
 usage: scripts/plain_groups.py file|hour|family [--json] [NAME=N ..] FILE ..
            with these settings in place of each race's own, as with --set
 """
-import json
 import pathlib
 import re
 import sys
 
 import plain
 import plain_summary
-from plain_compared import rounded
+from plain_summary import rounded
 
 GROUPINGS = ("file", "hour", "family")
 # The name of a record, as `he proxy --record` gives it, with its day and its hour.
@@ -56,7 +55,7 @@ def share(number, of):
 
 
 def as_text(summary, label):
-    times = plain_summary.percentiles(summary.times) if summary.times else None
+    times = plain_summary.percentiles(summary.times)
     cells = f"{summary.races:>7}{share(summary.kinds['won'], summary.races)}"
     cells += "".join(f"{times[name] if times else '-':>7}" for name in PERCENTS.values())
     mean = rounded(summary.attempts, summary.races, 100)
@@ -65,9 +64,9 @@ def as_text(summary, label):
 
 
 def as_object(summary, label):
-    told = json.loads(plain_summary.as_json(summary, 0))
+    told = plain_summary.as_object(summary, 0)
     del told["failing"]
-    return json.dumps({**told, "group": label}, separators=(",", ":"), ensure_ascii=False) + "\n"
+    return plain.one_line({**told, "group": label})
 
 
 def written_of(by, files, changes, is_json=False):

@@ -3,11 +3,9 @@ apart from the program, as plain.py is of the rules: by docs/DEFINITIONS.md, the
 
 needs: python3, its standard library alone
 """
-import json
-
 import plain
 import plain_story
-from plain import print_address
+from plain import one_line, print_address
 
 # The names of the rules of RFC 6724 section 6 and RFC 8305 section 4.
 RULES = {
@@ -19,12 +17,6 @@ RULES = {
 # What a rule compares: of an address with the one before it, or with its own source.
 COMPARED = {"6": "precedence", "8": "scope", "8a": "rtt", "9": "common"}
 OF_SOURCE = {"2": ("scope", "source scope"), "5": ("label", "source label")}
-
-
-def line_of(number, race, value):
-    """The object of the race of this number on one line."""
-    whole = {"file": None, "race": number, "line": race.line, **value}
-    return json.dumps(whole, separators=(",", ":")) + "\n"
 
 
 def attempt(line):
@@ -60,7 +52,7 @@ def order(race):
 
 
 def lines_of(races, changes, value_of):
-    return "".join(line_of(number, race, value_of(race))
+    return "".join(one_line({"file": None, "race": number, "line": race.line, **value_of(race)})
                    for number, race in enumerate((race.changed(changes) for race in races), 1)).encode()
 
 

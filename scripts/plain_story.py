@@ -9,7 +9,7 @@ import plain
 from plain import counted, print_address
 
 NAMES = {"aaaa": "AAAA", "a": "A"}
-FAMILIES = {"aaaa": 6, "a": 4}
+WORDS = {6: "aaaa", 4: "a"}
 OTHER = {"aaaa": "a", "a": "aaaa"}
 LEAST_FLOOR = plain.SETTINGS["floor"][0]
 # Blocks whose addresses stand for something else: RFC 6052, RFC 3056, RFC 4380.
@@ -28,21 +28,18 @@ Cause = namedtuple("Cause", "words due name delay after", defaults=(None, None))
 
 def ending(report):
     kind, place, tick = report.result
-    attempts = counted(len(report.lines), "attempt")
     if kind == "won":
         return f"connected to {print_address(report.lines[place].address)} after {tick} ms"
-    if kind == "exhausted":
-        return f"not connected: nothing is left to try after {tick} ms and {attempts}"
-    return f"not connected by the limit of {tick} ms, after {attempts}"
+    why = {"exhausted": f": nothing is left to try after {tick} ms and", "limit": f" by the limit of {tick} ms, after"}
+    return f"not connected{why[kind]} {counted(len(report.lines), 'attempt')}"
 
 
 def between(race, report, winner):
     """What stood between the winner's answer and its attempt."""
     waited = ["the wait for the AAAA answer"] if winner.address.family == 4 and waits(race) else []
-    stood = []
-    for line in report.lines[:winner.place]:
-        had_failed = line.fate == "failed" and line.tick <= winner.start
-        stood.append(f"{print_address(line.address)} {'failed' if had_failed else 'gave no answer'}")
+    fates = ["gave no answer", "failed"]
+    stood = [f"{print_address(line.address)} {fates[line.fate == 'failed' and line.tick <= winner.start]}"
+             for line in report.lines[:winner.place]]
     more = f" and {len(stood) - MAX_NAMED} more" if len(stood) > MAX_NAMED else ""
     return ", ".join(waited + stood[:MAX_NAMED]) + more
 
@@ -53,7 +50,7 @@ def verdict(race, report):
     if kind != "won":
         return ending(report)
     winner = report.lines[place]
-    lost = winner.start - race.seen(tick_of(race, "aaaa" if winner.address.family == 6 else "a"))
+    lost = winner.start - race.seen(tick_of(race, WORDS[winner.address.family]))
     told = f"{lost} ms lost: {between(race, report, winner)}" if lost > 0 else "nothing lost"
     return f"{ending(report)}; {told}"
 
@@ -96,15 +93,11 @@ def reason(earlier, later):
 
 
 def preferred(race):
-    facts, lines = race.ranked(), []
-    if not facts:
-        return ["no address to try"]
-    width = len(str(len(facts))) + 2
-    for number, fact in enumerate(facts, 1):
-        why = reason(facts[number - 2], fact) if number > 1 else ""
-        told = f"{print_address(fact['address'])}{kind(fact['address'])}{reached(race, fact)}{why}"
-        lines.append(f"{number:>{width}}. {told}")
-    return ["preferred, once every answer is known:", *lines]
+    facts = race.ranked()
+    width, whys = len(str(len(facts))) + 2, ["", *map(reason, facts, facts[1:])]
+    lines = [f"{number:>{width}}. {print_address(fact['address'])}{kind(fact['address'])}{reached(race, fact)}{why}"
+             for number, (fact, why) in enumerate(zip(facts, whys), 1)]
+    return ["preferred, once every answer is known:", *lines] if facts else ["no address to try"]
 
 
 # Why an attempt started, and which address came next: RFC 8305 sections 3 to 5
@@ -139,7 +132,7 @@ def later_cause(race, before, line):
     if floor is not None and None not in failures:
         waited.append(max(last.start + floor, *failures))
     if any(race.seen(tick) < line.start for tick in waited):
-        name = "aaaa" if line.address.family == 6 else "a"
+        name = WORDS[line.address.family]
         return Cause(f"it came with the {NAMES[name]} answer", tick_of(race, name), f"later {name} answer")
     if line.start >= last.start + delay:
         words = f"{delay} ms after the start of attempt {last.place + 1}"
@@ -191,15 +184,13 @@ def started(race, before, line):
 
 
 def answers(race):
-    events = []
-    for name in ("aaaa", "a"):
+    for name, other in OTHER.items():
         if name in race.answers:
-            tick, other, usable = race.seen(tick_of(race, name)), OTHER[name], len(race.usable(name))
+            tick, usable = race.seen(tick_of(race, name)), len(race.usable(name))
             missing = "" if race.is_seen(other, tick) else f"; the {NAMES[other]} answer is not there yet"
             to_try = counted(usable, "address", "addresses")
             told = f"{NAMES[name]} answer{late(race, tick)}: {to_try} to try{missing}"
-            events.append((tick, {"event": "answer", "family": name, "usable": usable}, told))
-    return events
+            yield tick, {"event": "answer", "family": name, "usable": usable}, told
 
 
 def waits(race):
@@ -231,7 +222,7 @@ def events(race, report):
     kind, _, tick = report.result
     told = [(start, {"event": "pause", "until": end}, f"pause: the client sees and starts nothing until {end} ms")
             for start, end in race.pauses if start < tick]
-    told += answers(race) + waits(race) + ends(race, report, "failed")
+    told += [*answers(race)] + waits(race) + ends(race, report, "failed")
     told += [started(race, report.lines[:line.place], line) for line in report.lines]
     told += ends(race, report, "won") if kind == "won" else [(tick, {"event": kind}, over[kind])]
     told += ends(race, report, "cancelled")
@@ -256,7 +247,7 @@ def waited(race, report, name):
         return [f"the {NAMES[name]} answer came at {seen} ms, after the end"]
     if not race.usable(name):
         return []
-    starts = [line.start for line in report.lines if line.address.family == FAMILIES[name]]
+    starts = [line.start for line in report.lines if WORDS[line.address.family] == name]
     if not starts:
         return [f"no address of the {NAMES[name]} answer was tried"]
     passed = starts[0] - seen

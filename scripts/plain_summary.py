@@ -3,11 +3,10 @@ docs/DEFINITIONS.md and crates/he_summary/specs.
 
 needs: python3, its standard library alone
 """
-import json
 from collections import Counter, namedtuple
 
 import plain
-from plain import counted, print_address
+from plain import counted, one_line, print_address
 
 # How many of the addresses are told to which attempts failed or were silent.
 MOST_TOLD = 10
@@ -66,11 +65,16 @@ def losses(won):
     return lost
 
 
+def rounded(number, of, unit):
+    """So many units of a share or a mean, rounded to the nearest."""
+    return (2 * unit * number + of) // (2 * of)
+
+
 def share(number, of):
-    """A share in percent, to a tenth, rounded to the nearest; of none there is none."""
+    """A share in percent, to a tenth; of none there is none."""
     if not of:
         return ""
-    tenths = (2000 * number + of) // (2 * of)
+    tenths = rounded(number, of, 1000)
     return f" ({tenths // 10}.{tenths % 10} %)"
 
 
@@ -96,7 +100,8 @@ def worst(summary):
 
 
 def percentiles(times, names=tuple(PERCENTS)):
-    return {name: percentile(times, PERCENTS[name]) for name in names}
+    """By their names; of no times none."""
+    return {name: percentile(times, PERCENTS[name]) for name in names} if times else None
 
 
 def lost_text(summary, dead, what):
@@ -109,30 +114,27 @@ def lost_text(summary, dead, what):
 
 
 def as_text(summary, slowest):
-    times = percentiles(summary.times) if summary.times else None
+    times, addresses, slow = percentiles(summary.times), worst(summary), summary.slowest[:slowest]
     kinds = [("won", summary.kinds["won"]), ("by IPv6", summary.won[6]), ("by IPv4", summary.won[4]),
              ("exhausted", summary.kinds["exhausted"]), ("at the limit", summary.kinds["limit"])]
     lines = [
         f"{counted(summary.races, 'race')}: "
         + ", ".join(f"{number} {kind}{share(number, summary.races)}" for kind, number in kinds),
-        "no race was won" if times is None else
-        f"time to connect: median {times['median']} ms, 90 of 100 within {times['p90']} ms, 99 of 100 within"
-        f" {times['p99']} ms, greatest {times['greatest']} ms",
+        "time to connect: median {median} ms, 90 of 100 within {p90} ms, 99 of 100 within {p99} ms, greatest {greatest}"
+        " ms".format(**times) if times else "no race was won",
         lost_text(summary, "failed", "addresses that failed"),
         lost_text(summary, "silent", "silent addresses"),
         f"attempts: {summary.attempts}, at most {summary.most} in a race",
         f"the Resolution Delay was waited out in {counted(summary.waited, 'race')}"
         + share(summary.waited, summary.races),
+        *["failed or silent most often:"] * bool(addresses),
+        *(f"  {summary.failed[address]} failed, {summary.silent[address]} silent of"
+          f" {counted(summary.tried[address], 'attempt')} to {print_address(address)}" for address in addresses),
+        *["slowest:"] * bool(slow),
+        *(f"  -:{race.line} race {number}: {report.result.tick} ms to"
+          f" {print_address(report.lines[report.result.place].address)}, {lost_time(race, report)} ms lost"
+          for number, race, report in slow),
     ]
-    addresses = worst(summary)
-    lines += ["failed or silent most often:"] if addresses else []
-    lines += [f"  {summary.failed[address]} failed, {summary.silent[address]} silent of"
-              f" {counted(summary.tried[address], 'attempt')} to {print_address(address)}" for address in addresses]
-    slow = summary.slowest[:slowest]
-    lines += ["slowest:"] if slow else []
-    lines += [f"  -:{race.line} race {number}: {report.result.tick} ms to"
-              f" {print_address(report.lines[report.result.place].address)}, {lost_time(race, report)} ms lost"
-              for number, race, report in slow]
     return "".join(f"{line}\n" for line in lines)
 
 
@@ -140,23 +142,21 @@ def lost_json(times):
     return {"races": len(times), "total": sum(times), **percentiles(times, ("median", "greatest"))} if times else None
 
 
-def as_json(summary, slowest):
+def as_object(summary, slowest):
     failing = [{"failed": summary.failed[address], "silent": summary.silent[address],
                 "attempts": summary.tried[address], "address": print_address(address)} for address in worst(summary)]
-    told = {
+    slow = [{"file": "-", "race": number, "line": race.line, "ms": report.result.tick,
+             "address": print_address(report.lines[report.result.place].address), "lost_ms": lost_time(race, report)}
+            for number, race, report in summary.slowest[:slowest]]
+    return {
         "races": summary.races,
         "won": {"all": summary.kinds["won"], "ipv6": summary.won[6], "ipv4": summary.won[4]},
         "exhausted": summary.kinds["exhausted"], "limit": summary.kinds["limit"],
-        "connect_ms": percentiles(summary.times) if summary.times else None,
+        "connect_ms": percentiles(summary.times),
         "lost_ms": {dead: lost_json(summary.lost[dead]) for dead in ("failed", "silent")},
         "attempts": {"total": summary.attempts, "most": summary.most}, "resolution_delay": summary.waited,
-        "failing": failing}
-    if slowest:
-        told["slowest"] = [
-            {"file": "-", "race": number, "line": race.line, "ms": report.result.tick,
-             "address": print_address(report.lines[report.result.place].address), "lost_ms": lost_time(race, report)}
-            for number, race, report in summary.slowest[:slowest]]
-    return json.dumps(told, separators=(",", ":")) + "\n"
+        "failing": failing, **({"slowest": slow} if slowest else {}),
+    }
 
 
 def written(races, changes, slowest=0):
@@ -164,4 +164,4 @@ def written(races, changes, slowest=0):
 
 
 def written_json(races, changes, slowest=0):
-    return as_json(summed(races, changes), slowest).encode()
+    return one_line(as_object(summed(races, changes), slowest)).encode()

@@ -2,10 +2,21 @@
 the synopsis of the manual page. scripts/manual compares these with the files, or writes them."""
 import re
 import subprocess
+from collections import namedtuple
 from dataclasses import dataclass
 
 SETTINGS = ("attempt", "resolution", "count", "limit", "floor")
+NAMES_OF_SETTINGS = " ".join(f"{name}=" for name in SETTINGS)
 GROUPS = "file hour family"
+# How a value is completed: bash's option of compopt and its words for compgen, what fish has, zsh's action.
+Values = namedtuple("Values", "compopt compgen fish zsh")
+VALUES = {
+    "FILE": Values("filenames", "-f", " -r -F", ":file:_files"),
+    "PORT": Values("", "-A service", " -x", ":port:_ports"),
+    "RESOLVER": Values("", "-W system", " -x -a system", ":resolver:(system)"),
+    "GROUP": Values("", f"-W '{GROUPS}'", f" -x -a '{GROUPS}'", f":group:({GROUPS})"),
+    "NAME=N": Values("nospace", f"-W '{NAMES_OF_SETTINGS}'", f" -x -a '{NAMES_OF_SETTINGS}'", ":setting:_he_settings"),
+}
 
 
 @dataclass
@@ -55,11 +66,11 @@ def options_of(text):
         if head and (head[1] or head[2]):
             names = {name for name in head.groups()[:2] if name}
             is_required = any(re.search(rf"(?<!\[){re.escape(name)} <", usage) for name in names)
-            options.append(Option(head[1] or "", head[2] or "", head[3] or "", head[5], is_required, bool(head[4]), bool(head[4])))
+            options.append(Option(*(word or "" for word in head.group(1, 2, 3, 5)), is_required,
+                                  bool(head[4]) or "repeatable" in head[5], bool(head[4])))
         elif options:
             options[-1].help += " " + line.strip()
-    for option in options:
-        option.is_repeated |= "repeatable" in option.help
+            options[-1].is_repeated |= "repeatable" in options[-1].help
     return options
 
 
@@ -126,20 +137,13 @@ def bash_values(commands):
     """The lines of a case on `COMMAND OPTION`, for the options that have values."""
     by_value = {}
     for command in commands:
-        for option in command.options:
-            if option.value:
-                by_value.setdefault(option.kind(), []).extend(f'"{command.name} {name}"' for name in option.names())
-    answers = {
-        "FILE": 'compopt -o filenames; mapfile -t COMPREPLY < <(compgen -f -- "$word"); return',
-        "PORT": 'mapfile -t COMPREPLY < <(compgen -A service -- "$word"); return',
-        "RESOLVER": 'mapfile -t COMPREPLY < <(compgen -W system -- "$word"); return',
-        "GROUP": f"mapfile -t COMPREPLY < <(compgen -W '{GROUPS}' -- \"$word\"); return",
-        "NAME=N": "compopt -o nospace; mapfile -t COMPREPLY < <(compgen -W '"
-        + " ".join(f"{name}=" for name in SETTINGS)
-        + '\' -- "$word"); return',
-    }
+        for option in filter(lambda option: option.value, command.options):
+            by_value.setdefault(option.kind(), []).extend(f'"{command.name} {name}"' for name in option.names())
     for value, names in by_value.items():
-        yield f"        {' | '.join(names)})\n            {answers.get(value, 'return')} ;;"
+        compopt, compgen, *_ = VALUES.get(value, ("", ""))
+        words = [f"compopt -o {compopt}"] * bool(compopt)
+        words += [f'mapfile -t COMPREPLY < <(compgen {compgen} -- "$word")'] * bool(compgen)
+        yield f"        {' | '.join(names)})\n            {'; '.join([*words, 'return'])} ;;"
 
 
 def bash(commands):
@@ -160,92 +164,83 @@ def quoted(text):
     return "'" + text.replace("'", "'\\''") + "'"
 
 
+FISH = """\
+# Completion of the command line of he in fish. Written by scripts/manual --write from the help of the program.
+# Installed as PREFIX/share/fish/vendor_completions.d/he.fish.
+complete -c he -f
+"""
+
+
 def fish(commands):
-    names = " ".join(command.name for command in commands[1:])
-    lines = [
-        "# Completion of the command line of he in fish. Written by scripts/manual --write from the help of the program.",
-        "# Installed as PREFIX/share/fish/vendor_completions.d/he.fish.",
-        "complete -c he -f",
-    ]
-    lines += [f"complete -c he -n __fish_use_subcommand -a {c.name} -d {quoted(c.about)}" for c in commands[1:]]
-    lines.append(f"complete -c he -n '__fish_seen_subcommand_from help' -a '{names}'")
+    lines = [f"__fish_use_subcommand -a {c.name} -d {quoted(c.about)}" for c in commands[1:]]
+    lines.append(f"'__fish_seen_subcommand_from help' -a '{' '.join(command.name for command in commands[1:])}'")
     for command in commands:
         where = f"'__fish_seen_subcommand_from {command.name}'" if command.name else "__fish_use_subcommand"
-        if command.words[:1] == ["FILE"]:
-            lines.append(f"complete -c he -n {where} -F")
-        if command.words[:1] == ["HOST"]:
-            lines.append(f"complete -c he -n {where} -a '(__fish_print_hostnames)'")
-        lines += [f"complete -c he -n {where}{fish_option(option)}" for option in command.options]
-    return "\n".join(lines) + "\n"
+        word = {"FILE": " -F", "HOST": " -a '(__fish_print_hostnames)'"}.get("".join(command.words[:1]))
+        lines += [where + word] if word else []
+        lines += [where + fish_option(option) for option in command.options]
+    return FISH + "".join(f"complete -c he -n {line}\n" for line in lines)
 
 
 def fish_option(option):
-    values = {
-        "": "",
-        "FILE": " -r -F",
-        "RESOLVER": " -x -a system",
-        "GROUP": f" -x -a '{GROUPS}'",
-        "NAME=N": " -x -a '" + " ".join(f"{name}=" for name in SETTINGS) + "'",
-    }
     short = f" -s {option.short[1:]}" if option.short else ""
     long = f" -l {option.long[2:]}" if option.long else ""
-    return f"{short}{long}{values.get(option.kind(), ' -x')} -d {quoted(first_sentence(option.help))}"
+    value = (VALUES[option.kind()].fish if option.kind() in VALUES else " -x") if option.value else ""
+    return f"{short}{long}{value} -d {quoted(first_sentence(option.help))}"
+
+
+ZSH = """\
+#compdef he
+# Completion of the command line of he in zsh. Written by scripts/manual --write from the help of the program.
+# Installed as PREFIX/share/zsh/site-functions/_he.
+_he_settings() {
+    local -a settings=(%(settings)s)
+    compadd -S = -- $settings
+}
+
+_he() {
+    local -a commands=(
+%(commands)s
+    )
+    if (( CURRENT == 2 )); then
+        _describe command commands
+        _arguments %(top)s
+        return
+    fi
+    shift words
+    (( CURRENT-- ))
+    case $words[1] in
+%(cases)s
+    esac
+}
+_he "$@"
+"""
 
 
 def zsh(commands):
-    lines = [
-        "#compdef he",
-        "# Completion of the command line of he in zsh. Written by scripts/manual --write from the help of the program.",
-        "# Installed as PREFIX/share/zsh/site-functions/_he.",
-        "_he_settings() {",
-        "    local -a settings=(" + " ".join(SETTINGS) + ")",
-        "    compadd -S = -- $settings",
-        "}",
-        "",
-        "_he() {",
-        "    local -a commands=(",
-        *(f"        {quoted(command.name + ':' + command.about)}" for command in commands[1:]),
-        "    )",
-        "    if (( CURRENT == 2 )); then",
-        "        _describe command commands",
-        f"        _arguments {zsh_options(commands[0])}",
-        "        return",
-        "    fi",
-        "    shift words",
-        "    (( CURRENT-- ))",
-        "    case $words[1] in",
-    ]
-    for command in commands[1:]:
-        if command.name == "help":
-            lines.append("        help) _describe command commands ;;")
-            continue
-        lines.append(f"        {command.name})")
-        lines.append(f"            _arguments -s {zsh_options(command)}{zsh_words(command)}")
-        lines.append("            ;;")
-    return "\n".join([*lines, "    esac", "}", '_he "$@"']) + "\n"
+    cases = ["        help) _describe command commands ;;" if command.name == "help" else
+             f"        {command.name})\n            _arguments -s {zsh_options(command)}{zsh_words(command)}\n            ;;"
+             for command in commands[1:]]
+    return ZSH % {
+        "settings": " ".join(SETTINGS),
+        "commands": "\n".join(f"        {quoted(command.name + ':' + command.about)}" for command in commands[1:]),
+        "top": zsh_options(commands[0]),
+        "cases": "\n".join(cases),
+    }
 
 
 def zsh_options(command):
     texts = []
     for option in command.options:
-        values = {
-            "": "",
-            "FILE": ":file:_files",
-            "PORT": ":port:_ports",
-            "RESOLVER": ":resolver:(system)",
-            "GROUP": f":group:({GROUPS})",
-            "NAME=N": ":setting:_he_settings",
-        }
-        action = values.get(option.kind(), f":{option.value}:")
-        text = first_sentence(option.help).replace("[", "\\[").replace("]", "\\]").replace(":", "\\:")
-        names = option.names()
+        action = VALUES[option.kind()].zsh if option.kind() in VALUES else f":{option.value}:" if option.value else ""
+        text = re.sub(r"([][:])", r"\\\1", first_sentence(option.help))
         rest = f"[{text}]{action}"
-        if len(names) == 2:
-            texts.append(f"'({names[1]} {names[0]})'{{{names[1]},{names[0]}}}{quoted(rest)}")
+        long, *short = option.names()
+        if short:
+            texts.append(f"'({short[0]} {long})'{{{short[0]},{long}}}{quoted(rest)}")
         else:
-            mark = "*" if option.is_repeated else ""
             sign = "=" if option.value and option.long else ""
-            texts.append(quoted(mark + names[0] + sign + rest))
+            texts.append(quoted("*" * option.is_repeated + long + sign + rest))
     return " \\\n                ".join(texts)
 
 
