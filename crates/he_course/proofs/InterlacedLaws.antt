@@ -1,14 +1,16 @@
 -- The lists from which attempts take their addresses are parts of the sorted ones, interlaced.
-use Rattle.std.proofs.Common.{◌≡◌, ℕ, ◌++◌, Bool, false, List, [], ◌∷◌, filter, map, Option, Some, None, refl, sym, ◌∙◌, ap}
+use Rattle.std.proofs.Common.{◌≡◌, ℕ, ◌≤◌, ◌++◌, Bool, false, List, [], ◌∷◌, filter, map, Option, Some, None, refl, sym, ◌∙◌, ap, subst}
 use Rattle.std.specs.Prelude.{All}
-use Rattle.he_addr.specs.Ip.{InRange}
+use Rattle.std.specs.List.{count_by}
+use Rattle.he_addr.specs.Ip.{InRange, same_ip}
 use Rattle.he_addr.specs.declared.ip.Ip.{Ip}
 use Rattle.he_plan.specs.Alternating.{interlace}
 use Rattle.he_plan.specs.Attempts.{order, order_at, received, received_of}
 use Rattle.he_plan.specs.Planning.{interlaced_list, is_of_included, is_received, part_of, parts_of}
 use Rattle.he_timeline.specs.Race.{Race, Reply, addresses_of, race_input, usable_addresses}
 use Rattle.he_timeline.specs.Timeline.{IsRace}
-use Rattle.he_plan.proofs.Listed.{list_kept}
+use Rattle.he_plan.proofs.Distinct.{order_once}
+use Rattle.he_plan.proofs.Listed.{list_kept, moved_parts}
 use Rattle.he_select.specs.declared.attributes.DestinationAttributes.{DestinationAttributes}
 use Rattle.he_select.specs.Preference.{order_of}
 use Rattle.he_select.specs.Selection.{SelectionInput}
@@ -72,3 +74,9 @@ no_list race =
 pub first_list : (race : Race) (v6 v4 : Bool) (ips : List Ip) → v6 ≡ false → v4 ≡ false → ips ≡ [] → ips ≡ interlaced_list race v6 v4
 first_list race v6 v4 ips six four none =
     none ∙ no_list race ∙ ap (λ (b : Bool). interlaced_list race b false) (sym six) ∙ ap (λ (b : Bool). interlaced_list race v6 b) (sym four)
+
+-- no address stands twice in it
+pub listed_once : (race : Race) → IsRace race → All InRange (addresses_of race.aaaa) → All InRange (addresses_of race.a) → (v6 v4 : Bool) (ips : List Ip) → ips ≡ interlaced_list race v6 v4
+    → (ip : Ip) → count_by (same_ip ip) ips ≤ 1
+listed_once race r six four v6 v4 ips is ip =
+    subst (λ (l : List Ip). count_by (same_ip ip) l ≤ 1) (sym is) (order_once race r v6 v4 (moved_parts race r six four v6 v4) ip)

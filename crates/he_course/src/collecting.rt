@@ -5,19 +5,22 @@ ghost use Rattle.std.specs.List.{flat_map};
 ghost use Rattle.he_addr.specs.Ip.{is_usable};
 ghost use Rattle.he_addr.specs.declared.ip.Family.TheVariants as families;
 ghost use Rattle.he_plan.specs.Attempts.{order_at};
+ghost use Rattle.he_plan.specs.Planning.{interlaced_list};
 ghost use Rattle.he_timeline.specs.Race.{reply_of};
 ghost use Rattle.he_course.specs.Addresses.{all_attributes_of};
 ghost use Rattle.he_course.specs.Events.{answer_events, attempt_of, cancelled_by, end_event, event_at, events_of, failed_by, met_events, over_events, pause_events, start_event, start_events, told_events, wait_events};
+ghost use Rattle.he_course.specs.Listing.{listed_at};
 
 use crate::cause::{cause_of, failure_of, is_held, later_of};
 use crate::delay::{is_aaaa_seen_by, is_waiting};
 use crate::events::{Event, EventKind, Start};
 use crate::interlaced::{Interlaced, bring_to};
-use crate::listing::listed_in;
+use crate::listing::{Listed, listed_in};
 use he_addr::{Family, Ip, Memory};
 use he_plan::{Attempt, Line, Mark, Outcome3, Transcript};
 use he_select::DestinationAttributes;
 use he_timeline::Timeline;
+use he_timeline::timeline::are_addresses_in_range;
 use std::alloc::{AllocError, Allocator};
 
 // The two answers, the wait for the AAAA answer, the Resolution Delay's end, and the race's end.
@@ -264,29 +267,46 @@ fn push_starts<A: Allocator + Copy, B: Allocator>(
     ensures { OnOk result (events.new.items ≡ events.old.items ++ start_events timeline.now None (Some 0) lines.now) }
 {
     let mut list = Interlaced::new(alloc);
-    let mut last = None;
-    let mut failed = Some(0);
+    let (mut last, mut failed, mut place) = (None, Some(0), 0);
     for line in lines {
         let next = attempt(line);
         bring_to(alloc, timeline, sorted, next.tick, &mut list)?;
-        let start = start_of(timeline, &list.ips, last, failed, next);
+        // Mostly the address behind the last one is tried.
+        let listed = listed_at(timeline, &list, place, next);
+        let start = start_of(timeline, listed, last, failed, next);
         push(events, next.tick, start)?;
+        place = listed.place.saturating_add(1);
         last = Some(next);
         failed = later_of(failed, failure_of(timeline, next));
     }
     Ok(())
 }
 
-// The start of an attempt, whose address is taken from this list; `failed` is the last failure of those before it, if
-// all of them fail.
+// Where the address of an attempt stands in this list, from which it is taken. It is looked for at `first`.
+fn listed_at<A: Allocator, B: Allocator>(
+    timeline: &Timeline<A>,
+    list: &Interlaced<B>,
+    first: usize,
+    next: Attempt,
+) -> Listed
+    requires list { list.now.ips.items ≡ interlaced_list timeline.now list.now.v6 list.now.v4 }
+    requires received { list.now.ips.items ≡ order_at timeline.now next.tick }
+    ensures { result ≡ listed_at timeline.now next.tick next.ip }
+{
+    are_addresses_in_range(timeline);
+    listed_in(&list.ips, first, timeline.settings().count(), next.ip)
+}
+
+// The start of an attempt, whose address stands there in the list from which it is taken; `failed` is the last failure
+// of those before it, if all of them fail.
 fn start_of<A: Allocator>(
     timeline: &Timeline<A>,
-    ips: &[Ip],
+    listed: Listed,
     last: Option<Attempt>,
     failed: Option<u64>,
     next: Attempt,
 ) -> EventKind
-    requires { ips.now ≡ order_at timeline.now next.tick }
+    requires { listed ≡ listed_at timeline.now next.tick next.ip }
     ensures { event_at next.tick result ≡ start_event timeline.now last failed next }
 {
     let cause = cause_of(timeline, last, failed, next);
@@ -295,6 +315,6 @@ fn start_of<A: Allocator>(
         ip: next.ip,
         cause,
         held: is_held(timeline, last, cause, next.tick),
-        listed: listed_in(ips, timeline.settings().count(), next.ip),
+        listed,
     })
 }

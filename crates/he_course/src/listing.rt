@@ -1,7 +1,8 @@
 // Where an attempt's address stands in the interlaced list from which it is taken (RFC 8305 section 4).
 
-ghost use Rattle.std.specs.Prelude.{◌≡◌};
-ghost use Rattle.he_addr.specs.Ip.{is_v6};
+ghost use Rattle.std.specs.Prelude.{◌≡◌, ◌≤◌};
+ghost use Rattle.std.specs.List.{count_by};
+ghost use Rattle.he_addr.specs.Ip.{is_v6, same_ip};
 ghost use Rattle.he_course.specs.Listing.{is_v6_at, listed_in, place_in, turn_at};
 
 use he_addr::Ip;
@@ -31,15 +32,27 @@ pub struct Listed {
     pub turn: Turn,
 }
 
-// The place of an address in the list from which it is taken.
-pub(crate) fn listed_in(ips: &[Ip], count: u64, ip: Ip) -> Listed
+// The place of an address in the list from which it is taken, in which it stands once at most. It is looked for at
+// `first`, and only then in the whole list.
+pub(crate) fn listed_in(ips: &[Ip], first: usize, count: u64, ip: Ip) -> Listed
+    requires { count_by (same_ip ip) ips.now ≤ 1 }
     ensures { result ≡ listed_in count ips.now ip }
 {
-    let place = place_in(ips, ip);
+    let place = place_of(ips, first, ip);
     Listed {
         place,
         count: ips.len(),
         turn: turn_at(ips, count, place),
+    }
+}
+
+fn place_of(ips: &[Ip], first: usize, ip: Ip) -> usize
+    requires { count_by (same_ip ip) ips.now ≤ 1 }
+    ensures { result ≡ place_in ip ips.now }
+{
+    match ips.get(first) {
+        Some(other) if *other == ip => first,
+        _ => place_in(ips, ip),
     }
 }
 
