@@ -64,9 +64,35 @@ fn width_of<A: Allocator + Copy>(
     parts: &[Part<Said>],
     text: &mut Vec<u8, A>,
 ) -> Result<usize, Memory> {
-    text.clear();
-    write_parts(parts, text)?;
-    Ok(text.len())
+    let mut width: usize = 0;
+    for part in parts {
+        width = width.saturating_add(part_width(*part, text)?);
+    }
+    Ok(width)
+}
+
+// An address is written, to see how wide it is.
+fn part_width<A: Allocator + Copy>(
+    part: Part<Said>,
+    text: &mut Vec<u8, A>,
+) -> Result<usize, Memory> {
+    match part {
+        Part::Words(words) | Part::Says(_, words) => Ok(words.len()),
+        Part::Number(number) => Ok(digits(number)),
+        _ => {
+            text.clear();
+            write_parts(&[part], text)?;
+            Ok(text.len())
+        }
+    }
+}
+
+// How many digits a number has.
+fn digits(number: u64) -> usize {
+    match number.checked_ilog10() {
+        Some(more) => (more as usize).saturating_add(1),
+        None => 1,
+    }
 }
 
 /// The column of a tick, where the time up to `end` has so many.

@@ -1,5 +1,5 @@
 -- A pause that is too short for a line is found among the short ones alone.
-use Rattle.std.proofs.Common.{◌≡◌, ℕ, ◌-◌, Bool, true, false, cond, List, [], ◌∷◌, Some, filter, find, refl, sym, ◌∙◌, ap, inl, inr, ◌&&◌}
+use Rattle.std.proofs.Common.{◌≡◌, ℕ, ◌-◌, ◌==◌, Bool, true, false, cond, List, [], ◌∷◌, Some, filter, find, refl, sym, ◌∙◌, ap, inl, inr, ◌&&◌}
 use Rattle.std.specs.Option.{option_map}
 use Rattle.std.proofs.lemmas.Bool.{cases_Bool, false≢true}
 use Rattle.he_course.specs.declared.events.Event.{Event}
@@ -19,12 +19,12 @@ found_in {X} p q first (x ∷ xs) =
       ]
     ]
 
-both : (a b : Bool) → (a && b) ≡ true → a ≡ true
-both true b is = refl
-both false b is = absurd (false≢true is)
+second : (a b : Bool) → (a && b) ≡ true → b ≡ true
+second true b is = is
+second false b is = absurd (false≢true is)
 
 short_first : (until tick : ℕ) (kind : EventKind) → is_short_to until tick kind ≡ true → is_short tick kind ≡ true
-short_first until tick (kinds.Paused end) is = both (is_short tick (kinds.Paused end)) _ is
+short_first until tick (kinds.Paused end) is = second (end == until) _ is
 short_first until tick (kinds.Answered family count) is = is
 short_first until tick (kinds.Waits end) is = is
 short_first until tick kinds.DelayOver is = is

@@ -112,7 +112,7 @@ short_pauses events = filter (λ event. is_short event.tick event.kind) events
 
 -- such a pause up to this tick
 abbrev pub is_short_to : ℕ → ℕ → EventKind → Bool
-is_short_to until tick (kinds.Paused end) = nat_lt (end - tick) LEAST_PAUSE && end == until
+is_short_to until tick (kinds.Paused end) = end == until && nat_lt (end - tick) LEAST_PAUSE
 is_short_to until tick _ = false
 
 -- how long the client slept up to a tick, where that is too short for a line: what it sees then is so late at most

@@ -32,12 +32,12 @@ fn is_short_to(until: u64, event: &Event) -> bool
     ensures { result ≡ is_short_to until event.now.tick event.now.kind }
 {
     match event.kind {
-        EventKind::Paused(end) => end.saturating_sub(event.tick) < LEAST_PAUSE && end == until,
+        EventKind::Paused(end) => end == until && end.saturating_sub(event.tick) < LEAST_PAUSE,
         _ => false,
     }
 }
 
-// The pauses that are too short for a line. They are few, and each line asks for them.
+// The pauses that are too short for a line. They are few, and lines ask for them.
 fn short_pauses<A: Allocator>(alloc: A, events: &[Event]) -> Result<Vec<Event, A>, AllocError>
     ensures { IfOk result (λ pauses. pauses.items ≡ short_pauses events.now) }
 {
@@ -117,14 +117,14 @@ impl<A: Allocator> Story<A> {
     }
 
     // Whether a pause held the attempt back, and for how long where that pause has no line.
-    fn tell_held(&mut self, held: bool, late: Option<u64>) -> Result<(), Memory>
-        ensures { OnOk result (told self.new ≡ told self.old ++ held_facts held late) }
+    fn tell_held(&mut self, held: bool, pauses: &[Event], tick: u64) -> Result<(), Memory>
+        ensures { OnOk result (told self.new ≡ told self.old ++ held_facts held (late_at pauses.now tick)) }
     {
         if !held {
             return Ok(());
         }
-        match late {
-            Some(_) => self.tell_late(late),
+        match late_at(pauses, tick) {
+            Some(late) => self.tell_late(Some(late)),
             None => self.tell(Said::HeldBack, &[]),
         }
     }
@@ -141,13 +141,13 @@ impl<A: Allocator> Story<A> {
         self.tell(Said::Turn(listed.turn), &[place, count, turn])
     }
 
-    fn tell_start(&mut self, start: Start, late: Option<u64>) -> Result<(), Memory>
-        ensures { OnOk result (told self.new ≡ told self.old ++ start_facts start late) }
+    fn tell_start(&mut self, start: Start, pauses: &[Event], tick: u64) -> Result<(), Memory>
+        ensures { OnOk result (told self.new ≡ told self.old ++ start_facts start (late_at pauses.now tick)) }
     {
         let (place, ip) = (Part::Place(start.place), Part::Ip(start.ip));
         self.tell(Said::Starts, &[place, ip])?;
         self.tell_cause(start.cause)?;
-        self.tell_held(start.held, late)?;
+        self.tell_held(start.held, pauses, tick)?;
         self.tell_listed(start.listed, start.ip.family())
     }
 
@@ -179,10 +179,11 @@ impl<A: Allocator> Story<A> {
     fn tell_met<B: Allocator>(
         &mut self,
         course: &Course<B>,
+        pauses: &[Event],
         event: Event,
-        late: Option<u64>,
     ) -> Result<(), Memory>
-        ensures { OnOk result (told self.new ≡ told self.old ++ met_facts course.now event.tick late event.kind) }
+        ensures { OnOk result (told self.new ≡ told self.old ++ met_facts course.now event.tick
+            (late_at pauses.now event.tick) event.kind) }
     {
         match event.kind {
             EventKind::Paused(end) => self.tell(Said::Paused, &[Part::Number(end)]),
@@ -190,14 +191,14 @@ impl<A: Allocator> Story<A> {
                 let other = other_of(family);
                 let noun = Part::Words(noun(count, b"address", b"addresses"));
                 self.tell(Said::Answered(family), &[Part::Words(name_of(family))])?;
-                self.tell_late(late)?;
+                self.tell_late(late_at(pauses, event.tick))?;
                 self.tell(Said::ToTry, &[Part::Number(count as u64), noun])?;
                 self.tell_other(other, is_seen_by(course.answer(other), event.tick))
             }
             EventKind::Waits(end) => self.tell(Said::Waits, &[Part::Number(end)]),
             EventKind::DelayOver => {
                 self.tell(Said::DelayOver, &[])?;
-                self.tell_late(late)
+                self.tell_late(late_at(pauses, event.tick))
             }
             _ => Ok(()),
         }
@@ -206,21 +207,22 @@ impl<A: Allocator> Story<A> {
     fn tell_kind<B: Allocator>(
         &mut self,
         course: &Course<B>,
+        pauses: &[Event],
         event: Event,
-        late: Option<u64>,
     ) -> Result<(), Memory>
-        ensures { OnOk result (told self.new ≡ told self.old ++ kind_facts course.now event.tick late event.kind) }
+        ensures { OnOk result (told self.new ≡ told self.old ++ kind_facts course.now event.tick
+            (late_at pauses.now event.tick) event.kind) }
     {
         let lines = course.transcript.attempts();
         match event.kind {
-            EventKind::Started(start) => self.tell_start(start, late),
+            EventKind::Started(start) => self.tell_start(start, pauses, event.tick),
             EventKind::Failed(place) => {
                 let taken = taken(lines, place, event.tick);
-                self.tell_became(Said::Failed, place, taken, late)
+                self.tell_became(Said::Failed, place, taken, late_at(pauses, event.tick))
             }
             EventKind::Won(place) => {
                 let taken = taken(lines, place, event.tick);
-                self.tell_became(Said::Won, place, taken, late)
+                self.tell_became(Said::Won, place, taken, late_at(pauses, event.tick))
             }
             EventKind::Cancelled(place) => {
                 let taken = taken(lines, place, event.tick);
@@ -231,7 +233,7 @@ impl<A: Allocator> Story<A> {
             EventKind::Paused(_)
             | EventKind::Answered(_, _)
             | EventKind::Waits(_)
-            | EventKind::DelayOver => self.tell_met(course, event, late),
+            | EventKind::DelayOver => self.tell_met(course, pauses, event),
         }
     }
 
@@ -250,7 +252,7 @@ impl<A: Allocator> Story<A> {
             return Ok(());
         }
         self.tell(Said::At, &[Part::Aligned(width, event.tick)])?;
-        self.tell_kind(course, event, late_at(pauses, event.tick))
+        self.tell_kind(course, pauses, event)
     }
 
     pub(crate) fn tell_events<B: Allocator>(

@@ -8,7 +8,7 @@ ghost use Rattle.he_story.specs.Lines.{told};
 ghost use Rattle.he_story.specs.Story.{Tells, story_facts};
 
 use crate::said::Said;
-use crate::words::{cut, words_of};
+use crate::words::{piece, words_of};
 use he_addr::Memory;
 use he_course::Course;
 use he_print::{Part, push_parts, write_parts};
@@ -30,12 +30,11 @@ impl<A: Allocator> Story<A> {
     pub(crate) fn tell(&mut self, said: Said, parts: &[Part<Said>]) -> Result<(), Memory>
         ensures { OnOk result (told self.new ≡ told self.old ++ (facts.Said said ∷ flat_map fact_of parts.now)) }
     {
-        let (first, mut rest) = cut(words_of(said));
-        push_parts(&[Part::Says(said, first)], &mut self.parts)?;
-        for part in parts {
-            let (words, more) = cut(rest);
-            push_parts(&[*part, Part::Words(words)], &mut self.parts)?;
-            rest = more;
+        let words = words_of(said);
+        push_parts(&[Part::Says(said, piece(words, 0))], &mut self.parts)?;
+        for (place, part) in parts.iter().enumerate() {
+            let behind = Part::Words(piece(words, place + 1));
+            push_parts(&[*part, behind], &mut self.parts)?;
         }
         Ok(())
     }
