@@ -3,7 +3,7 @@ use Rattle.std.proofs.Common.{◌≡◌, ◌⊎◌, ℕ, List, [], ◌∷◌, in
 use Rattle.std.specs.Prelude.{Option, None, Some, is_some}
 use Rattle.he_addr.specs.declared.ip.Family.{Family}
 use Rattle.he_connect.specs.declared.source.HostAnswers.{HostAnswers}
-use Rattle.he_live.specs.declared.quiet.Quiet.{Quiet}
+use Rattle.he_live.specs.declared.steps.Quiet.{Quiet}
 use Rattle.he_race.specs.Heard.{AnswerLists, IsSilent, StaysSilent, Tells}
 use Rattle.he_proxy.specs.Sources.{Asks, HearsAt, HearsBy, HearsOwn, IsToldWith}
 use Rattle.he_proxy.specs.declared.source.RaceSource.{RaceSource}

@@ -1,11 +1,11 @@
 -- What a race of the proxy is told of its host, and what its source waits for.
-use Rattle.std.specs.Prelude.{ℕ, ◌≡◌, ◌⊎◌, ⊤, Option, Some, None, Ok, is_some}
+use Rattle.std.specs.Prelude.{ℕ, ◌≡◌, ⊤, Bool, Option, Some, None, Ok, is_some}
 use Rattle.std.specs.Global.{Vec}
 use Rattle.he_addr.specs.declared.ip.Family.{Family}
 use Rattle.he_addr.specs.declared.ip.Ip.{Ip}
 use Rattle.he_connect.specs.Answers.{IsToldOf}
 use Rattle.he_connect.specs.declared.source.HostAnswers.{HostAnswers}
-use Rattle.he_live.specs.declared.quiet.Quiet.{Quiet}
+use Rattle.he_live.specs.declared.steps.Quiet.{Quiet}
 use Rattle.he_race.specs.Heard.{AnswerLists, Tells, ips_of}
 use Rattle.tokio.specs.Locks.{told_source}
 use Rattle.he_proxy.specs.declared.source.RaceSource.{RaceSource}
