@@ -29,14 +29,18 @@
 //!   to the address of the line that won, which the client's races reach (`IsWonBy`).
 //! - The addresses that a look-up begins with from kept answers are those that `he_cache` answers for each family that
 //!   is tried (`specs/Kept`).
+//! - While a race runs it is told what its look-up tells, or, where another race asks for the host, addresses with the
+//!   lines that the look-up would give them; what is known of addresses changes neither them nor the lines
+//!   (`specs/Sources`).
 //! - A race, and the stream of clients, that is pending has registered for what it waits for, or asked to be polled
 //!   again; each session that is begun may be polled.
 //!
 //! All promise this if they return: they wait for the system.
 //!
-//! Only tested: that anything connects, and when; that answers are kept of the race's host; that the record of a race
-//! is written to its file, and the files' names; which records go; the log's lines; the page; that as many sessions
-//! run as may, and that it waits where no descriptor is left.
+//! Only tested: that anything connects, and when; that answers are kept of the race's host, and told to the races that
+//! wait for them; what is known of which address, and its file; that the record of a race is written to its file, and
+//! the files' names; which records go; the log's lines; the page; that as many sessions run as may, and that it waits
+//! where no descriptor is left.
 #![tactic(auto)]
 
 pub mod access;
