@@ -58,7 +58,7 @@ fn report_fault<R, O: OutputStream, F: Write>(
 {
     let path = match fault {
         ProxyFault::Record(_) => proxy.record,
-        ProxyFault::History(_) => proxy.history,
+        ProxyFault::History(_) | ProxyFault::NotHistory => proxy.history,
         _ => None,
     };
     match path {

@@ -20,9 +20,12 @@ pub enum ProxyFault {
     /// The directory of the records can't be made or read.
     #[error("cannot keep records there: {0}")]
     Record(ErrorKind),
-    /// The file of what is known of addresses can't be read or written, or is one of something else.
+    /// The file of what is known of addresses can't be read or written.
     #[error("cannot keep there what is known of addresses: {0}")]
     History(ErrorKind),
+    /// That file is one of something else.
+    #[error("is left as it is: no line of it is ADDRESS SOURCE MILLISECONDS SECOND, so it is no history of this proxy")]
+    NotHistory,
     /// The lines of the races can't be read.
     #[error("{0}")]
     Lines(ConnectFault),

@@ -23,7 +23,7 @@ use futures::{Future, Stream, StreamExt};
 use he_sessions::{Limits, Racer};
 use std::alloc::{AllocGlobal, Global};
 use std::io;
-use std::io::Write;
+use std::io::{ErrorKind, Write};
 use std::net::{IpAddr, Ipv4Addr, Ipv6Addr, Net, SocketAddr};
 use std::random::RandomSource;
 use std::rt::Files;
@@ -245,6 +245,7 @@ fn open_known<R: Files + RandomSource + AllocGlobal + Copy>(
 ) -> Result<KnownAtStart, ProxyFault> {
     match KnownAddresses::open(rt, alloc, request.history) {
         Ok(known) => Ok(known),
+        Err(error) if error.kind() == ErrorKind::InvalidData => Err(ProxyFault::NotHistory),
         Err(error) => Err(ProxyFault::History(error.kind())),
     }
 }
