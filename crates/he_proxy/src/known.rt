@@ -45,7 +45,8 @@ impl KnownAddresses {
     ///
     /// # Errors
     ///
-    /// Those of the system; `InvalidData` where the file is one of something else: no line of it is right.
+    /// Those of the system; `InvalidInput` where what is there is no file or too long; `InvalidData` where it is
+    /// one of something else: no line of it is right.
     pub fn open<R: Files + RandomSource + AllocGlobal + Copy>(
         rt: &R,
         alloc: Global,
@@ -141,7 +142,7 @@ fn new_history(alloc: Global) -> io::Result<History> {
 fn read_if_there<R: Files + AllocGlobal>(rt: &R, alloc: Global, path: &str) -> io::Result<Vec<u8>> {
     match fs::metadata(rt, path) {
         Ok(there) if there.is_file() && there.len() <= MOST_OCTETS => fs::read(rt, path),
-        Ok(_) => Err(ErrorKind::InvalidData.into()),
+        Ok(_) => Err(ErrorKind::InvalidInput.into()),
         Err(error) if error.kind() == ErrorKind::NotFound => Ok(Vec::new(alloc)),
         Err(error) => Err(error),
     }
