@@ -148,9 +148,14 @@ where
         if let Some(ips) = kept.known_of(self.rt, &self.host, family) {
             return Poll::Ready(self.with_known(self.answers.answer_of(family, Ok(ips))));
         }
-        if kept.is_asked(&self.host, family) && answered.poll(cx).is_pending() {
-            self.turn = Turn::Waits(answered);
-            return Poll::Pending;
+        if kept.is_asked(&self.host, family) {
+            match answered.poll(cx) {
+                Poll::Pending => {
+                    self.turn = Turn::Waits(answered);
+                    return Poll::Pending;
+                }
+                Poll::Ready(_) => {}
+            }
         }
         self.turn = Turn::Asks(AskedFor::nothing());
         cx.yield_now()
