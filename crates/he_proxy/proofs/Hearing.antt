@@ -44,20 +44,20 @@ module _ {R : Type 0} (own : Tells (HostAnswers R Quiet)) where
 
 -- ---- what it waits for
 
-module _ (own : ℕ → Type 0) (answered : ℕ) where
+module _ (own : ℕ → Type 0) where
   -- where it asks itself, for what its look-up waits for
-  own_needs : (turn : Turn) (s : ℕ) → Asks turn → needs_at turn own answered s → own s
+  own_needs : (turn : Turn) (s : ℕ) → Asks turn → needs_at turn own s → own s
   own_needs (turns.Asks asked) s asks needs = needs
   own_needs (turns.Waits _) s asks needs = absurd asks
 
-  needs_own : (turn : Turn) (s : ℕ) → Asks turn → own s → needs_at turn own answered s
+  needs_own : (turn : Turn) (s : ℕ) → Asks turn → own s → needs_at turn own s
   needs_own (turns.Asks asked) s asks needs = needs
   needs_own (turns.Waits _) s asks needs = absurd asks
 
-  pub covers_asking : (cx : Context) (turn : Turn) → Asks turn → Covers cx own → Covers cx (needs_at turn own answered)
+  pub covers_asking : (cx : Context) (turn : Turn) → Asks turn → Covers cx own → Covers cx (needs_at turn own)
   covers_asking cx turn asks covers = (covers.0, λ s needs. covers.1 s (own_needs turn s asks needs))
 
-  pub covers_own : (cx : Context) (turn : Turn) → Asks turn → Covers cx (needs_at turn own answered) → Covers cx own
+  pub covers_own : (cx : Context) (turn : Turn) → Asks turn → Covers cx (needs_at turn own) → Covers cx own
   covers_own cx turn asks covers = (covers.0, λ s needs. covers.1 s (needs_own turn s asks needs))
 
 -- ---- what a poll comes to

@@ -7,7 +7,7 @@ use Rattle.he_connect.specs.Answers.{IsToldOf}
 use Rattle.he_connect.specs.declared.source.HostAnswers.{HostAnswers}
 use Rattle.he_live.specs.declared.steps.Quiet.{Quiet}
 use Rattle.he_race.specs.Heard.{AnswerLists, Tells, ips_of}
-use Rattle.tokio.specs.Locks.{told_source}
+use Rattle.tokio.specs.Locks.{notified_source}
 use Rattle.he_proxy.specs.declared.source.RaceSource.{RaceSource}
 use Rattle.he_proxy.specs.declared.source.Turn.{Turn}
 use Rattle.he_proxy.specs.declared.source.Turn.TheVariants as turns
@@ -37,13 +37,13 @@ Asks (turns.Asks asked) = ⊤
 Asks (turns.Waits answered) = ⊥
 
 -- where it asks itself it waits for what its look-up does, else for the race that asks
-abbrev pub needs_at : Turn → (ℕ → Type 0) → ℕ → ℕ → Type 0
-needs_at (turns.Asks asked) own answered s = own s
-needs_at (turns.Waits _) own answered s = s ≡ answered
+abbrev pub needs_at : Turn → (ℕ → Type 0) → ℕ → Type 0
+needs_at (turns.Asks asked) own s = own s
+needs_at (turns.Waits answered) own s = s ≡ notified_source answered
 
 module _ {R : Type 0} where
   abbrev pub needs_by : (ℕ → Type 0) → RaceSource R → ℕ → Type 0
-  needs_by own source s = needs_at source.turn own (told_source source.earlier.kept.now.answered) s
+  needs_by own source s = needs_at source.turn own s
 
   -- it is told what its look-up tells
   abbrev pub HearsOwn : Tells (HostAnswers R Quiet) → Tells (RaceSource R)

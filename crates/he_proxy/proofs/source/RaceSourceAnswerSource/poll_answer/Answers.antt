@@ -11,15 +11,15 @@ returns-in-Asks-clause-waits g c =
     let asks : Asks c.args.self.now.turn = subst Asks (sym c.in-Asks.is) tt in
     let later = c.poll_own.ensures.asks asks in
     pending_so c.poll_own.result
-    (either (covers_asking _ _ c.poll_own.new.cx c.poll_own.new.self.turn later)
+    (either (covers_asking _ c.poll_own.new.cx c.poll_own.new.self.turn later)
     (silent_by _ c.poll_own.new.self c.args.family later))
     c.poll_own.ensures.waits
 
 pub returns-in-Asks-clause-other : goal.returns-in-Asks-clause-other
 returns-in-Asks-clause-other g c = λ other apart covers.
     let asks : Asks c.args.self.now.turn = subst Asks (sym c.in-Asks.is) tt in
-    covers_asking _ _ c.poll_own.new.cx c.poll_own.new.self.turn (c.poll_own.ensures.asks asks)
-    (c.poll_own.ensures.other other apart (covers_own _ _ c.args.cx.now c.args.self.now.turn asks covers))
+    covers_asking _ c.poll_own.new.cx c.poll_own.new.self.turn (c.poll_own.ensures.asks asks)
+    (c.poll_own.ensures.other other apart (covers_own _ c.args.cx.now c.args.self.now.turn asks covers))
 
 pub returns-in-Waits-clause-waits : goal.returns-in-Waits-clause-waits
 returns-in-Waits-clause-waits g c =
