@@ -5,6 +5,5 @@ mod Given
 mod Hints
 mod Holding
 mod NextRaces
-mod PutObjects
 mod Stepping
 mod WholeLines
