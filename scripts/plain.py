@@ -43,10 +43,8 @@ Answer = namedtuple("Answer", "tick addresses")
 Line = namedtuple("Line", "place start address fate tick")
 # How a race ends: `won` by the attempt of this place, `exhausted` or `limit`.
 Result = namedtuple("Result", "kind place tick")
-Report = namedtuple("Report", "lines result")
 # What is wrong with a text: the line, counted from 1, the kind, and the line with which the faulty race begins.
 Found = namedtuple("Found", "line kind begin")
-
 MAPPED_BLOCK = Prefix(MAPPED, 96)
 ALL = Prefix(0, 0)
 HEADERS = {"race 1": 1, "race 2": 2}
@@ -60,6 +58,13 @@ LENGTHS = {"set": (3, 3), "policy": (4, 4), "source": (3, 5), "route": (3, 4), "
 MOST_LINES = {**dict.fromkeys(("policy", "source", "route"), MOST_LISTED), "pause": MOST_PAUSES, "aaaa": 1, "a": 1}
 # The words that a race has from version 2 on.
 NEW_GROUPS = ["rtt", "used"]
+
+
+class Report(namedtuple("Report", "lines result")):
+    @property
+    def winner(self):
+        """The line of the attempt that won, if one did."""
+        return self.lines[self.result.place] if self.result.kind == "won" else None
 
 
 class Fault(Exception):
@@ -398,6 +403,11 @@ class Race:
             ticks = [self.seen(answer.tick) for answer in self.answers.values()] + [end[1] for end in finishes]
             return Result("exhausted", None, max(ticks))
         return Result("limit", None, limit)
+
+    def lost(self):
+        """How long after its winner's answer was seen its attempt started."""
+        winner = self.report.winner
+        return max(0, winner.start - self.seen(self.answers["aaaa" if winner.address.family == 6 else "a"].tick))
 
     def ranked(self):
         """The facts of its usable addresses, whatever the ticks of their answers, in order of preference."""

@@ -23,8 +23,8 @@ def hour_of(name):
 
 
 def family_of(race):
-    result = race.report.result
-    return FAMILIES[race.report.lines[result.place].address.family if result.kind == "won" else None]
+    winner = race.report.winner
+    return FAMILIES[winner and winner.address.family]
 
 
 def groups_of(by, files, changes):
