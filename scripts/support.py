@@ -141,6 +141,15 @@ def winner_of(transcript):
     return next((ip for _, ip, end in attempts_of(transcript) if end == "won"), None)
 
 
+class Run:
+    """A run of the program that raced: its status, what it told, its transcript with the attempts and the winner, and
+    its record."""
+
+    def __init__(self, done, transcript, record):
+        self.status, self.told, self.transcript, self.record = done.returncode, done.stderr, transcript, record
+        self.attempts, self.won = attempts_of(transcript), winner_of(transcript)
+
+
 def in_namespaces(flags, setup):
     """Runs this script again, with INSIDE, in namespaces of its own that lines of sh set up: its status, or None where
     that cannot be done."""
