@@ -43,10 +43,8 @@ Answer = namedtuple("Answer", "tick addresses")
 Line = namedtuple("Line", "place start address fate tick")
 # How a race ends: `won` by the attempt of this place, `exhausted` or `limit`.
 Result = namedtuple("Result", "kind place tick")
-Report = namedtuple("Report", "lines result")
 # What is wrong with a text: the line, counted from 1, the kind, and the line with which the faulty race begins.
 Found = namedtuple("Found", "line kind begin")
-
 MAPPED_BLOCK = Prefix(MAPPED, 96)
 ALL = Prefix(0, 0)
 HEADERS = {"race 1": 1, "race 2": 2}
@@ -60,6 +58,13 @@ LENGTHS = {"set": (3, 3), "policy": (4, 4), "source": (3, 5), "route": (3, 4), "
 MOST_LINES = {**dict.fromkeys(("policy", "source", "route"), MOST_LISTED), "pause": MOST_PAUSES, "aaaa": 1, "a": 1}
 # The words that a race has from version 2 on.
 NEW_GROUPS = ["rtt", "used"]
+
+
+class Report(namedtuple("Report", "lines result")):
+    @property
+    def winner(self):
+        """The line of the attempt that won, if one did."""
+        return self.lines[self.result.place] if self.result.kind == "won" else None
 
 
 class Fault(Exception):
@@ -282,10 +287,8 @@ class Race:
     """A race that begins with this line of its text, counted from 1."""
 
     def __init__(self, line):
-        self.line = line
-        self.settings, self.rows, self.sources, self.routes = {}, [], [], []
-        self.answers, self.outcomes, self.pauses = {}, {}, []
-        self.rtts, self.used = {}, []
+        self.line, self.settings, self.answers, self.outcomes, self.rtts = line, {}, {}, {}, {}
+        self.rows, self.sources, self.routes, self.pauses, self.used = [], [], [], [], []
 
     def changed(self, changes):
         """The race with these settings in place of its own; a floor above the attempt delay then is that delay."""
@@ -328,11 +331,9 @@ class Race:
         return interlace([fact["address"] for fact in ranked], self.setting("count"))
 
     def may_begin(self, tick):
-        if self.is_seen("aaaa", tick) and self.usable("aaaa"):
-            return True
-        if not (self.is_seen("a", tick) and self.usable("a")):
-            return False
-        return self.is_seen("aaaa", tick) or self.seen(self.answers["a"].tick + self.setting("resolution")) <= tick
+        if self.is_seen("aaaa", tick):
+            return bool(self.received(tick))
+        return bool(self.received(tick)) and self.seen(self.answers["a"].tick + self.setting("resolution")) <= tick
 
     def finish(self, start, address):
         """How an attempt ends and when, if ever."""
@@ -355,8 +356,7 @@ class Race:
         if limit <= PLAIN_LIMIT:
             return range(least, limit)
         ticks = {0}
-        for answer in self.answers.values():
-            ticks |= {answer.tick, answer.tick + self.setting("resolution")}
+        ticks |= {answer.tick + wait for answer in self.answers.values() for wait in (0, self.setting("resolution"))}
         if made:
             ticks |= {made[-1][0] + self.setting("attempt"), made[-1][0] + (self.setting("floor") or 0)}
             ticks |= {end[1] for end in (self.finish(start, address) for start, address in made) if end}
@@ -403,6 +403,11 @@ class Race:
             ticks = [self.seen(answer.tick) for answer in self.answers.values()] + [end[1] for end in finishes]
             return Result("exhausted", None, max(ticks))
         return Result("limit", None, limit)
+
+    def lost(self):
+        """How long after its winner's answer was seen its attempt started."""
+        winner = self.report.winner
+        return max(0, winner.start - self.seen(self.answers["aaaa" if winner.address.family == 6 else "a"].tick))
 
     def ranked(self):
         """The facts of its usable addresses, whatever the ticks of their answers, in order of preference."""
@@ -488,16 +493,18 @@ class Reader:
             raise Fault("word")
         if is_answer and len(tokens) - 2 > MOST_ADDRESSES:
             raise Fault("too many")
-        if word != "end":
-            getattr(self, "answer" if is_answer else word)(tokens)
+        if is_answer:
+            self.answer(*tokens)
+        elif word != "end":
+            getattr(self, word)(*tokens[1:])
         # (the last of these lines)
         if word in ("policy", "set") and (next_line or "").split(" ")[0] != word:
             self.check_table() if word == "policy" else self.check_floor()
         return word == "end"
 
-    def set(self, tokens):
-        name = keyword(tokens[1], [name for name in SETTINGS if SETTINGS[name][3] <= self.version])
-        value = number(tokens[2], *SETTINGS[name][:2])
+    def set(self, name, value):
+        keyword(name, [name for name in SETTINGS if SETTINGS[name][3] <= self.version])
+        value = number(value, *SETTINGS[name][:2])
         once(name, self.race.settings)
         self.race.settings[name] = value
 
@@ -506,10 +513,9 @@ class Reader:
         if floor is not None and floor > self.race.setting("attempt"):
             raise Fault("range")
 
-    def policy(self, tokens):
-        prefix = prefix_of(tokens[1])
-        row = Row(prefix, number(tokens[2], 0, MOST_WORD), number(tokens[3], 0, MOST_WORD))
-        once(prefix, [other.prefix for other in self.race.rows])
+    def policy(self, prefix, precedence, label):
+        row = Row(prefix_of(prefix), number(precedence, 0, MOST_WORD), number(label, 0, MOST_WORD))
+        once(row.prefix, [other.prefix for other in self.race.rows])
         self.race.rows.append(row)
 
     def check_table(self):
@@ -521,62 +527,55 @@ class Reader:
             if first.precedence == second.precedence and is_v4_prefix(first.prefix) != is_v4_prefix(second.prefix):
                 raise Fault(f"policy rows {one} and {two} share a precedence")
 
-    def source(self, tokens):
-        parts = read_parts(tokens[1])
-        if parts is None:
+    def source(self, prefix, interface, *marks):
+        address, length = read_parts(prefix) or (None, None)
+        if address is None:
             raise Fault("prefix")
-        address, length = parts
         if not is_usable(address):
             raise Fault("address")
-        interface = number(tokens[2], 1, MOST_WORD)
-        marks = tokens[3:]
-        keyword(marks, [[], ["deprecated"], ["temporary"], ["deprecated", "temporary"]])
+        interface = number(interface, 1, MOST_WORD)
+        keyword(marks, [(), ("deprecated",), ("temporary",), ("deprecated", "temporary")])
         once(address, [source.address for source in self.race.sources])
         self.race.sources.append(Source(address, length, interface, "deprecated" in marks, "temporary" in marks))
 
-    def route(self, tokens):
-        prefix = prefix_of(tokens[1])
-        interface = number(tokens[2], 1, MOST_WORD)
-        keyword(tokens[3:], [[], ["tunnel"]])
-        once(prefix, [route.prefix for route in self.race.routes])
-        self.race.routes.append(Route(prefix, interface, len(tokens) == 4))
+    def route(self, prefix, interface, *marks):
+        route = Route(prefix_of(prefix), number(interface, 1, MOST_WORD), bool(marks))
+        keyword(marks, [(), ("tunnel",)])
+        once(route.prefix, [other.prefix for other in self.race.routes])
+        self.race.routes.append(route)
 
-    def answer(self, tokens):
-        family = 6 if tokens[0] == "aaaa" else 4
-        tick = number(tokens[1], 0, MOST_TICK)
-        addresses = [] if tokens[2:] == ["none"] else [read_address(token) for token in tokens[2:]]
+    def answer(self, word, tick, *told):
+        tick, family = number(tick, 0, MOST_TICK), 6 if word == "aaaa" else 4
+        addresses = [] if told == ("none",) else [read_address(text) for text in told]
         if any(address is None or address.family != family for address in addresses):
             raise Fault("address")
         if len(set(addresses)) < len(addresses):
             raise Fault("repeated")
-        self.race.answers[tokens[0]] = Answer(tick, addresses)
+        self.race.answers[word] = Answer(tick, addresses)
 
-    def answered(self, token):
+    def answered(self, text):
         """An address that stands in one of the race's answers."""
-        address = read_address(token)
+        address = read_address(text)
         if address is None or not any(address in answer.addresses for answer in self.race.answers.values()):
             raise Fault("address")
         return address
 
-    def rtt(self, tokens):
-        address, ticks = self.answered(tokens[1]), number(tokens[2], 1, MOST_TICK)
+    def rtt(self, address, ticks):
+        address, ticks = self.answered(address), number(ticks, 1, MOST_TICK)
         once(address, self.race.rtts)
         self.race.rtts[address] = ticks
 
-    def used(self, tokens):
-        address = self.answered(tokens[1])
-        once(address, self.race.used)
-        self.race.used.append(address)
+    def used(self, address):
+        once(self.answered(address), self.race.used)
+        self.race.used.append(self.answered(address))
 
-    def connect(self, tokens):
-        address = self.answered(tokens[1])
-        kind = keyword(tokens[2], ["ok", "fail"])
-        duration = number(tokens[3], 1, MOST_TICK)
+    def connect(self, address, kind, duration):
+        address, outcome = self.answered(address), (keyword(kind, ["ok", "fail"]), number(duration, 1, MOST_TICK))
         once(address, self.race.outcomes)
-        self.race.outcomes[address] = (kind, duration)
+        self.race.outcomes[address] = outcome
 
-    def pause(self, tokens):
-        start, end = number(tokens[1], 0, MOST_TICK), number(tokens[2], 1, MOST_PAUSE_END)
+    def pause(self, start, end):
+        start, end = number(start, 0, MOST_TICK), number(end, 1, MOST_PAUSE_END)
         if start >= end or self.race.pauses and start < self.race.pauses[-1][1]:
             raise Fault("range")
         self.race.pauses.append((start, end))

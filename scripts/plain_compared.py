@@ -41,11 +41,11 @@ def rows_of(words):
 
 def row_of(races, changes, label):
     reports = [race.changed(changes).report for race in races]
-    won = [report for report in reports if report.result.kind == "won"]
+    won = [report for report in reports if report.winner]
     verdicts = Counter(verdict_of(race.report.result, report.result) for race, report in zip(races, reports))
     return {
         "races": len(reports), "won": len(won),
-        "ipv6": sum(report.lines[report.result.place].address.family == 6 for report in won),
+        "ipv6": sum(report.winner.address.family == 6 for report in won),
         "connect_ms": percentiles([report.result.tick for report in won], ("median", "p90", "p99")),
         "attempts": sum(len(report.lines) for report in reports),
         **{verdict: verdicts[verdict] for verdict in VERDICTS}, "settings": label,
@@ -64,8 +64,8 @@ def as_text(row):
 
 def line_of(number, race, changes, label, is_json):
     report = race.changed(changes).report
-    kind, place, tick = report.result
-    address = {"address": plain.print_address(report.lines[place].address)} if kind == "won" else {}
+    kind, _, tick = report.result
+    address = {"address": plain.print_address(report.winner.address)} if report.winner else {}
     verdict = verdict_of(race.report.result, report.result)
     if is_json:
         return one_line({"file": "-", "race": number, "line": race.line, "ended": kind, **address, "ms": tick,

@@ -13,10 +13,8 @@ LEAST_COLUMNS = 10
 EDGES = 4
 NAMES = {"aaaa": "AAAA answer", "a": "A answer"}
 # The signs of both looks.
-UNICODE = {"edge": "│", "answer": "●", "wait": "┄", "pause": "░", "attempt": "━", "won": "✓", "failed": "✕",
-           "cancelled": "▸"}
-ASCII = {"edge": "|", "answer": "o", "wait": "~", "pause": "#", "attempt": "=", "won": "*", "failed": "x",
-         "cancelled": ">"}
+SIGNS = ("edge", "answer", "wait", "pause", "attempt", "won", "failed", "cancelled")
+UNICODE, ASCII = dict(zip(SIGNS, "│●┄░━✓✕▸")), dict(zip(SIGNS, "|o~#=*x>"))
 
 # A row: the ticks from which to which it is drawn, the sign of its first column, of those between, and of its last one.
 Row = namedtuple("Row", "label start stop first between last words")

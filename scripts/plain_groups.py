@@ -1,14 +1,9 @@
-#!/usr/bin/env python3
 """A plain reading of what `he summary --by` writes, apart from the program, as plain.py is of the rules: by
 docs/DEFINITIONS.md and crates/he_compare/specs.
 
 needs: python3, its standard library alone
-usage: scripts/plain_groups.py file|hour|family [--json] [NAME=N ..] FILE ..
-           with these settings in place of each race's own, as with --set
 """
-import pathlib
 import re
-import sys
 
 import plain
 import plain_summary
@@ -28,8 +23,8 @@ def hour_of(name):
 
 
 def family_of(race):
-    result = race.report.result
-    return FAMILIES[race.report.lines[result.place].address.family if result.kind == "won" else None]
+    winner = race.report.winner
+    return FAMILIES[winner and winner.address.family]
 
 
 def groups_of(by, files, changes):
@@ -83,15 +78,3 @@ def writer(by, is_json):
 
 # What is written of standard input, by the words of the command.
 WRITTEN = {f"summary --by {by}{option}": writer(by, bool(option)) for by in GROUPINGS for option in ("", " --json")}
-
-
-def main(words):
-    is_json, by = "--json" in words, words[0]
-    changes = plain.changes_of([word for word in words if "=" in word])
-    files = [(name, plain.read_text(pathlib.Path(name).read_bytes().decode("latin-1"))[0])
-             for name in words[1:] if name != "--json" and "=" not in name]
-    sys.stdout.buffer.write(written_of(by, files, changes, is_json))
-
-
-if __name__ == "__main__":
-    main(sys.argv[1:])

@@ -27,9 +27,9 @@ Cause = namedtuple("Cause", "words due name delay after", defaults=(None, None))
 
 
 def ending(report):
-    kind, place, tick = report.result
-    if kind == "won":
-        return f"connected to {print_address(report.lines[place].address)} after {tick} ms"
+    kind, _, tick = report.result
+    if report.winner:
+        return f"connected to {print_address(report.winner.address)} after {tick} ms"
     why = {"exhausted": f": nothing is left to try after {tick} ms and", "limit": f" by the limit of {tick} ms, after"}
     return f"not connected{why[kind]} {counted(len(report.lines), 'attempt')}"
 
@@ -46,12 +46,9 @@ def between(race, report, winner):
 
 def verdict(race, report):
     """How the race ended, and what it lost, if it was won: from its winner's answer to its winner's attempt."""
-    kind, place, _ = report.result
-    if kind != "won":
+    if not report.winner:
         return ending(report)
-    winner = report.lines[place]
-    lost = winner.start - race.seen(tick_of(race, WORDS[winner.address.family]))
-    told = f"{lost} ms lost: {between(race, report, winner)}" if lost > 0 else "nothing lost"
+    told = f"{race.lost()} ms lost: {between(race, report, report.winner)}" if race.lost() else "nothing lost"
     return f"{ending(report)}; {told}"
 
 

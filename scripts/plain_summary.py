@@ -40,13 +40,6 @@ def has_waited(race, report):
     return not race.is_seen("aaaa", start) and race.is_seen("a", start - 1)
 
 
-def lost_time(race, report):
-    """How long after the winner's answer was seen its attempt started."""
-    winner = report.lines[report.result.place]
-    answer = race.answers["aaaa" if winner.address.family == 6 else "a"]
-    return max(0, winner.start - race.seen(answer.tick))
-
-
 def dead_before(race, report):
     """What an address was that was tried before the winner's: silent, or else one that failed."""
     before = report.lines[:report.result.place]
@@ -59,7 +52,7 @@ def losses(won):
     """What the won races lost to dead addresses, by what these were."""
     lost = {"failed": [], "silent": []}
     for race, report in won:
-        dead, time = dead_before(race, report), lost_time(race, report)
+        dead, time = dead_before(race, report), race.lost()
         if dead and time:
             lost[dead].append(time)
     return lost
@@ -80,17 +73,16 @@ def share(number, of):
 
 def summed(races, changes):
     made = [(race, race.report) for race in (race.changed(changes) for race in races)]
-    won = [report for _, report in made if report.result.kind == "won"]
-    numbered = [(number, race, report) for number, (race, report) in enumerate(made, 1) if report.result.kind == "won"]
+    won = [(number, race, report) for number, (race, report) in enumerate(made, 1) if report.winner]
     lines = [(race, line) for race, report in made for line in report.lines]
     return Summary(
-        len(made), Counter(report.lines[report.result.place].address.family for report in won),
-        Counter(report.result.kind for _, report in made), [report.result.tick for report in won],
-        losses([(race, report) for _, race, report in numbered]), len(lines),
+        len(made), Counter(report.winner.address.family for _, _, report in won),
+        Counter(report.result.kind for _, report in made), [report.result.tick for _, _, report in won],
+        losses([(race, report) for _, race, report in won]), len(lines),
         max((len(report.lines) for _, report in made), default=0), sum(has_waited(*one) for one in made),
         *(Counter(line.address for race, line in lines if test(race, line)) for test in (is_failed, is_silent)),
         Counter(line.address for _, line in lines),
-        sorted(numbered, key=lambda one: (-one[2].result.tick, one[0])))
+        sorted(won, key=lambda one: (-one[2].result.tick, one[0])))
 
 
 def worst(summary):
@@ -132,7 +124,7 @@ def as_text(summary, slowest):
           f" {counted(summary.tried[address], 'attempt')} to {print_address(address)}" for address in addresses),
         *["slowest:"] * bool(slow),
         *(f"  -:{race.line} race {number}: {report.result.tick} ms to"
-          f" {print_address(report.lines[report.result.place].address)}, {lost_time(race, report)} ms lost"
+          f" {print_address(report.winner.address)}, {race.lost()} ms lost"
           for number, race, report in slow),
     ]
     return "".join(f"{line}\n" for line in lines)
@@ -146,7 +138,7 @@ def as_object(summary, slowest):
     failing = [{"failed": summary.failed[address], "silent": summary.silent[address],
                 "attempts": summary.tried[address], "address": print_address(address)} for address in worst(summary)]
     slow = [{"file": "-", "race": number, "line": race.line, "ms": report.result.tick,
-             "address": print_address(report.lines[report.result.place].address), "lost_ms": lost_time(race, report)}
+             "address": print_address(report.winner.address), "lost_ms": race.lost()}
             for number, race, report in summary.slowest[:slowest]]
     return {
         "races": summary.races,

@@ -4,7 +4,9 @@
 needs: python3, its standard library alone
 usage: scripts/plain_wanted.py COMMAND [--json] [--ascii] [--races] [--slowest N] [NAME=N ..] < TEXT
            with these settings in place of each race's own, as with --set; of `compare` one name may have a list
+       scripts/plain_wanted.py summary --by GROUP [--json] [NAME=N ..] -- FILE ..
 """
+import pathlib
 import sys
 
 import plain
@@ -54,9 +56,14 @@ class Wanted:
 def main(words):
     if not words or words[0] not in {command.split()[0] for command in WRITTEN}:
         sys.exit(__doc__.strip())
-    wanted = Wanted(sys.stdin.buffer.read())
+    *words, files = (*words[:words.index("--")], words[words.index("--") + 1:]) if "--" in words else (*words, [])
+    texts = [(name, Wanted(pathlib.Path(name).read_bytes()).races) for name in files]
+    wanted = Wanted(b"" if files else sys.stdin.buffer.read())
     settings = [word for word in words if "=" in word]
-    if words[0] == "compare":
+    if files:
+        by = words[words.index("--by") + 1]
+        output = plain_groups.written_of(by, texts, plain.changes_of(settings), "--json" in words)
+    elif words[0] == "compare":
         rows = plain_compared.rows_of(settings)
         output = plain_compared.written_for(wanted.races, rows, "--json" in words, "--races" in words)
     elif "--slowest" in words:

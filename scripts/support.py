@@ -4,7 +4,9 @@ addresses that answer, refuse or are silent, servers, and a name server.
 needs: Linux, python3, its standard library alone
 """
 import contextlib
+import functools
 import hashlib
+import http.server
 import os
 import pathlib
 import re
@@ -139,14 +141,34 @@ def winner_of(transcript):
     return next((ip for _, ip, end in attempts_of(transcript) if end == "won"), None)
 
 
-def in_namespaces(flags, setup, *words, **more):
-    """Runs this script again, with INSIDE and these words, in namespaces of its own that lines of sh set up. None where
+class Run:
+    """A run of the program that raced: its status, what it told, its transcript with the attempts and the winner, and
+    its record."""
+
+    def __init__(self, done, transcript, record):
+        self.status, self.told, self.transcript, self.record = done.returncode, done.stderr, transcript, record
+        self.attempts, self.won = attempts_of(transcript), winner_of(transcript)
+
+
+def in_namespaces(flags, setup):
+    """Runs this script again, with INSIDE, in namespaces of its own that lines of sh set up: its status, or None where
     that cannot be done."""
-    lines = f"set -e\n{setup}\n"
-    if not shutil.which("unshare") or run("unshare", *flags.split(), "sh", "-c", lines).returncode:
+    unshare, lines = ["unshare", *flags.split(), "sh", "-c"], f"set -e\n{setup}\n"
+    if not shutil.which("unshare") or run(*unshare, lines).returncode:
         return None
-    again = [sys.executable, os.path.abspath(sys.argv[0]), *sys.argv[1:], INSIDE, *words]
-    return subprocess.run(["unshare", *flags.split(), "sh", "-c", f'{lines}exec "$0" "$@"', *map(str, again)], **more)
+    again = [sys.executable, os.path.abspath(sys.argv[0]), *sys.argv[1:], INSIDE]
+    return subprocess.run([*unshare, f'{lines}exec "$0" "$@"', *again]).returncode
+
+
+def is_inside(flags, setup, otherwise):
+    """Whether the script runs in such namespaces: it goes into them, and ends as it does there, or says what is not
+    tried otherwise."""
+    if INSIDE not in sys.argv:
+        status = in_namespaces(flags, setup)
+        if status is not None:
+            sys.exit(status)
+        print(otherwise)
+    return INSIDE in sys.argv
 
 
 def comes(is_there, seconds=20):
@@ -223,14 +245,8 @@ def is_listening(port):
 SIX, FOUR = "2001:db8:1e::1", "127.0.0.1"  # addresses of this machine
 DEAD_SIX, DEAD_FOUR = "2001:db8:1e::9", "127.0.0.9"  # others, at which nothing answers
 WIDE_FOUR = "10.77.0.1"  # the IPv4 address of this machine beyond loopback, without which IPv4 is not asked for
-NAMES = {
-    "both.test": [SIX, FOUR],
-    "dead6.test": [DEAD_SIX, FOUR],
-    "dead.test": [DEAD_SIX, DEAD_FOUR],
-    "four.test": [FOUR],
-    "six.test": [SIX],
-    "far.test": ["198.51.100.9"],
-}
+NAMES = {"both.test": [SIX, FOUR], "dead6.test": [DEAD_SIX, FOUR], "dead.test": [DEAD_SIX, DEAD_FOUR],
+         "four.test": [FOUR], "six.test": [SIX], "far.test": ["198.51.100.9"]}
 # Where a server listens, the host that is asked for, and the address that wins.
 TAKEN = [(FOUR, "four.test", FOUR), (SIX, "six.test", SIX), (FOUR, FOUR, FOUR), (SIX, SIX, SIX),
          (FOUR, "dead6.test", FOUR), (FOUR, "both.test", FOUR), (SIX, "both.test", SIX)]
@@ -248,18 +264,32 @@ mount -t sysfs sysfs /sys
 
 def run_checks_in_network(script, **files):
     """As run_checks, in the network above, with these files set in as /etc/NAME beside that of the hosts."""
-    if INSIDE in sys.argv:
-        run_checks(script)
     files["hosts"] = "".join(f"{address} {name}\n" for name, found in NAMES.items() for address in found)
     with tempfile.TemporaryDirectory() as folder:
         setup = NETWORK
         for name, text in files.items():
             pathlib.Path(folder, name).write_text(text)
             setup += f"[ ! -e /etc/{name} ] || mount --bind {folder}/{name} /etc/{name}\n"
-        done = in_namespaces("-n -m", setup)
-    if done is None:
-        print("not tried: no network and file of hosts of its own can be made")
-    sys.exit(done.returncode if done else 0)
+        if is_inside("-n -m", setup, "not tried: no network and file of hosts of its own can be made"):
+            run_checks(script)
+
+
+def in_thread(work, *given):
+    threading.Thread(target=work, args=given, daemon=True).start()
+
+
+def accept_all(listener, serve):
+    """Calls `serve` with each connection, each in a thread, until the listener is closed."""
+    def take(connection):
+        with connection, contextlib.suppress(OSError):
+            serve(connection)
+
+    def accept():
+        with contextlib.suppress(OSError):
+            while True:
+                in_thread(take, listener.accept()[0])
+
+    in_thread(accept)
 
 
 @contextlib.contextmanager
@@ -268,17 +298,7 @@ def serving(serve, address=FOUR, interface=0, port=0):
     alone; gives its port, at which the two addresses that are dead are silent."""
     listener = listener_at(address, port, backlog=1024, interface=interface)
     port = listener.getsockname()[1]
-
-    def take(connection):
-        with connection, contextlib.suppress(OSError):
-            serve(connection)
-
-    def accept():
-        with contextlib.suppress(OSError):
-            while True:
-                threading.Thread(target=take, args=(listener.accept()[0],), daemon=True).start()
-
-    threading.Thread(target=accept, daemon=True).start()
+    accept_all(listener, serve)
     try:
         with silent(DEAD_SIX, port), silent(DEAD_FOUR, port):
             yield port
@@ -330,23 +350,20 @@ def server_at(port, *command, is_there=None, **more):
             server.terminate()
 
 
+class Quiet(http.server.SimpleHTTPRequestHandler):
+    def log_message(self, *_):
+        pass
+
+
 @contextlib.contextmanager
-def web_server(folder):
-    """python's web server, at the port that is given."""
-    port = unused_port()
-    with server_at(port, sys.executable, "-m", "http.server", "--bind", FOUR, "--directory", folder, port):
-        yield port
-
-
-SSHD = """Port {port}
-ListenAddress {address}
-HostKey {folder}/host
-AuthorizedKeysFile {folder}/key.pub
-PidFile none
-StrictModes no
-UsePAM no
-PermitRootLogin yes
-"""
+def web_server(folder, tls=None):
+    """A web server of the folder, with TLS by a context; gives its port."""
+    with http.server.ThreadingHTTPServer((FOUR, 0), functools.partial(Quiet, directory=folder)) as server:
+        if tls:
+            server.socket = tls.wrap_socket(server.socket, server_side=True)
+        in_thread(server.serve_forever)
+        yield server.server_port
+        server.shutdown()
 
 
 def is_reached(address, port):
@@ -356,17 +373,18 @@ def is_reached(address, port):
 
 
 @contextlib.contextmanager
-def sshd(address, folder, port=None, inside=(), setting=""):
+def sshd(address, folder, port=None, inside=(), settings=()):
     """sshd at an address, behind words that run it elsewhere, its files in the folder; gives its port, and the words of
     a client that may log in."""
     needs("sshd", "ssh", "ssh-keygen")
     for name in ("host", "key"):
-        subprocess.run(["ssh-keygen", "-q", "-t", "ed25519", "-N", "", "-f", f"{folder}/{name}"], check=True)
+        run("ssh-keygen", "-q", "-t", "ed25519", "-N", "", "-f", f"{folder}/{name}", check=True)
     port = port or unused_port(address)
-    pathlib.Path(folder, "sshd").write_text(SSHD.format(port=port, address=address, folder=folder) + setting)
     pathlib.Path("/run/sshd").mkdir(exist_ok=True)
+    lines = [f"Port {port}", f"ListenAddress {address}", f"HostKey {folder}/host", "PidFile none", "StrictModes no",
+             f"AuthorizedKeysFile {folder}/key.pub", "UsePAM no", "PermitRootLogin yes", *settings]
     options = ["StrictHostKeyChecking=no", "BatchMode=yes", f"UserKnownHostsFile={folder}/known", "LogLevel=ERROR"]
-    command = [*inside, shutil.which("sshd"), "-D", "-f", f"{folder}/sshd"]
+    command = [*inside, shutil.which("sshd"), "-D", "-f", "/dev/null", *(f"-o{line}" for line in lines)]
     with server_at(port, *command, is_there=lambda: is_reached(address, port)):
         yield port, ["ssh", "-F", "none", "-i", f"{folder}/key", *(f"-o{option}" for option in options)]
 
@@ -425,8 +443,8 @@ class NameServer:
         self.port = self.datagrams.getsockname()[1]
         self.at = f"[{ip}]:{self.port}" if ":" in ip else f"{ip}:{self.port}"
         self.listener = listener_at(ip, self.port, interface=interface)
-        for work in (self.serve_datagrams, self.serve_streams):
-            threading.Thread(target=work, daemon=True).start()
+        accept_all(self.listener, self.serve_stream)
+        in_thread(self.serve_datagrams)
 
     def __enter__(self):
         return self
@@ -452,12 +470,7 @@ class NameServer:
                 self.take(query, peer)
 
     def take(self, query, peer):
-        threading.Thread(target=self.send, args=(query, self.put_to(peer), False), daemon=True).start()
-
-    def serve_streams(self):
-        with contextlib.suppress(OSError):
-            while True:
-                threading.Thread(target=self.serve_stream, args=(self.listener.accept()[0],), daemon=True).start()
+        in_thread(self.send, query, self.put_to(peer), False)
 
     def serve_stream(self, stream):
         """Answers the queries of a connection in their order, in pieces."""
@@ -466,9 +479,8 @@ class NameServer:
             for at in range(0, len(whole), 9_973):
                 stream.sendall(whole[at:at + 9_973])
                 time.sleep(0.001)
-        with stream, contextlib.suppress(OSError):
-            while len(head := stream.recv(2)) == 2:
-                self.send(stream.recv(struct.unpack("!H", head)[0]), put, True)
+        while len(head := stream.recv(2)) == 2:
+            self.send(stream.recv(struct.unpack("!H", head)[0]), put, True)
 
     def send(self, query, put, stream):
         for wait, reply in self.replies(query, stream):
@@ -493,10 +505,5 @@ def dnsmasq(address, *records):
     port = unused_port(address)
     command = ["dnsmasq", "--keep-in-foreground", "--conf-file=/dev/null", "--no-resolv", "--no-hosts", "--pid-file=",
                "--user=", "--bind-interfaces", f"--listen-address={address}", f"--port={port}", *records]
-    with subprocess.Popen(command, stderr=subprocess.DEVNULL) as server:
-        try:
-            if not is_up(server, lambda: is_answered(address, port)):
-                raise FileNotFoundError("dnsmasq does not answer")
-            yield f"{address}:{port}"
-        finally:
-            server.terminate()
+    with server_at(port, *command, is_there=lambda: is_answered(address, port)):
+        yield f"{address}:{port}"
