@@ -25,19 +25,20 @@ def is_in_use(info):
     return not (info.get("tentative") or info.get("dadfailed"))
 
 
+def addresses_of(interfaces):
+    """Each address of an interface that is up, behind that."""
+    return [(interface, info) for interface in interfaces if "UP" in interface["flags"]
+            for info in interface.get("addr_info", []) if "local" in info]
+
+
 def sources_of(interfaces):
-    """Each address of an interface that is up, once: address, prefix length, interface, marks."""
+    """Each address, once: address, prefix length, interface, marks."""
     sources = {}
-    for interface in interfaces:
-        if "UP" not in interface["flags"]:
-            continue
-        for info in interface.get("addr_info", []):
-            if "local" not in info:
-                continue
-            address = ipaddress.ip_address(info["local"])
-            if is_usable(address) and is_in_use(info):
-                marks = [mark for mark in ("deprecated", "temporary") if info.get(mark)]
-                sources.setdefault(address, (info["prefixlen"], interface["ifindex"], marks))
+    for interface, info in addresses_of(interfaces):
+        address = ipaddress.ip_address(info["local"])
+        if is_usable(address) and is_in_use(info):
+            marks = [mark for mark in ("deprecated", "temporary") if info.get(mark)]
+            sources.setdefault(address, (info["prefixlen"], interface["ifindex"], marks))
     return sources
 
 
@@ -66,12 +67,10 @@ def routes_of(interfaces, routes4, routes6):
                 metric = route.get("metric", LEAST_METRIC[version])
                 if prefix not in found or metric < found[prefix][0]:
                     found[prefix] = (metric, by_name[hops[0]])
-    for interface in interfaces:
-        if "LOOPBACK" in interface["flags"] and "UP" in interface["flags"]:
-            for info in interface.get("addr_info", []):
-                own = ipaddress.ip_interface(f"{info['local']}/{info['prefixlen']}").network
-                if own.is_loopback:
-                    found.setdefault(own, (0, interface))
+    for interface, info in addresses_of(interfaces):
+        own = ipaddress.ip_interface(f"{info['local']}/{info['prefixlen']}").network
+        if "LOOPBACK" in interface["flags"] and own.is_loopback:
+            found.setdefault(own, (0, interface))
     return {prefix: (interface["ifindex"], interface.get("linkinfo", {}).get("info_kind") in TUNNELS)
             for prefix, (_, interface) in found.items()}
 
