@@ -69,8 +69,8 @@ time (UTC) and target in its name, and which all commands read that take races:
   he summary day/*/*.timeline
   he draw --html day.html day/*/*.timeline
 
-Of addresses that RFC 6724 leaves alike, those that were connected to in the last
-day from the same source come first, the fastest before the others (RFC 8305
+Of addresses that RFC 6724 leaves alike, one that was connected to in the last
+day from the same source comes first, the fastest before the others (RFC 8305
 section 4). With --history this is known after a restart too.
 
 Standard error has a line for each session: the time, the client, what it asked
