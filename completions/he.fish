@@ -42,6 +42,7 @@ complete -c he -n '__fish_seen_subcommand_from proxy' -l host -r -F -d 'Take the
 complete -c he -n '__fish_seen_subcommand_from proxy' -l resolver -x -a system -d 'The name server to ask: ADDRESS, ADDRESS:PORT or [ADDRESS]:PORT'
 complete -c he -n '__fish_seen_subcommand_from proxy' -l record -x -d 'Write each race to a file of its own under DIR'
 complete -c he -n '__fish_seen_subcommand_from proxy' -l record-most -x -d 'Keep N records'
+complete -c he -n '__fish_seen_subcommand_from proxy' -l history -r -F -d 'Keep in FILE what is known of addresses that were connected to, for a day'
 complete -c he -n '__fish_seen_subcommand_from proxy' -l most -x -d 'Serve N clients at once'
 complete -c he -n '__fish_seen_subcommand_from proxy' -l idle -x -d 'Close a tunnel on which nothing came for so many seconds'
 complete -c he -n '__fish_seen_subcommand_from proxy' -s q -l quiet -d 'Write no line for a session'
