@@ -183,13 +183,9 @@ class Host:
                        and is_v4_prefix(route.prefix) == (destination.family == 4))
 
     def candidates(self, destination):
-        route = self.route(destination)
-        if route is None:
-            return []
-        sources = [source for source in self.sources if source.address.family == destination.family]
-        if scope(destination) == 2:
-            sources = [source for source in sources if source.interface == route.interface]
-        return sources
+        route, is_near = self.route(destination), scope(destination) == 2
+        return [source for source in self.sources if route and source.address.family == destination.family
+                and (not is_near or source.interface == route.interface)]
 
     def is_better_source(self, one, two, destination):
         """RFC 6724 section 5: whether one goes before two."""
@@ -208,10 +204,8 @@ class Host:
 
     def source(self, destination):
         candidates = self.candidates(destination)
-        for source in candidates:
-            if not any(self.is_better_source(other, source, destination) for other in candidates):
-                return source
-        return None
+        return next((source for source in candidates if not any(
+            self.is_better_source(other, source, destination) for other in candidates)), None)
 
     def facts(self, address):
         """What the destination rules ask of an address."""
@@ -228,11 +222,9 @@ class Host:
         """RFC 6724 section 6: the facts of some addresses (a tuple), each at the place that counts those preferred to
         it."""
         facts = [self.facts(address) for address in addresses]
-        places = {}
-        for mine, fact in enumerate(facts):
-            place = sum(is_preferred(other, fact, at < mine) for at, other in enumerate(facts) if at != mine)
-            assert place not in places
-            places[place] = fact
+        places = {sum(is_preferred(other, fact, at < mine) for at, other in enumerate(facts) if at != mine): fact
+                  for mine, fact in enumerate(facts)}
+        assert len(places) == len(facts)
         return [places[place] for place in range(len(facts))]
 
 

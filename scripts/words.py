@@ -147,17 +147,11 @@ def bash_values(commands):
 
 
 def bash(commands):
-    cases = []
-    for command in commands[1:]:
-        options = " ".join(name for option in command.options for name in option.names())
-        word = command.words[0] if command.words else ""
-        cases.append(f"        {command.name}) options='{options}' words={word} ;;")
-    return BASH % {
-        "commands": " ".join(command.name for command in commands[1:]),
-        "top": "".join(f" {name}" for option in commands[0].options for name in option.names()),
-        "values": "\n".join(bash_values(commands)),
-        "cases": "\n".join(cases),
-    }
+    top, *options = (" ".join(name for option in command.options for name in option.names()) for command in commands)
+    cases = [f"        {command.name}) options='{names}' words={''.join(command.words[:1])} ;;"
+             for command, names in zip(commands[1:], options)]
+    return BASH % {"commands": " ".join(command.name for command in commands[1:]), "top": f" {top}",
+                   "values": "\n".join(bash_values(commands)), "cases": "\n".join(cases)}
 
 
 def quoted(text):
@@ -218,15 +212,11 @@ _he "$@"
 
 
 def zsh(commands):
-    cases = ["        help) _describe command commands ;;" if command.name == "help" else
-             f"        {command.name})\n            _arguments -s {zsh_options(command)}{zsh_words(command)}\n            ;;"
-             for command in commands[1:]]
-    return ZSH % {
-        "settings": " ".join(SETTINGS),
-        "commands": "\n".join(f"        {quoted(command.name + ':' + command.about)}" for command in commands[1:]),
-        "top": zsh_options(commands[0]),
-        "cases": "\n".join(cases),
-    }
+    cases = [f"        {each.name})\n            _arguments -s {zsh_options(each)}{zsh_words(each)}\n            ;;"
+             if each.name != "help" else "        help) _describe command commands ;;" for each in commands[1:]]
+    names = [f"        {quoted(command.name + ':' + command.about)}" for command in commands[1:]]
+    return ZSH % {"settings": " ".join(SETTINGS), "commands": "\n".join(names), "top": zsh_options(commands[0]),
+                  "cases": "\n".join(cases)}
 
 
 def zsh_options(command):
@@ -256,9 +246,8 @@ def synopsis(commands):
     lines = []
     for command in commands[1:]:
         lines.append(f".B he {command.name}")
-        for option in command.options:
-            if "--help" not in option.names():
-                lines += synopsis_option(option)
+        shown = [option for option in command.options if "--help" not in option.names()]
+        lines += [line for option in shown for line in synopsis_option(option)]
         for at, word in enumerate(command.words):
             is_many = command.is_many and at + 1 == len(command.words)
             lines.append(f'.RI [ {word} " ...]"' if is_many else f".RI [ {word} ]" if command.is_optional else f".I {word}")
