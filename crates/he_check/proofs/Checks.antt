@@ -1,5 +1,5 @@
 -- What a check comes to where it ends.
-use Rattle.std.proofs.Common.{ℕ, ◌≡◌, ◌+◌, ◌-◌, ◌≤◌, ◌==◌, Bool, true, false, List, [], ◌∷◌, ◌++◌, length, map, take, drop, Option, Some, None, IfSome, Result, Ok, Err, refl, sym, subst, subst₂, ◌∙◌, ap, append-nil, true≢false, arith, inl, inr}
+use Rattle.std.proofs.Common.{ℕ, ◌≡◌, ◌⊎◌, ◌+◌, ◌-◌, ◌≤◌, ◌==◌, Bool, true, false, List, [], ◌∷◌, ◌++◌, length, map, take, drop, Option, Some, None, IfSome, Result, Ok, Err, refl, sym, subst, subst₂, ◌∙◌, ap, append-nil, true≢false, arith, inl, inr}
 use Rattle.std.specs.List.{slice_get}
 use Rattle.std.specs.Prelude.{IfErr, IfOk, IsSome, is_some}
 use Rattle.he_inputs.specs.Inputs.{HasRaces, IsFaultBehind, line_count}

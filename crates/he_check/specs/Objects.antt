@@ -1,5 +1,5 @@
 -- What is told of an input as an object of JSON (RFC 8259), on one line.
-use Rattle.std.specs.Prelude.{ℕ, ◌++◌, ◌==◌, Bool, true, false, List, [], ◌∷◌, codes, decimal, drop, if◌then◌else◌, Option, Some, None}
+use Rattle.std.specs.Prelude.{ℕ, ◌++◌, ◌==◌, Bool, true, false, List, [], codes, decimal, drop, if◌then◌else◌, Option, Some, None}
 use Rattle.std.specs.List.{flat_map}
 use Rattle.he_print.specs.Escaping.{string_text}
 use Rattle.he_check.specs.Sentences.{sentence_of}

@@ -100,10 +100,10 @@ pub fn check_json<A: Allocator + Copy, I: InputStream, O: OutputStream>(
             put_object(alloc, file, &members, output)
         }
         Err(StreamFault::Memory) => Err(StreamFault::Memory),
-        Err(fault) => {
-            put_object(alloc, file, &faults, output)?;
-            Err(fault)
-        }
+        Err(fault) => match put_object(alloc, file, &faults, output) {
+            Ok(()) => Err(fault),
+            Err(unwritten) => Err(unwritten),
+        },
     }
 }
 

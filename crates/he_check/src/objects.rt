@@ -46,15 +46,25 @@ pub(crate) fn right_members<A: Allocator + Copy>(
 ) -> Result<Vec<u8, A>, Memory>
     ensures { IfOk result (λ text. text.items ≡ right_members checked warnings.now) }
 {
-    let entries = warning_entries(alloc, warnings)?;
     let mut text = Vec::new(alloc);
     text.extend_from_slice(b",\"races\":")?;
     write_number(checked.races, &mut text)?;
     text.extend_from_slice(b",\"lines\":")?;
     write_number(checked.lines, &mut text)?;
     text.extend_from_slice(b",\"warnings\":")?;
-    write_list(&entries, &mut text)?;
+    write_warnings(alloc, warnings, &mut text)?;
     Ok(text)
+}
+
+fn write_warnings<A: Allocator + Copy>(
+    alloc: A,
+    warnings: &[Warning],
+    text: &mut Vec<u8, A>,
+) -> Result<(), Memory>
+    ensures { OnOk result (text.new.items ≡ text.old.items ++ list_text (flat_map warning_entry warnings.now)) }
+{
+    let entries = warning_entries(alloc, warnings)?;
+    write_list(&entries, text)
 }
 
 fn warning_entries<A: Allocator + Copy>(
