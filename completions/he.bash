@@ -53,7 +53,7 @@ _he() {
         summary) options='--json --openmetrics --slowest --by --keep-going --set --verbose -v --help -h' words=FILE ;;
         compare) options='--json --races --keep-going --set --verbose -v --help -h' words=FILE ;;
         order) options='--json --verbose -v --help -h' words=FILE ;;
-        check) options='--all --help -h' words=FILE ;;
+        check) options='--all --json --help -h' words=FILE ;;
         help) options='' words=COMMAND ;;
     esac
     case $word in

@@ -105,4 +105,5 @@ complete -c he -n '__fish_seen_subcommand_from order' -s v -l verbose -d 'Explai
 complete -c he -n '__fish_seen_subcommand_from order' -s h -l help -d 'Print help'
 complete -c he -n '__fish_seen_subcommand_from check' -F
 complete -c he -n '__fish_seen_subcommand_from check' -l all -d 'Go on after a faulty race and after a faulty file, and explain the first fault of each race'
+complete -c he -n '__fish_seen_subcommand_from check' -l json -d 'Write one JSON object for each file, each on a line'
 complete -c he -n '__fish_seen_subcommand_from check' -s h -l help -d 'Print help'

@@ -27,7 +27,7 @@ he: line 1: warning: an outcome of an IPv4 address of this race comes after its 
 ";
 
 /// Those that check it.
-pub static CHECK_ROWS: [Row; 18] = [
+pub static CHECK_ROWS: [Row; 26] = [
     (
         &["he", "check"],
         TEXT,
@@ -171,5 +171,71 @@ pub static CHECK_ROWS: [Row; 18] = [
         1,
         b"",
         b"he: line 2: word\n  set timeout 100\n      ^^^^^^^\nno such setting: the time after which a race is given up is `limit`\n",
+    ),
+    (
+        &["he", "check", "--json"],
+        TEXT,
+        Streams::Whole,
+        0,
+        b"{\"file\":null,\"races\":1,\"lines\":9,\"warnings\":[]}\n",
+        b"",
+    ),
+    (
+        &["he", "check", "--json"],
+        WRONG_TEXT,
+        Streams::Whole,
+        1,
+        b"{\"file\":null,\"faults\":[{\"line\":2,\"kind\":\"unfinished\",\"text\":\"the text ends inside this line; each line ends with a line feed\"}]}\n",
+        b"",
+    ),
+    (
+        &["he", "check", "--json"],
+        TEXT,
+        Streams::BreaksOff,
+        1,
+        b"{\"file\":null,\"faults\":[],\"broken\":true}\n",
+        READ_LINE,
+    ),
+    (
+        &["he", "check", "--json", "--all"],
+        b"race 1\nset attempt 5\nend\nrace 1\nset limit 0",
+        Streams::BreaksOff,
+        1,
+        b"{\"file\":null,\"faults\":[{\"line\":2,\"kind\":\"range\",\"text\":\"the attempt delay is 10 to 2000 milliseconds\"}],\"broken\":true}\n",
+        b"",
+    ),
+    (
+        &["he", "check", "--json"],
+        TEXT,
+        Streams::Room(9),
+        1,
+        b"{\"file\":n",
+        WRITE_LINE,
+    ),
+    (
+        &["he", "check", "--json", "-", "-"],
+        TEXT,
+        Streams::Whole,
+        0,
+        b"{\"file\":\"-\",\"races\":1,\"lines\":9,\"warnings\":[]}
+{\"file\":\"-\",\"races\":0,\"lines\":0,\"warnings\":[{\"line\":1,\"kind\":\"no race\",\"text\":\"the input has no race: a race begins with the line `race 1` or `race 2`\"}]}
+",
+        b"",
+    ),
+    (
+        &["he", "check", "--json", "text-in-json.timeline", "-"],
+        TEXT,
+        Streams::Whole,
+        1,
+        b"{\"file\":\"text-in-json.timeline\",\"faults\":[{\"line\":1,\"kind\":\"header\",\"text\":\"a race begins with the line `race 1` or `race 2`; the input is JSON, which `he` writes and does not read\"}]}\n",
+        b"",
+    ),
+    (
+        &["he", "check", "--json", "--all", "nowhere.timeline", "-"],
+        TEXT,
+        Streams::Whole,
+        1,
+        b"{\"file\":\"-\",\"races\":1,\"lines\":9,\"warnings\":[]}\n",
+        b"he: nowhere.timeline: No such file or directory",
     ),
 ];

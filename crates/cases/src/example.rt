@@ -2,7 +2,7 @@
 
 use crate::resolving::Heard;
 use crate::turns::run_turns;
-use he_check::check;
+use he_check::{check, check_json};
 use he_draw::Look;
 use he_inputs::StreamFault;
 use he_replay::limits::{LEAST_WORKERS, MOST_WORKERS};
@@ -119,6 +119,17 @@ const CONTENTS: [(Content, &str); 7] = [
     (PICTURE, "picture"),
 ];
 
+// The names of an input that is checked, and with what its object begins then.
+const NO_FILE: &[u8] = b"{\"file\":null,";
+
+const JSON_FILES: [(Option<&str>, &[u8]); 2] = [
+    (None, NO_FILE),
+    (
+        Some("a \"b\\c\u{1b}"),
+        b"{\"file\":\"a \\\"b\\\\c\\u001b\",",
+    ),
+];
+
 /// Runs the example of this name, and counts its runs.
 ///
 /// # Errors
@@ -140,6 +151,8 @@ pub fn run_example<R: Threads + Sync>(
     };
     run_check(rt, example, counts)?;
     run_check_all(rt, example, counts)?;
+    run_check_json(rt, example, (false, "check-json"), counts)?;
+    run_check_json(rt, example, (true, "check-all-json"), counts)?;
     run_all(rt, threads, example, counts, heard)
 }
 
@@ -259,6 +272,35 @@ fn run_check_all(rt: &HostRuntime, example: Example<'_>, counts: &mut Counts) ->
         drop(explanation);
         let is_same = tells(rt, ended, fault)? && is_told;
         counts.count(rt, name, "what is told of all faults differs", is_same)?;
+    }
+    Ok(())
+}
+
+// Runs the text through a check for the first fault, or for all, that is written as JSON, where what it writes stands
+// beside the example: of an input without a name, and of one with a name whose marks are escaped.
+fn run_check_json(
+    rt: &HostRuntime,
+    example: Example<'_>,
+    asked: (bool, &str),
+    counts: &mut Counts,
+) -> io::Result<()> {
+    let Example { name, text, fault } = example;
+    let (is_all, ending) = asked;
+    let Some(wanted) = read_beside(rt, name, ending)? else {
+        return Ok(());
+    };
+    for (file, beginning) in JSON_FILES {
+        for number in 0..way_count(text) {
+            let mut input = input_of(text, way(text, number));
+            let mut output = ToWriter::new(FakeWriter::new(rt.alloc()));
+            let ended = check_json(rt.alloc(), is_all, file, &mut input, &mut output);
+            let rest = output.writer().held().strip_prefix(beginning);
+            let is_written = rest.is_some() && rest == wanted.strip_prefix(NO_FILE);
+            drop(input);
+            drop(output);
+            let is_same = tells(rt, ended, fault)? && is_written;
+            counts.count(rt, name, ending, is_same)?;
+        }
     }
     Ok(())
 }

@@ -1,5 +1,5 @@
 -- What a check comes to where it ends.
-use Rattle.std.proofs.Common.{ℕ, ◌≡◌, ◌+◌, ◌-◌, ◌≤◌, ◌==◌, Bool, true, false, List, [], ◌∷◌, ◌++◌, length, map, take, drop, Option, Some, None, IfSome, Result, Ok, Err, refl, sym, subst, ◌∙◌, ap, append-nil, true≢false, arith, inl, inr}
+use Rattle.std.proofs.Common.{ℕ, ◌≡◌, ◌⊎◌, ◌+◌, ◌-◌, ◌≤◌, ◌==◌, Bool, true, false, List, [], ◌∷◌, ◌++◌, length, map, take, drop, Option, Some, None, IfSome, Result, Ok, Err, refl, sym, subst, subst₂, ◌∙◌, ap, append-nil, true≢false, arith, inl, inr}
 use Rattle.std.specs.List.{slice_get}
 use Rattle.std.specs.Prelude.{IfErr, IfOk, IsSome, is_some}
 use Rattle.he_inputs.specs.Inputs.{HasRaces, IsFaultBehind, line_count}
@@ -10,14 +10,14 @@ use Rattle.he_inputs.specs.declared.race_reader.Ending.TheVariants as endings
 use Rattle.he_inputs.specs.declared.stream_fault.StreamFault.{StreamFault}
 use Rattle.he_inputs.specs.declared.stream_fault.StreamFault.TheVariants as checks
 use Rattle.he_words.specs.declared.fault.TextFault.{TextFault}
-use Rattle.he_check.specs.AllFaults.{AreFaults, AreSaid, end_text, more_text}
+use Rattle.he_check.specs.AllFaults.{AreFaults, AreSaid, alone_text, none_text, whole_text}
 use Rattle.he_check.specs.Checked.{IsRight, IsWrong}
-use Rattle.he_check.specs.Clauses.{EndsInClause, hint_of}
-use Rattle.he_check.specs.Sentences.{clause_text}
+use Rattle.he_check.specs.Clauses.{hint_of}
 use Rattle.he_check.specs.Slips.{AreWarned, HasWarnings, slip_if, warning_at}
-use Rattle.he_check.specs.Steps.{AreLeft, EndsIn, EndsWith, HasStopped, IsAt, IsCounted, IsFirstIn, IsSaidOf, IsSound, TakesRight, TakesWrong, fault_found, hint_in}
-use Rattle.he_check.specs.Stream.{Explains, TellsAll}
+use Rattle.he_check.specs.Steps.{AreLeft, EndsIn, EndsWith, HasStopped, IsAt, IsCounted, IsFirstIn, IsSaidOf, IsSound, TakesWrong, fault_found, hint_in}
+use Rattle.he_check.specs.Stream.{Explains, TakesRight, TellsAll, TellsFault}
 use Rattle.he_check.specs.declared.counting.Counted.{Counted}
+use Rattle.he_check.specs.declared.form.Form.{Form}
 use Rattle.he_check.specs.declared.input.Checked.{Checked}
 use Rattle.he_check.specs.declared.limits.TheConstants.{MOST_TOLD}
 use Rattle.he_check.specs.declared.meant.Meant.{Meant}
@@ -125,22 +125,35 @@ module _ {A : Type 0} (before bytes : List ℕ) (counted : Counted A) (sound : I
             ]
 
     -- what is said of the first fault alone
-    ends_in_clause : (ending : Ending) → IsAt ending before bytes counted → counted.told.is_all ≡ false → (fault : TextFault) → counted.told.first ≡ Some fault → (is_broken : Bool) (text old new : List ℕ)
-        → IsSaidOf bytes is_broken counted text → new ≡ old ++ text → EndsInClause input fault old new
-    ends_in_clause ending at one fault is is_broken text old new said longer =
+    ends_in_clause : (ending : Ending) → IsAt ending before bytes counted → counted.told.is_all ≡ false → (fault : TextFault) → counted.told.first ≡ Some fault → (is_broken : Bool) (text : List ℕ)
+        → IsSaidOf bytes is_broken counted text → (said : List ℕ) × (text ≡ alone_text counted.told.form fault said (hint_of input fault))
+    ends_in_clause ending at one fault is is_broken text said =
         let reads = not_seeking counted.is_seeking counted.told.is_all sound.seeks one in
-        let words : EndsIn counted.reader.lines left fault text = subst (λ (f : Option TextFault). IfSome f (λ t. EndsIn counted.reader.lines left t text)) is (said.first one) in
+        let words : EndsIn counted.told.form counted.reader.lines left fault text = subst (λ (f : Option TextFault). IfSome f (λ t. EndsIn counted.told.form counted.reader.lines left t text)) is (said.first one) in
         let behind : counted.reader.lines + 1 ≤ fault.line = subst (λ (f : Option TextFault). IfSome f (λ t. counted.reader.lines + 1 ≤ t.line)) is (at.alone one) in
         let there : hint_in counted.reader.lines left fault ≡ hint_of (front ++ (left ++ [])) fault = hint_there front left [] counted.reader.lines fault (at.whole reads) at.lined behind (λ _. inl refl) (λ _. inl refl) in
         let all : front ++ (left ++ []) ≡ input = ap (λ (t : List ℕ). front ++ t) (append-nil left) ∙ parts_of before bytes counted.reader.end in
         let hint : hint_in counted.reader.lines left fault ≡ hint_of input fault = there ∙ ap (λ (t : List ℕ). hint_of t fault) all in
-        (words.0, longer ∙ ap (λ (t : List ℕ). old ++ t) (words.1 ∙ ap (λ (m : Option Meant). words.0 ++ clause_text m) hint))
+        (words.0, words.1 ∙ ap (λ (m : Option Meant). alone_text counted.told.form fault words.0 m) hint)
 
-    module _ (Given : List ℕ → Bool → Type 0) (Taken : List ℕ → Type 0) (is_all : Bool) (all_is : counted.told.is_all ≡ is_all) (old new text : List ℕ) (longer : new ≡ old ++ text)
+    module _ (Given : List ℕ → Bool → Type 0) (Taken : List ℕ → Type 0) (is_all : Bool) (form : Form) (all_is : counted.told.is_all ≡ is_all) (form_is : counted.told.form ≡ form) (old new text : List ℕ)
+        (longer : new ≡ old ++ text)
       where
+        -- what is said of the first fault alone, in the form
+        tells_alone : (ending : Ending) → IsAt ending before bytes counted → is_all ≡ false → (fault : TextFault) → counted.told.first ≡ Some fault → (is_broken : Bool) → IsSaidOf bytes is_broken counted text
+            → Taken input ⊎ ((is_broken : Bool) × Given input is_broken) → TellsFault form Given Taken fault old new
+        tells_alone ending at one fault is is_broken said taken =
+            let clause = ends_in_clause ending at (all_is ∙ one) fault is is_broken text said in
+            record {
+              input = input;
+              taken = taken;
+              said = clause.0;
+              told = longer ∙ ap (λ (t : List ℕ). old ++ t) (clause.1 ∙ ap (λ (f : Form). alone_text f fault clause.0 (hint_of input fault)) form_is);
+            }
+
         -- all faults are told
         tells_all : (is_broken : Bool) → IsAt (ending_of is_broken) before bytes counted → HasStopped (ending_of is_broken) bytes counted → IsSaidOf bytes is_broken counted text → Given input is_broken → is_all ≡ true
-            → (faults : List TextFault) × (counted.told.first ≡ slice_get faults 0) × TellsAll Given faults old new
+            → (faults : List TextFault) × (counted.told.first ≡ slice_get faults 0) × TellsAll form Given faults old new
         tells_all is_broken at stopped said given all =
             let told = at.told (all_is ∙ all) in
             let Left : List ℕ → Type 0 = λ t. AreLeft counted.is_seeking counted.reader is_broken t [] in
@@ -156,8 +169,9 @@ module _ {A : Type 0} (before bytes : List ℕ) (counted : Counted A) (sound : I
                 text = text;
                 said = record {
                   first = counted.told.text.items;
-                  said = subst (λ (i : List ℕ). AreSaid i (take MOST_TOLD told.faults) counted.told.text.items) (append-nil input) (told.said [] is_broken (nothing_follows is_broken));
-                  all = said.all (all_is ∙ all) ∙ ap (λ (n : ℕ). counted.told.text.items ++ (more_text (n - MOST_TOLD) ++ end_text is_broken)) told.number;
+                  said = subst₂ (λ (f : Form) (i : List ℕ). AreSaid f i (take MOST_TOLD told.faults) counted.told.text.items) form_is (append-nil input) (told.said [] is_broken (nothing_follows is_broken));
+                  all = said.all (all_is ∙ all) ∙ ap (λ (n : ℕ). whole_text counted.told.form counted.told.text.items (n - MOST_TOLD) is_broken) told.number
+                      ∙ ap (λ (f : Form). whole_text f counted.told.text.items (length told.faults - MOST_TOLD) is_broken) form_is;
                 };
                 told = longer;
               },
@@ -165,10 +179,10 @@ module _ {A : Type 0} (before bytes : List ℕ) (counted : Counted A) (sound : I
 
         -- an input that ended
         ends_wrong : (is_broken : Bool) → IsAt (ending_of is_broken) before bytes counted → HasStopped (ending_of is_broken) bytes counted → IsSaidOf bytes is_broken counted text → Given input is_broken
-            → (fault : StreamFault) → fault_found counted.told.first is_broken ≡ Some fault → TakesWrong is_all Given Taken old new fault
+            → (fault : StreamFault) → fault_found counted.told.first is_broken ≡ Some fault → TakesWrong is_all form Given Taken old new fault
         ends_wrong is_broken at stopped said given fault found = by_fault fault found (comes_wrong is_broken at stopped fault found)
           where
-            by_fault : (fault : StreamFault) → fault_found counted.told.first is_broken ≡ Some fault → IsWrong input is_broken fault → TakesWrong is_all Given Taken old new fault
+            by_fault : (fault : StreamFault) → fault_found counted.told.first is_broken ≡ Some fault → IsWrong input is_broken fault → TakesWrong is_all form Given Taken old new fault
             by_fault checks.Write found wrong = absurd wrong
             by_fault checks.Memory found wrong = absurd (no_memory counted.told.first is_broken found)
               where
@@ -184,73 +198,69 @@ module _ {A : Type 0} (before bytes : List ℕ) (counted : Counted A) (sound : I
                 first_is None true is = cc
                 first_is None false is = cc
 
-                by_all : (b : Bool) → is_all ≡ b → Explains b Given Taken old new (Err (checks.Text one))
-                by_all false is = record {
-                  input = input;
-                  taken = inr (is_broken, given);
-                  told = ends_in_clause (ending_of is_broken) at (all_is ∙ is) one (first_is counted.told.first is_broken found) is_broken text old new said longer;
-                }
+                by_all : (b : Bool) → is_all ≡ b → Explains b form Given Taken old new (Err (checks.Text one))
+                by_all false is = tells_alone (ending_of is_broken) at is one (first_is counted.told.first is_broken found) is_broken said (inr (is_broken, given))
                 by_all true is =
                     let (faults, first, told) = tells_all is_broken at stopped said given is in
                     by_faults faults (sym (first_is counted.told.first is_broken found) ∙ first) told
                   where
-                    by_faults : (faults : List TextFault) → Some one ≡ slice_get faults 0 → TellsAll Given faults old new → (others : List TextFault) × TellsAll Given (one ∷ others) old new
+                    by_faults : (faults : List TextFault) → Some one ≡ slice_get faults 0 → TellsAll form Given faults old new → (others : List TextFault) × TellsAll form Given (one ∷ others) old new
                     by_faults [] is told = cc
-                    by_faults (other ∷ faults) is told = let same : other ≡ one = cc in (faults, subst (λ (f : TextFault). TellsAll Given (f ∷ faults) old new) same told)
+                    by_faults (other ∷ faults) is told = let same : other ≡ one = cc in (faults, subst (λ (f : TextFault). TellsAll form Given (f ∷ faults) old new) same told)
             by_fault checks.Read found wrong = ((record { input = input; is_broken = is_broken; given = given; wrong = wrong }, tt), by_all is_all refl)
               where
                 first_is : (first : Option TextFault) (b : Bool) → fault_found first b ≡ Some checks.Read → first ≡ None
                 first_is (Some other) b is = cc
                 first_is None b is = refl
 
-                by_all : (b : Bool) → is_all ≡ b → Explains b Given Taken old new (Err checks.Read)
+                by_all : (b : Bool) → is_all ≡ b → Explains b form Given Taken old new (Err checks.Read)
                 by_all false is =
-                    let none : text ≡ [] = said.none (all_is ∙ is) (first_is counted.told.first is_broken found) in
-                    longer ∙ ap (λ (t : List ℕ). old ++ t) none ∙ append-nil old
+                    let none : text ≡ none_text form = said.none (all_is ∙ is) (first_is counted.told.first is_broken found) ∙ ap none_text form_is in
+                    longer ∙ ap (λ (t : List ℕ). old ++ t) none
                 by_all true is =
                     let (faults, first, told) = tells_all is_broken at stopped said given is in
                     by_faults faults (sym (first_is counted.told.first is_broken found) ∙ first) told
                   where
-                    by_faults : (faults : List TextFault) → None ≡ slice_get faults 0 → TellsAll Given faults old new → TellsAll Given [] old new
+                    by_faults : (faults : List TextFault) → None ≡ slice_get faults 0 → TellsAll form Given faults old new → TellsAll form Given [] old new
                     by_faults [] is told = told
                     by_faults (other ∷ faults) is told = cc
 
         -- the first fault was found, whatever follows
         ends_sure : IsAt endings.Open before bytes counted → is_all ≡ false → IsSaidOf bytes false counted text → Taken input
-            → (fault : StreamFault) → fault_found counted.told.first false ≡ Some fault → TakesWrong is_all Given Taken old new fault
+            → (fault : StreamFault) → fault_found counted.told.first false ≡ Some fault → TakesWrong is_all form Given Taken old new fault
         ends_sure at one said taken fault found = by_first counted.told.first refl found
           where
-            by_first : (first : Option TextFault) → counted.told.first ≡ first → fault_found first false ≡ Some fault → TakesWrong is_all Given Taken old new fault
+            by_first : (first : Option TextFault) → counted.told.first ≡ first → fault_found first false ≡ Some fault → TakesWrong is_all form Given Taken old new fault
             by_first None is same = cc
             by_first (Some first) is same =
                 let here : checks.Text first ≡ fault = cc in
                 let sure : IsFirstIn input endings.Open first = subst (λ (f : Option TextFault). IfSome f (IsFirstIn input endings.Open)) is at.first in
-                let clause = ends_in_clause endings.Open at (all_is ∙ one) first is false text old new said longer in
-                subst (TakesWrong is_all Given Taken old new) here (
+                let alone = tells_alone endings.Open at one first is false said (inl taken) in
+                subst (TakesWrong is_all form Given Taken old new) here (
                   (inr (record { input = input; taken = taken; sure = λ more is_broken. sure more is_broken tt }), tt),
-                  subst (λ (b : Bool). Explains b Given Taken old new (Err (checks.Text first))) (sym one) (record { input = input; taken = inl taken; told = clause }),
+                  subst (λ (b : Bool). Explains b form Given Taken old new (Err (checks.Text first))) (sym one) alone,
                 )
 
-    module _ (Given : List ℕ → Bool → Type 0) (Taken : List ℕ → Type 0) (is_all : Bool) (all_is : counted.told.is_all ≡ is_all) (old new : List ℕ)
+    module _ (Given : List ℕ → Bool → Type 0) (Taken : List ℕ → Type 0) (is_all : Bool) (form : Form) (all_is : counted.told.is_all ≡ is_all) (form_is : counted.told.form ≡ form) (old new : List ℕ)
       where
-        memory_wrong : (fault : StreamFault) → fault ≡ checks.Memory → new ≡ old → TakesWrong is_all Given Taken old new fault
-        memory_wrong fault is same = subst (TakesWrong is_all Given Taken old new) (sym is) (tt, same)
+        memory_wrong : (fault : StreamFault) → fault ≡ checks.Memory → new ≡ old → TakesWrong is_all form Given Taken old new fault
+        memory_wrong fault is same = subst (TakesWrong is_all form Given Taken old new) (sym is) (tt, same)
 
         pub ended_wrong : (is_broken : Bool) → IsAt (ending_of is_broken) before bytes counted → HasStopped (ending_of is_broken) bytes counted → Given input is_broken
-            → (fault : StreamFault) → EndsWith bytes is_broken counted old new fault → TakesWrong is_all Given Taken old new fault
+            → (fault : StreamFault) → EndsWith bytes is_broken counted old new fault → TakesWrong is_all form Given Taken old new fault
         ended_wrong is_broken at stopped given fault (inl (is, same)) = memory_wrong fault is same
-        ended_wrong is_broken at stopped given fault (inr (found, text, said, longer)) = ends_wrong Given Taken is_all all_is old new text longer is_broken at stopped said given fault found
+        ended_wrong is_broken at stopped given fault (inr (found, text, said, longer)) = ends_wrong Given Taken is_all form all_is form_is old new text longer is_broken at stopped said given fault found
 
         pub found_wrong : IsAt endings.Open before bytes counted → is_all ≡ false → Taken input
-            → (fault : StreamFault) → EndsWith bytes false counted old new fault → TakesWrong is_all Given Taken old new fault
+            → (fault : StreamFault) → EndsWith bytes false counted old new fault → TakesWrong is_all form Given Taken old new fault
         found_wrong at one taken fault (inl (is, same)) = memory_wrong fault is same
-        found_wrong at one taken fault (inr (found, text, said, longer)) = ends_sure Given Taken is_all all_is old new text longer at one said taken fault found
+        found_wrong at one taken fault (inr (found, text, said, longer)) = ends_sure Given Taken is_all form all_is form_is old new text longer at one said taken fault found
 
         -- how the check of an input ends that was taken whole
         pub ended : {X : Type 0} (checked : X → Checked) (warnings : X → List Warning) (is_broken : Bool) → IsAt (ending_of is_broken) before bytes counted → HasStopped (ending_of is_broken) bytes counted
             → Given input is_broken → (result : Result X StreamFault)
             → IfOk result (λ found. (fault_found counted.told.first is_broken ≡ None) × IsCounted counted (checked found) (warnings found) × (new ≡ old)) → IfErr result (EndsWith bytes is_broken counted old new)
-            → IfOk result (λ found. TakesRight Given (checked found) (warnings found) × (new ≡ old)) × IfErr result (TakesWrong is_all Given Taken old new)
+            → IfOk result (λ found. TakesRight Given (checked found) (warnings found) × (new ≡ old)) × IfErr result (TakesWrong is_all form Given Taken old new)
         ended checked warnings is_broken at stopped given (Ok found) (none, is, same) wrong =
             let right = comes_right is_broken at stopped none (checked found) (warnings found) is in
             ((record { input = input; is_broken = is_broken; given = given; right = right.0; warned = right.1 }, same), tt)
@@ -260,7 +270,7 @@ module _ {A : Type 0} (before bytes : List ℕ) (counted : Counted A) (sound : I
         pub found_first : {X : Type 0} (checked : X → Checked) (warnings : X → List Warning) → IsAt endings.Open before bytes counted → is_all ≡ false → IsSome counted.told.first → Taken input
             → (result : Result X StreamFault)
             → IfOk result (λ found. (fault_found counted.told.first false ≡ None) × IsCounted counted (checked found) (warnings found) × (new ≡ old)) → IfErr result (EndsWith bytes false counted old new)
-            → IfOk result (λ found. TakesRight Given (checked found) (warnings found) × (new ≡ old)) × IfErr result (TakesWrong is_all Given Taken old new)
+            → IfOk result (λ found. TakesRight Given (checked found) (warnings found) × (new ≡ old)) × IfErr result (TakesWrong is_all form Given Taken old new)
         found_first checked warnings at one some taken (Ok found) (none, is, same) wrong =
             let none_some : false ≡ true = sym (ap is_some (none_found counted.told.first false none).0) ∙ some in
             absurd (true≢false (sym none_some))
@@ -268,11 +278,11 @@ module _ {A : Type 0} (before bytes : List ℕ) (counted : Counted A) (sound : I
 
 -- what is said of the first fault, whose race begins with what is left
 pub said_of : {A X E : Type 0} (text_of : X → List ℕ) (bytes part : List ℕ) (is_broken : Bool) (counted : Counted A) (fault : TextFault) → counted.told.is_all ≡ false → counted.told.first ≡ Some fault
-    → part ≡ drop counted.reader.end bytes → (result : Result X E) → IfOk result (λ x. EndsIn counted.reader.lines part fault (text_of x)) → IfOk result (λ x. IsSaidOf bytes is_broken counted (text_of x))
+    → part ≡ drop counted.reader.end bytes → (result : Result X E) → IfOk result (λ x. EndsIn counted.told.form counted.reader.lines part fault (text_of x)) → IfOk result (λ x. IsSaidOf bytes is_broken counted (text_of x))
 said_of text_of bytes part is_broken counted fault one is same (Err refused) said = tt
 said_of text_of bytes part is_broken counted fault one is same (Ok x) said = record {
   all = λ all. absurd (true≢false (sym all ∙ one));
   none = λ _ none. let wrong : Some fault ≡ None = sym is ∙ none in cc;
-  first = λ _. subst (λ (f : Option TextFault). IfSome f (λ t. EndsIn counted.reader.lines (drop counted.reader.end bytes) t (text_of x))) (sym is)
-      (subst (λ (t : List ℕ). EndsIn counted.reader.lines t fault (text_of x)) same said);
+  first = λ _. subst (λ (f : Option TextFault). IfSome f (λ t. EndsIn counted.told.form counted.reader.lines (drop counted.reader.end bytes) t (text_of x))) (sym is)
+      (subst (λ (t : List ℕ). EndsIn counted.told.form counted.reader.lines t fault (text_of x)) same said);
 }

@@ -23,6 +23,7 @@ use Rattle.he_check.specs.Clauses.{hint_of, is_of_words}
 use Rattle.he_check.specs.Slips.{AreWarned, warnings_of}
 use Rattle.he_check.specs.Steps.{AddsFault, AreFaultsAfter, AreFaultsPast, AreLeft, AreWhole, HasTold, IsAt, IsClean, IsEnough, IsFirstIn, IsNew, IsOpen, IsSound, at_front, hint_in}
 use Rattle.he_check.specs.declared.counting.Counted.{Counted}
+use Rattle.he_check.specs.declared.form.Form.{Form}
 use Rattle.he_check.specs.declared.limits.TheConstants.{MOST_TOLD}
 use Rattle.he_check.specs.declared.meant.Meant.{Meant}
 use Rattle.he_check.specs.declared.parts.RestOfInput.{RestOfInput}
@@ -67,26 +68,27 @@ warned_on lines (one ∷ races) text warnings (first, more, later, split, read, 
     )
 
 -- one fault more is said
-said_on : (input : List ℕ) (faults : List TextFault) (text new : List ℕ) (fault : TextFault) (said : List ℕ) → AreSaid input faults text → new ≡ text ++ fault_text input fault said → AreSaid input (faults ++ fault ∷ []) new
-said_on input [] text new fault said none longer =
-    let told = fault_text input fault said in
+said_on : (form : Form) (input : List ℕ) (faults : List TextFault) (text new : List ℕ) (fault : TextFault) (said : List ℕ) → AreSaid form input faults text → new ≡ text ++ fault_text form input fault said
+    → AreSaid form input (faults ++ fault ∷ []) new
+said_on form input [] text new fault said none longer =
+    let told = fault_text form input fault said in
     (said, [], longer ∙ ap (λ (t : List ℕ). t ++ told) none ∙ sym (append-nil told), refl)
-said_on input (one ∷ faults) text new fault said (words, later, is, are) longer =
-    let told = fault_text input fault said in
-    (words, later ++ told, longer ∙ ap (λ (t : List ℕ). t ++ told) is ∙ append_assoc (fault_text input one words) later told, said_on input faults later (later ++ told) fault said are refl)
+said_on form input (one ∷ faults) text new fault said (words, later, is, are) longer =
+    let told = fault_text form input fault said in
+    (words, later ++ told, longer ∙ ap (λ (t : List ℕ). t ++ told) is ∙ append_assoc (fault_text form input one words) later told, said_on form input faults later (later ++ told) fault said are refl)
 
 -- the first of the faults are said, one more among them where it is one of the first
-first_said : (input : List ℕ) (faults : List TextFault) (fault : TextFault) (count : ℕ) (text new : List ℕ) (meant : Option Meant) → count ≡ length faults → meant ≡ hint_of input fault → AreSaid input (take MOST_TOLD faults) text
-    → ((count + 1 ≤ MOST_TOLD) × (said : List ℕ) × (new ≡ text ++ said_text fault said meant)) ⊎ ((MOST_TOLD ≤ count) × (new ≡ text)) → AreSaid input (take MOST_TOLD (faults ++ fault ∷ [])) new
-first_said input faults fault count text new meant counted hint said (inl (few, words, is)) =
+first_said : (form : Form) (input : List ℕ) (faults : List TextFault) (fault : TextFault) (count : ℕ) (text new : List ℕ) (meant : Option Meant) → count ≡ length faults → meant ≡ hint_of input fault → AreSaid form input (take MOST_TOLD faults) text
+    → ((count + 1 ≤ MOST_TOLD) × (said : List ℕ) × (new ≡ text ++ said_text form fault said meant)) ⊎ ((MOST_TOLD ≤ count) × (new ≡ text)) → AreSaid form input (take MOST_TOLD (faults ++ fault ∷ [])) new
+first_said form input faults fault count text new meant counted hint said (inl (few, words, is)) =
     let longer = length-append faults (fault ∷ []) in
     let before : take MOST_TOLD faults ≡ faults = take_all MOST_TOLD faults (omega (arith, few, counted)) in
     let after : take MOST_TOLD (faults ++ fault ∷ []) ≡ faults ++ fault ∷ [] = take_all MOST_TOLD (faults ++ fault ∷ []) (omega (arith, few, counted, longer)) in
-    let here : new ≡ text ++ fault_text input fault words = is ∙ ap (λ (m : Option Meant). text ++ said_text fault words m) hint in
-    subst (λ (f : List TextFault). AreSaid input f new) (sym after) (said_on input faults text new fault words (subst (λ (f : List TextFault). AreSaid input f text) before said) here)
-first_said input faults fault count text new meant counted hint said (inr (full, same)) =
+    let here : new ≡ text ++ fault_text form input fault words = is ∙ ap (λ (m : Option Meant). text ++ said_text form fault words m) hint in
+    subst (λ (f : List TextFault). AreSaid form input f new) (sym after) (said_on form input faults text new fault words (subst (λ (f : List TextFault). AreSaid form input f text) before said) here)
+first_said form input faults fault count text new meant counted hint said (inr (full, same)) =
     let before : take MOST_TOLD (faults ++ fault ∷ []) ≡ take MOST_TOLD faults = take-append-le MOST_TOLD faults (fault ∷ []) (omega (arith, full, counted)) in
-    subst₂ (λ (f : List TextFault) (t : List ℕ). AreSaid input f t) (sym before) (sym same) said
+    subst₂ (λ (f : List TextFault) (t : List ℕ). AreSaid form input f t) (sym before) (sym same) said
 
 first_on : (faults : List TextFault) (fault : TextFault) → slice_get (faults ++ fault ∷ []) 0 ≡ option_or (slice_get faults 0) (Some fault)
 first_on [] fault = refl
@@ -135,8 +137,8 @@ nothing_follows endings.Broken = (true, (refl, refl))
 module _ {A : Type 0} (counted : Counted A)
   where
     -- at the front of an input
-    pub start_at : (is_all : Bool) → IsNew is_all counted → (ending : Ending) (bytes : List ℕ) → IsAt ending [] bytes counted
-    start_at is_all new ending bytes =
+    pub start_at : (is_all : Bool) (form : Form) → IsNew is_all form counted → (ending : Ending) (bytes : List ℕ) → IsAt ending [] bytes counted
+    start_at is_all form new ending bytes =
         let end : counted.reader.end ≡ 0 = ap (λ (r : RaceReader). r.end) new.reader in
         let races : counted.reader.races ≡ 0 = ap (λ (r : RaceReader). r.races) new.reader in
         let lines : counted.reader.lines ≡ 0 = ap (λ (r : RaceReader). r.lines) new.reader in
@@ -160,8 +162,8 @@ module _ {A : Type 0} (counted : Counted A)
           };
         }
 
-    pub start_sound : (is_all : Bool) → IsNew is_all counted → IsSound counted
-    start_sound is_all new =
+    pub start_sound : (is_all : Bool) (form : Form) → IsNew is_all form counted → IsSound counted
+    start_sound is_all form new =
         let races : counted.reader.races ≡ 0 = ap (λ (r : RaceReader). r.races) new.reader in
         let zero = new.zero in
         record { few = omega arith; count = λ _. omega arith; zero = λ _. new.zero; reads = λ _. new.reads; seeks = λ is. absurd (true≢false (sym is ∙ new.reads)) }
@@ -194,7 +196,7 @@ module _ {A : Type 0} (counted : Counted A)
                 are = λ rest is_broken others may left.
                     subst (λ (i : List ℕ). AreFaults i is_broken (told.faults ++ others)) (joined rest)
                     (told.are (more ++ rest) is_broken others tt (subst (λ (l : List ℕ). AreLeft counted.is_seeking counted.reader is_broken l others) (behind rest) left));
-                said = λ rest is_broken may. subst (λ (i : List ℕ). AreSaid i (take MOST_TOLD told.faults) counted.told.text.items) (joined rest) (told.said (more ++ rest) is_broken tt);
+                said = λ rest is_broken may. subst (λ (i : List ℕ). AreSaid counted.told.form i (take MOST_TOLD told.faults) counted.told.text.items) (joined rest) (told.said (more ++ rest) is_broken tt);
               };
         }
       where
@@ -253,7 +255,7 @@ module _ {A : Type 0} (counted : Counted A)
                 first = told.first;
                 number = told.number;
                 are = λ rest is_broken others may left. subst (λ (i : List ℕ). AreFaults (i ++ rest) is_broken (told.faults ++ others)) all (told.are rest is_broken others may (behind_front counted.is_seeking counted.reader is_broken _ others left));
-                said = λ rest is_broken may. subst (λ (i : List ℕ). AreSaid (i ++ rest) (take MOST_TOLD told.faults) counted.told.text.items) all (told.said rest is_broken may);
+                said = λ rest is_broken may. subst (λ (i : List ℕ). AreSaid counted.told.form (i ++ rest) (take MOST_TOLD told.faults) counted.told.text.items) all (told.said rest is_broken may);
               };
         }
 
@@ -403,8 +405,9 @@ module _ {A : Type 0} (ending : Ending) (before bytes : List ℕ) (old new : Cou
                   let Before : Bool → Type 0 = λ s. AreLeft s old.reader is_broken (left ++ more) (fault ∷ others) in
                   subst (AreFaults ((before ++ bytes) ++ more) is_broken) (sym (append_assoc told.faults (fault ∷ []) others)) (told.are more is_broken (fault ∷ others) may (subst Before (sym reads) past));
               said = λ more is_broken may.
-                  first_said ((before ++ bytes) ++ more) told.faults fault old.told.count old.told.text.items new.told.text.items (hint_in part.lines part.text.now fault) told.number (hint more is_broken may all)
-                  (told.said more is_broken may) (adds.said all);
+                  subst (λ (f : Form). AreSaid f ((before ++ bytes) ++ more) (take MOST_TOLD (told.faults ++ fault ∷ [])) new.told.text.items) (sym adds.form)
+                  (first_said old.told.form ((before ++ bytes) ++ more) told.faults fault old.told.count old.told.text.items new.told.text.items (hint_in part.lines part.text.now fault) told.number
+                  (hint more is_broken may all) (told.said more is_broken may) (adds.said all));
             }
 
         pub fault_at : IsAt ending before bytes new

@@ -8,7 +8,9 @@ use Rattle.std.proofs.lemmas.List.Edits.{take-paste}
 use Rattle.he_inputs.specs.RaceReading.{ending_of}
 use Rattle.he_inputs.specs.declared.race_reader.Ending.TheVariants as endings
 use Rattle.he_inputs.specs.declared.stream_fault.StreamFault.{StreamFault}
-use Rattle.he_check.specs.Steps.{EndsWith, HasGone, HasStopped, HoldsOn, IsAt, IsCounted, TakesRight, TakesWrong, at_front, fault_found, held_bytes, tried_bytes}
+use Rattle.he_check.specs.Steps.{EndsWith, HasGone, HasStopped, HoldsOn, IsAt, IsCounted, TakesWrong, at_front, fault_found, held_bytes, tried_bytes}
+use Rattle.he_check.specs.Stream.{TakesRight}
+use Rattle.he_check.specs.declared.form.Form.{Form}
 use Rattle.he_check.specs.declared.input.Checked.{Checked}
 use Rattle.he_check.specs.declared.slips.Warning.{Warning}
 use Rattle.he_check.specs.declared.counting.Counted.{Counted}
@@ -64,14 +66,14 @@ tried_same counted before old new tried filled less same at =
     subst (λ (t : List ℕ). IsAt endings.Open before t counted) front at
 
 -- nothing follows what is held
-pub ends_taken : {A X : Type 0} (checked : X → Checked) (warnings : X → List Warning) (old : Counted A) (new : Held A) (before items : List ℕ) (tried filled : ℕ) (is_broken is_all : Bool)
-    (Given : List ℕ → Bool → Type 0) (Taken : List ℕ → Type 0) (given : Given (before ++ take filled items) is_broken) (explained held told : List ℕ) (same : held ≡ explained) (all : old.told.is_all ≡ is_all)
+pub ends_taken : {A X : Type 0} (checked : X → Checked) (warnings : X → List Warning) (old : Counted A) (new : Held A) (before items : List ℕ) (tried filled : ℕ) (is_broken is_all : Bool) (form : Form)
+    (Given : List ℕ → Bool → Type 0) (Taken : List ℕ → Type 0) (given : Given (before ++ take filled items) is_broken) (explained held told : List ℕ) (same : held ≡ explained) (all : old.told.is_all ≡ is_all) (formed : old.told.form ≡ form)
     → old.reader.end ≡ 0 → tried ≤ filled → IsAt endings.Open before (take tried items) old → held_bytes new ≡ take filled items → HasGone (ending_of is_broken) (take filled items) old new.counted
     → HasStopped (ending_of is_broken) (take filled items) new.counted → (result : Result X StreamFault)
     → IfOk result (λ found. (fault_found new.counted.told.first is_broken ≡ None) × IsCounted new.counted (checked found) (warnings found) × (told ≡ held)) → IfErr result (EndsWith (held_bytes new) is_broken new.counted held told)
-    → IfOk result (λ found. TakesRight Given (checked found) (warnings found) × (told ≡ explained)) × IfErr result (TakesWrong is_all Given Taken explained told)
-ends_taken checked warnings old new before items tried filled is_broken is_all Given Taken given explained held told same all front less at bytes gone stopped result right wrong =
+    → IfOk result (λ found. TakesRight Given (checked found) (warnings found) × (told ≡ explained)) × IfErr result (TakesWrong is_all form Given Taken explained told)
+ends_taken checked warnings old new before items tried filled is_broken is_all form Given Taken given explained held told same all formed front less at bytes gone stopped result right wrong =
     let here = ending_at old before (take filled items) (ending_of is_broken) (further old before items tried filled less front at) in
     let wrong_here = subst (λ (b : List ℕ). IfErr result (EndsWith b is_broken new.counted held told)) bytes wrong in
-    subst (λ (e : List ℕ). IfOk result (λ found. TakesRight Given (checked found) (warnings found) × (told ≡ e)) × IfErr result (TakesWrong is_all Given Taken e told)) same
-    (ended before (take filled items) new.counted gone.may.sound Given Taken is_all (gone.all ∙ all) held told checked warnings is_broken (gone.on before here) stopped given result right wrong_here)
+    subst (λ (e : List ℕ). IfOk result (λ found. TakesRight Given (checked found) (warnings found) × (told ≡ e)) × IfErr result (TakesWrong is_all form Given Taken e told)) same
+    (ended before (take filled items) new.counted gone.may.sound Given Taken is_all form (gone.all ∙ all) (gone.form ∙ formed) held told checked warnings is_broken (gone.on before here) stopped given result right wrong_here)

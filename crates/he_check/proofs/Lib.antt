@@ -5,5 +5,6 @@ mod Given
 mod Hints
 mod Holding
 mod NextRaces
+mod PutObjects
 mod Stepping
 mod WholeLines

@@ -23,10 +23,10 @@ use Rattle.he_check.proofs.NextRaces.{too_short}
 
 -- nothing was done
 pub gone_nowhere : {A : Type 0} (ending : Ending) (bytes : List ℕ) (old : Counted A) → MayGo ending bytes old → HasGone ending bytes old old
-gone_nowhere ending bytes old may = record { may = may; all = refl; on = λ before at. at }
+gone_nowhere ending bytes old may = record { may = may; all = refl; form = refl; on = λ before at. at }
 
 pub gone_further : {A : Type 0} (ending : Ending) (bytes : List ℕ) (old new last : Counted A) → HasGone ending bytes old new → HasGone ending bytes new last → HasGone ending bytes old last
-gone_further ending bytes old new last first second = record { may = second.may; all = second.all ∙ first.all; on = λ before at. second.on before (first.on before at) }
+gone_further ending bytes old new last first second = record { may = second.may; all = second.all ∙ first.all; form = second.form ∙ first.form; on = λ before at. second.on before (first.on before at) }
 
 module _ {A : Type 0} (ending : Ending) (bytes : List ℕ) (old new : Counted A) (may : MayGo ending bytes old) (free : IsOpen old)
   where
@@ -85,6 +85,7 @@ module _ {A : Type 0} (ending : Ending) (bytes : List ℕ) (old new : Counted A)
           enough = may.enough;
         };
         all = refl;
+        form = refl;
         on = λ before at. race_at ending before bytes old new at race free reads passes warned;
       };
       more = λ _. free;
@@ -115,6 +116,7 @@ module _ {A : Type 0} (ending : Ending) (bytes : List ℕ) (old new : Counted A)
           enough = λ all. may.enough (sym adds.all ∙ all);
         };
         all = adds.all;
+        form = adds.form;
         on = λ before at. fault_at ending before bytes old new at first fault part may.within.place may.sound may.enough reads seeks same wrong adds text lines;
       };
       more = λ all one. absurd (true≢false (sym all ∙ one));
@@ -161,6 +163,7 @@ module _ {A : Type 0} (ending : Ending) (bytes : List ℕ) (old new : Counted A)
             enough = may.enough;
           };
           all = refl;
+          form = refl;
           on = on;
         }
 

@@ -10,7 +10,10 @@ use Rattle.he_inputs.specs.declared.input_fault.InputFault.TheVariants.{Text}
 use Rattle.he_words.specs.declared.words.Version.{Version}
 use Rattle.he_check.specs.Clauses.{hint_of}
 use Rattle.he_check.specs.Kinds.{kind_text}
-use Rattle.he_check.specs.Sentences.{clause_text}
+use Rattle.he_check.specs.Objects.{entry_text, faults_member}
+use Rattle.he_check.specs.Sentences.{clause_text, meant_text}
+use Rattle.he_check.specs.declared.form.Form.{Form}
+use Rattle.he_check.specs.declared.form.Form.TheVariants.{Json, Lines}
 use Rattle.he_check.specs.declared.limits.TheConstants.{MOST_TOLD}
 use Rattle.he_check.specs.declared.meant.Meant.{Meant}
 
@@ -48,20 +51,22 @@ AreFaultsBehind is_broken lines text (fault ∷ faults) =
 abbrev pub AreFaults : List ℕ → Bool → List TextFault → Type 0
 AreFaults input is_broken faults = AreFaultsBehind is_broken 0 input faults
 
--- he: line N: KIND, and what is said of the fault, which ends in the clause of what was meant
-abbrev pub said_text : TextFault → List ℕ → Option Meant → List ℕ
-said_text fault said meant =
+-- he: line N: KIND, and what is said of the fault, which ends in the clause of what was meant; or its entry in JSON
+abbrev pub said_text : Form → TextFault → List ℕ → Option Meant → List ℕ
+said_text Lines fault said meant =
     codes "he: line " ++ (decimal fault.line ++ (codes ": " ++ (kind_text fault.kind
     ++ (10 ∷ (said ++ clause_text meant)))))
+said_text Json fault said meant = entry_text fault.line (kind_text fault.kind) (said ++ meant_text meant)
 
-abbrev pub fault_text : List ℕ → TextFault → List ℕ → List ℕ
-fault_text input fault said = said_text fault said (hint_of input fault)
+abbrev pub fault_text : Form → List ℕ → TextFault → List ℕ → List ℕ
+fault_text form input fault said = said_text form fault said (hint_of input fault)
 
 -- the text tells these faults of the input, one after the other
-abbrev pub AreSaid : List ℕ → List TextFault → List ℕ → Type 0
-AreSaid input [] text = text ≡ []
-AreSaid input (fault ∷ faults) text =
-    (said : List ℕ) × (more : List ℕ) × (text ≡ fault_text input fault said ++ more) × AreSaid input faults more
+abbrev pub AreSaid : Form → List ℕ → List TextFault → List ℕ → Type 0
+AreSaid form input [] text = text ≡ []
+AreSaid form input (fault ∷ faults) text =
+    (said : List ℕ) × (more : List ℕ) × (text ≡ fault_text form input fault said ++ more)
+    × AreSaid form input faults more
 
 -- he: N more faults; nothing where there are none
 unfoldable pub more_text : ℕ → List ℕ
@@ -74,9 +79,25 @@ abbrev pub end_text : Bool → List ℕ
 end_text true = codes "he: cannot read the input" ++ 10 ∷ []
 end_text false = []
 
+-- behind these words for the first faults, how many more there are, and last that the input broke off
+abbrev pub whole_text : Form → List ℕ → ℕ → Bool → List ℕ
+whole_text Lines first more is_broken = first ++ (more_text more ++ end_text is_broken)
+whole_text Json first more is_broken = faults_member first more is_broken
+
 -- The text tells the first 1,000 faults of the input, each with what is said of it, then how many more there are, and
 -- last that the input broke off.
-pub record AreTold (input : List ℕ) (is_broken : Bool) (faults : List TextFault) (text : List ℕ) : Type 0 where
+pub record AreTold (form : Form) (input : List ℕ) (is_broken : Bool) (faults : List TextFault)
+    (text : List ℕ) : Type 0 where
   pub first : List ℕ
-  pub said : AreSaid input (take MOST_TOLD faults) first
-  pub all : text ≡ first ++ (more_text (length faults - MOST_TOLD) ++ end_text is_broken)
+  pub said : AreSaid form input (take MOST_TOLD faults) first
+  pub all : text ≡ whole_text form first (length faults - MOST_TOLD) is_broken
+
+-- what is said of the first fault, where no other is told
+abbrev pub alone_text : Form → TextFault → List ℕ → Option Meant → List ℕ
+alone_text Lines fault said meant = said ++ clause_text meant
+alone_text Json fault said meant = faults_member (said_text Json fault said meant) 0 false
+
+-- what is said of an input that broke off before a fault was found, where faults after the first are not told
+abbrev pub none_text : Form → List ℕ
+none_text Lines = []
+none_text Json = faults_member [] 0 true

@@ -3,6 +3,7 @@ pub mod Checked
 pub mod Clauses
 pub mod Kinds
 pub mod Meant
+pub mod Objects
 pub mod Sentences
 pub mod Slips
 pub mod Steps

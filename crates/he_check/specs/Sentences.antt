@@ -53,7 +53,11 @@ meaning_of Wide = codes "the input is UTF-16: make ASCII of it first, as `iconv 
 meaning_of Capture = codes "the input is a packet capture: tools/from-capture makes a timeline of it"
 meaning_of Json = codes "the input is JSON, which `he` writes and does not read"
 
--- a line end; before it ; and what was likely meant
+-- ; and what was likely meant
+abbrev pub meant_text : Option Meant → List ℕ
+meant_text None = []
+meant_text (Some meant) = codes "; " ++ meaning_of meant
+
+-- the same, and a line end
 abbrev pub clause_text : Option Meant → List ℕ
-clause_text None = 10 ∷ []
-clause_text (Some meant) = codes "; " ++ (meaning_of meant ++ 10 ∷ [])
+clause_text meant = meant_text meant ++ 10 ∷ []

@@ -15,15 +15,15 @@ use Rattle.he_inputs.specs.declared.stream_fault.StreamFault.{StreamFault}
 use Rattle.he_inputs.specs.declared.stream_fault.StreamFault.TheVariants as checks
 use Rattle.he_words.specs.Ranges.{line_end, most_races}
 use Rattle.he_words.specs.declared.fault.TextFault.{TextFault}
-use Rattle.he_check.specs.AllFaults.{AreFaults, AreFaultsBehind, AreSaid, IsLastRace, IsNextRace, end_text, more_text, said_text}
-use Rattle.he_check.specs.Checked.{IsRight}
+use Rattle.he_check.specs.AllFaults.{AreFaults, AreFaultsBehind, AreSaid, IsLastRace, IsNextRace, alone_text, none_text, said_text, whole_text}
 use Rattle.he_check.specs.Clauses.{is_of_words, line_at, line_meant}
 use Rattle.he_check.specs.Meant.{begins, input_meant}
-use Rattle.he_check.specs.Sentences.{clause_text, warning_text}
-use Rattle.he_check.specs.Slips.{AreWarned, HasWarnings, slip_if, warning_at}
+use Rattle.he_check.specs.Sentences.{warning_text}
+use Rattle.he_check.specs.Slips.{AreWarned, slip_if, warning_at}
 use Rattle.he_check.specs.Stream.{Checks, Explains, report_text}
 use Rattle.he_check.specs.declared.all_faults.Told.{Told}
 use Rattle.he_check.specs.declared.counting.Counted.{Counted}
+use Rattle.he_check.specs.declared.form.Form.{Form}
 use Rattle.he_check.specs.declared.input.Checked.{Checked}
 use Rattle.he_check.specs.declared.limits.TheConstants.{FIRST_BYTES, MOST_TOLD}
 use Rattle.he_check.specs.declared.meant.Meant.{Meant}
@@ -52,9 +52,10 @@ hint_in lines rest fault =
     option_or (if fault.line == 1 then input_meant rest else None)
     (if is_of_words fault.kind then line_meant (line_at (fault.line - lines) rest) else None)
 
--- what is said of it ends in the clause of that
-abbrev pub EndsIn : ℕ → List ℕ → TextFault → List ℕ → Type 0
-EndsIn lines rest fault text = (said : List ℕ) × (text ≡ said ++ clause_text (hint_in lines rest fault))
+-- what is said of it alone ends in the clause of that
+abbrev pub EndsIn : Form → ℕ → List ℕ → TextFault → List ℕ → Type 0
+EndsIn form lines rest fault text =
+    (said : List ℕ) × (text ≡ alone_text form fault said (hint_in lines rest fault))
 
 -- no race is faulty yet: these are the races, and their warnings
 pub record IsClean (front : List ℕ) (reader : RaceReader) (warnings : List Warning) : Type 0 where
@@ -90,7 +91,7 @@ pub record HasTold {A : Type 0} (ending : Ending) (input left : List ℕ) (count
       → AreLeft counted.is_seeking counted.reader is_broken (left ++ more) others
       → AreFaults (input ++ more) is_broken (faults ++ others)
   pub said : (more : List ℕ) (is_broken : Bool) → MayFollow ending more is_broken
-      → AreSaid (input ++ more) (take MOST_TOLD faults) counted.told.text.items
+      → AreSaid counted.told.form (input ++ more) (take MOST_TOLD faults) counted.told.text.items
 
 -- how far a check has come in an input of these bytes, which may go on, behind others that are there no more
 pub record IsAt {A : Type 0} (ending : Ending) (before bytes : List ℕ) (counted : Counted A) : Type 0 where
@@ -130,6 +131,7 @@ pub record MayGo {A : Type 0} (ending : Ending) (bytes : List ℕ) (counted : Co
 pub record HasGone {A : Type 0} (ending : Ending) (bytes : List ℕ) (old new : Counted A) : Type 0 where
   pub may : MayGo ending bytes new
   pub all : new.told.is_all ≡ old.told.is_all
+  pub form : new.told.form ≡ old.told.form
   pub on : (before : List ℕ) → IsAt ending before bytes old → IsAt ending before bytes new
 
 -- it goes no further in the bytes: nothing is wrong with what is left, where nothing follows
@@ -153,10 +155,11 @@ pub record HasStepped {A : Type 0} (ending : Ending) (bytes : List ℕ) (old new
   pub stopped : goes_on ≡ false → HasStopped ending bytes new
 
 -- nothing is counted yet
-pub record IsNew {A : Type 0} (is_all : Bool) (counted : Counted A) : Type 0 where
+pub record IsNew {A : Type 0} (is_all : Bool) (form : Form) (counted : Counted A) : Type 0 where
   pub reader : counted.reader ≡ record { end = 0; races = 0; lines = 0 }
   pub reads : counted.is_seeking ≡ false
   pub all : counted.told.is_all ≡ is_all
+  pub formed : counted.told.form ≡ form
   pub none : counted.told.first ≡ None
   pub zero : counted.told.count ≡ 0
   pub warned : counted.warnings.items ≡ []
@@ -165,11 +168,13 @@ pub record IsNew {A : Type 0} (is_all : Bool) (counted : Counted A) : Type 0 whe
 -- one fault more is counted, and said if it is one of the first
 pub record AddsFault {A : Type 0} (part : RestOfInput) (fault : TextFault) (old new : Told A) : Type 0 where
   pub all : new.is_all ≡ old.is_all
+  pub form : new.form ≡ old.form
   pub first : new.first ≡ option_or old.first (Some fault)
   pub count : new.count ≡ old.count + 1
   pub said : old.is_all ≡ true
       → ((old.count + 1 ≤ MOST_TOLD) × (said : List ℕ)
-      × (new.text.items ≡ old.text.items ++ said_text fault said (hint_in part.lines part.text.now fault)))
+      × (new.text.items
+      ≡ old.text.items ++ said_text old.form fault said (hint_in part.lines part.text.now fault)))
       ⊎ ((MOST_TOLD ≤ old.count) × (new.text.items ≡ old.text.items))
 
 -- what is wrong with an input of which all was looked at
@@ -187,11 +192,11 @@ IsCounted counted checked warnings =
 -- what is said of the faults, all or the first one
 pub record IsSaidOf {A : Type 0} (bytes : List ℕ) (is_broken : Bool) (counted : Counted A) (text : List ℕ) : Type 0 where
   pub all : counted.told.is_all ≡ true → text
-      ≡ counted.told.text.items ++ (more_text (counted.told.count - MOST_TOLD) ++ end_text is_broken)
-  pub none : counted.told.is_all ≡ false → counted.told.first ≡ None → text ≡ []
+      ≡ whole_text counted.told.form counted.told.text.items (counted.told.count - MOST_TOLD) is_broken
+  pub none : counted.told.is_all ≡ false → counted.told.first ≡ None → text ≡ none_text counted.told.form
   pub first : counted.told.is_all ≡ false
       → IfSome counted.told.first
-      (λ fault. EndsIn counted.reader.lines (drop counted.reader.end bytes) fault text)
+      (λ fault. EndsIn counted.told.form counted.reader.lines (drop counted.reader.end bytes) fault text)
 
 -- a check ends with this fault, and what is said of it is told; or memory was refused
 abbrev pub EndsWith : {A : Type 0} → List ℕ → Bool → Counted A → List ℕ → List ℕ → StreamFault → Type 0
@@ -225,18 +230,12 @@ HoldsOn bytes old new =
     → (front : List ℕ) × (before ++ bytes ≡ front ++ held_bytes new)
     × IsAt endings.Open front (tried_bytes new) new.counted
 
--- an input was given, whole or up to where it broke off; it has races and lines, with these warnings
-pub record TakesRight (Given : List ℕ → Bool → Type 0) (checked : Checked) (warnings : List Warning) : Type 0 where
-  pub input : List ℕ
-  pub is_broken : Bool
-  pub given : Given input is_broken
-  pub right : IsRight input is_broken checked
-  pub warned : HasWarnings input warnings
-
 -- a check of an input ends with this fault, before anything is put into an output
-abbrev pub TakesWrong : Bool → (List ℕ → Bool → Type 0) → (List ℕ → Type 0) → List ℕ → List ℕ → StreamFault → Type 0
-TakesWrong is_all Given Taken old new fault =
-    Checks Given Taken (λ text. ⊥) (λ text. ⊥) (Unit {0}) (Err fault) × Explains is_all Given Taken old new (Err fault)
+abbrev pub TakesWrong : Bool → Form → (List ℕ → Bool → Type 0) → (List ℕ → Type 0) → List ℕ → List ℕ → StreamFault
+    → Type 0
+TakesWrong is_all form Given Taken old new fault =
+    Checks Given Taken (λ text. ⊥) (λ text. ⊥) (Unit {0}) (Err fault)
+    × Explains is_all form Given Taken old new (Err fault)
 
 -- the warnings of a right input are told, and what it has is written, or a first part of that; or nothing was done
 abbrev pub TellsRight : (List ℕ → Type 0) → (List ℕ → Type 0) → Type 0 → Checked → List Warning → List ℕ → List ℕ
@@ -247,3 +246,10 @@ TellsRight Whole Part Kept checked warnings old new (Err checks.Write) =
     Part (report_text checked) × (new ≡ old ++ flat_map warning_text warnings)
 TellsRight Whole Part Kept checked warnings old new (Err checks.Memory) = Kept × (new ≡ old)
 TellsRight Whole Part Kept checked warnings old new (Err fault) = ⊥
+
+-- a text was put, or a first part of it until that failed; or nothing, for want of memory
+abbrev pub Puts : (List ℕ → Type 0) → (List ℕ → Type 0) → Type 0 → List ℕ → Result (Unit {0}) StreamFault → Type 0
+Puts Whole Part Kept text (Ok done) = Whole text
+Puts Whole Part Kept text (Err checks.Write) = Part text
+Puts Whole Part Kept text (Err checks.Memory) = Kept
+Puts Whole Part Kept text (Err fault) = ⊥

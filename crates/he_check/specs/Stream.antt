@@ -1,14 +1,17 @@
 -- What is taken from an input that is checked, and put into an output.
-use Rattle.std.specs.Prelude.{ℕ, ◌≡◌, ◌==◌, ◌⊎◌, Bool, true, false, List, [], ◌∷◌, ◌++◌, if◌then◌else◌, decimal, codes, Result, Ok, Err}
+use Rattle.std.specs.Prelude.{ℕ, ◌≡◌, ◌==◌, ◌⊎◌, Bool, true, false, List, [], ◌∷◌, ◌++◌, if◌then◌else◌, decimal, codes, Option, Result, Ok, Err}
 use Rattle.std.specs.List.{flat_map}
 use Rattle.he_words.specs.declared.fault.TextFault.{TextFault}
-use Rattle.he_check.specs.AllFaults.{AreFaults, AreTold}
+use Rattle.he_check.specs.AllFaults.{AreFaults, AreTold, alone_text, none_text}
 use Rattle.he_check.specs.Checked.{IsRight, IsSure, IsWrong}
-use Rattle.he_check.specs.Clauses.{EndsInClause}
+use Rattle.he_check.specs.Clauses.{hint_of}
+use Rattle.he_check.specs.Objects.{object_text, right_members}
 use Rattle.he_check.specs.Sentences.{warning_text}
 use Rattle.he_check.specs.Slips.{HasWarnings}
 use Rattle.he_inputs.specs.declared.stream_fault.StreamFault.{StreamFault}
 use Rattle.he_inputs.specs.declared.stream_fault.StreamFault.TheVariants.{Text, Read, Write, Memory}
+use Rattle.he_check.specs.declared.form.Form.{Form}
+use Rattle.he_check.specs.declared.form.Form.TheVariants.{Json}
 use Rattle.he_check.specs.declared.input.Checked.{Checked}
 use Rattle.he_check.specs.declared.slips.Warning.{Warning}
 
@@ -67,37 +70,73 @@ pub record TellsWarnings (Given : List ℕ → Bool → Type 0) (old new : List 
 
 -- of the input these bytes were taken, whether there are more or not, and what is said of its fault ends in the clause
 -- of the fault
-pub record TellsFault (Given : List ℕ → Bool → Type 0) (Taken : List ℕ → Type 0) (fault : TextFault)
+pub record TellsFault (form : Form) (Given : List ℕ → Bool → Type 0) (Taken : List ℕ → Type 0) (fault : TextFault)
     (old new : List ℕ) : Type 0 where
   pub input : List ℕ
   pub taken : Taken input ⊎ ((is_broken : Bool) × Given input is_broken)
-  pub told : EndsInClause input fault old new
+  pub said : List ℕ
+  pub told : new ≡ old ++ alone_text form fault said (hint_of input fault)
 
 -- the input was given, whole or up to where it broke off, and its faults are told behind what stood there
-pub record TellsAll (Given : List ℕ → Bool → Type 0) (faults : List TextFault) (old new : List ℕ) : Type 0 where
+pub record TellsAll (form : Form) (Given : List ℕ → Bool → Type 0) (faults : List TextFault)
+    (old new : List ℕ) : Type 0 where
   pub input : List ℕ
   pub is_broken : Bool
   pub given : Given input is_broken
   pub are : AreFaults input is_broken faults
   pub text : List ℕ
-  pub said : AreTold input is_broken faults text
+  pub said : AreTold form input is_broken faults text
   pub told : new ≡ old ++ text
 
 -- a fault of the text is told: it and all others after it, or it alone
-abbrev pub TellsText : Bool → (List ℕ → Bool → Type 0) → (List ℕ → Type 0) → TextFault → List ℕ → List ℕ → Type 0
-TellsText true Given Taken fault old new = (others : List TextFault) × TellsAll Given (fault ∷ others) old new
-TellsText false Given Taken fault old new = TellsFault Given Taken fault old new
+abbrev pub TellsText : Bool → Form → (List ℕ → Bool → Type 0) → (List ℕ → Type 0) → TextFault → List ℕ → List ℕ
+    → Type 0
+TellsText true form Given Taken fault old new =
+    (others : List TextFault) × TellsAll form Given (fault ∷ others) old new
+TellsText false form Given Taken fault old new = TellsFault form Given Taken fault old new
 
 -- where all faults are asked for, it is told that the input broke off and has none
-abbrev pub TellsRead : Bool → (List ℕ → Bool → Type 0) → List ℕ → List ℕ → Type 0
-TellsRead true Given old new = TellsAll Given [] old new
-TellsRead false Given old new = new ≡ old
+abbrev pub TellsRead : Bool → Form → (List ℕ → Bool → Type 0) → List ℕ → List ℕ → Type 0
+TellsRead true form Given old new = TellsAll form Given [] old new
+TellsRead false form Given old new = new ≡ old ++ none_text form
 
 -- where nothing is wrong with the input, its warnings are told; where something is, its first fault, or all
-abbrev pub Explains : Bool → (List ℕ → Bool → Type 0) → (List ℕ → Type 0) → List ℕ → List ℕ
+abbrev pub Explains : Bool → Form → (List ℕ → Bool → Type 0) → (List ℕ → Type 0) → List ℕ → List ℕ
     → Result (Unit {0}) StreamFault → Type 0
-Explains is_all Given Taken old new (Ok done) = TellsWarnings Given old new
-Explains is_all Given Taken old new (Err (Text fault)) = TellsText is_all Given Taken fault old new
-Explains is_all Given Taken old new (Err Read) = TellsRead is_all Given old new
-Explains is_all Given Taken old new (Err Write) = TellsWarnings Given old new
-Explains is_all Given Taken old new (Err Memory) = new ≡ old
+Explains is_all form Given Taken old new (Ok done) = TellsWarnings Given old new
+Explains is_all form Given Taken old new (Err (Text fault)) = TellsText is_all form Given Taken fault old new
+Explains is_all form Given Taken old new (Err Read) = TellsRead is_all form Given old new
+Explains is_all form Given Taken old new (Err Write) = TellsWarnings Given old new
+Explains is_all form Given Taken old new (Err Memory) = new ≡ old
+
+-- an input was given, whole or up to where it broke off; it has races and lines, with these warnings
+pub record TakesRight (Given : List ℕ → Bool → Type 0) (checked : Checked) (warnings : List Warning) : Type 0 where
+  pub input : List ℕ
+  pub is_broken : Bool
+  pub given : Given input is_broken
+  pub right : IsRight input is_broken checked
+  pub warned : HasWarnings input warnings
+
+-- the object of an input whose check ends so: it tells its races, its lines and its warnings, or its first fault, or
+-- all, as the lines of a check do
+abbrev pub IsObject : Bool → Option (List ℕ) → (List ℕ → Bool → Type 0) → (List ℕ → Type 0)
+    → Result (Unit {0}) StreamFault → List ℕ → Type 0
+IsObject is_all file Given Taken (Ok done) text =
+    (checked : Checked) × (warnings : List Warning) × TakesRight Given checked warnings
+    × (text ≡ object_text file (right_members checked warnings))
+IsObject is_all file Given Taken (Err (Text fault)) text =
+    (FindsWrong Given (Text fault) ⊎ FindsSure Taken fault)
+    × (faults : List ℕ) × TellsText is_all Json Given Taken fault [] faults × (text ≡ object_text file faults)
+IsObject is_all file Given Taken (Err Read) text =
+    FindsWrong Given Read
+    × (faults : List ℕ) × TellsRead is_all Json Given [] faults × (text ≡ object_text file faults)
+IsObject is_all file Given Taken (Err Write) text = ⊥
+IsObject is_all file Given Taken (Err Memory) text = ⊥
+
+-- the object of an input was put, or a first part of it until that failed; or nothing, for want of memory
+abbrev pub PutsObject : (List ℕ → Type 0) → (List ℕ → Type 0) → Type 0
+    → (Result (Unit {0}) StreamFault → List ℕ → Type 0) → Result (Unit {0}) StreamFault → Type 0
+PutsObject Whole Part Kept Is (Err Write) =
+    (end : Result (Unit {0}) StreamFault) × (text : List ℕ) × Is end text × Part text
+PutsObject Whole Part Kept Is (Err Memory) = Kept
+PutsObject Whole Part Kept Is end = (text : List ℕ) × Is end text × Whole text

@@ -1,13 +1,16 @@
 // What is told of the faults of an input.
 
 ghost use Rattle.std.specs.Prelude.{◌≡◌, ◌≤◌, ◌+◌, ◌-◌, ◌++◌, ◌^◌, [], ℕ, List, None, IfOk, OnOk};
-ghost use Rattle.he_check.specs.AllFaults.{end_text, more_text, said_text};
-ghost use Rattle.he_check.specs.Steps.{AddsFault, hint_in};
+ghost use Rattle.he_check.specs.AllFaults.{end_text, more_text, none_text, said_text, whole_text};
+ghost use Rattle.he_check.specs.Steps.{AddsFault, EndsIn, hint_in};
+ghost use Rattle.he_check.specs.declared.form.Form.TheVariants.{Json, Lines};
 ghost use Rattle.he_check.specs.declared.limits.TheConstants.{MOST_TOLD};
 
-use crate::explaining::explanation_of;
+use crate::explaining::{explanation_of, sentence_of};
+use crate::form::Form;
 use crate::kind::append_kind;
 use crate::limits::MOST_TOLD;
+use crate::objects::{faults_member, write_entry};
 use crate::parts::RestOfInput;
 use he_addr::{Memory, write_number};
 use he_words::TextFault;
@@ -16,8 +19,9 @@ use std::alloc::Allocator;
 // The faults of an input.
 #[derive(Drop)]
 pub(crate) struct Told<A: Allocator> {
-    // Whether all of them are told, or none is.
+    // Whether all of them are told, or none is, and how.
     pub(crate) is_all: bool,
+    pub(crate) form: Form,
     // The first one.
     pub(crate) first: Option<TextFault>,
     // How many were found.
@@ -28,12 +32,14 @@ pub(crate) struct Told<A: Allocator> {
 
 impl<A: Allocator + Copy> Told<A> {
     // None yet.
-    pub(crate) fn new(alloc: A, is_all: bool) -> Told<A>
+    pub(crate) fn new(alloc: A, is_all: bool, form: Form) -> Told<A>
         ensures all { result.is_all ≡ is_all }
+        ensures form { result.form ≡ form }
         ensures none { (result.first ≡ None) × (result.count ≡ 0) × (result.text.items ≡ []) }
     {
         Told {
             is_all,
+            form,
             first: None,
             count: 0,
             text: Vec::new(alloc),
@@ -53,7 +59,7 @@ impl<A: Allocator + Copy> Told<A> {
         self.first = self.first.or(Some(fault));
         self.count += 1;
         if self.is_all && self.count <= MOST_TOLD {
-            return append_fault(alloc, part, fault, &mut self.text);
+            return append_fault(alloc, self.form, part, fault, &mut self.text);
         }
         Ok(())
     }
@@ -61,14 +67,30 @@ impl<A: Allocator + Copy> Told<A> {
     // What is said of all of them: of the first ones, how many more there are, and that the input broke off.
     pub(crate) fn whole_text(&self, alloc: A, is_broken: bool) -> Result<Vec<u8, A>, Memory>
         ensures { IfOk result (λ text. text.items
-            ≡ self.now.text.items ++ (more_text (self.now.count - MOST_TOLD) ++ end_text is_broken)) }
+            ≡ whole_text self.now.form self.now.text.items (self.now.count - MOST_TOLD) is_broken) }
     {
-        let mut text = Vec::new(alloc);
-        text.extend_from_slice(self.text.as_slice())?;
-        append_more(self.count.saturating_sub(MOST_TOLD), &mut text)?;
-        append_end(is_broken, &mut text)?;
-        Ok(text)
+        let more = self.count.saturating_sub(MOST_TOLD);
+        match self.form {
+            Form::Lines => whole_lines(alloc, &self.text, more, is_broken),
+            Form::Json => faults_member(alloc, &self.text, more, is_broken),
+        }
     }
+}
+
+// The same in lines, where those of the first ones are these.
+fn whole_lines<A: Allocator + Copy>(
+    alloc: A,
+    lines: &[u8],
+    more: u64,
+    is_broken: bool,
+) -> Result<Vec<u8, A>, Memory>
+    ensures { IfOk result (λ text. text.items ≡ whole_text Lines lines.now more is_broken) }
+{
+    let mut text = Vec::new(alloc);
+    text.extend_from_slice(lines)?;
+    append_more(more, &mut text)?;
+    append_end(is_broken, &mut text)?;
+    Ok(text)
 }
 
 // Appends how many more faults there are, where there are any.
@@ -103,12 +125,74 @@ fn append_end<A: Allocator + Copy>(is_broken: bool, text: &mut Vec<u8, A>) -> Re
 // Appends the line of a fault and what is said of it. Its race begins with this part.
 fn append_fault<A: Allocator + Copy>(
     alloc: A,
+    form: Form,
     part: RestOfInput<'_>,
     fault: TextFault,
     text: &mut Vec<u8, A>,
 ) -> Result<(), Memory>
     ensures { OnOk result ((said : List ℕ) × (text.new.items
-        ≡ text.old.items ++ said_text fault said (hint_in part.entry.lines part.entry.text.now fault))) }
+        ≡ text.old.items ++ said_text form fault said (hint_in part.entry.lines part.entry.text.now fault))) }
+{
+    match form {
+        Form::Lines => append_lines(alloc, part, fault, text),
+        Form::Json => append_object(alloc, part, fault, text),
+    }
+}
+
+// As an object of JSON.
+fn append_object<A: Allocator + Copy>(
+    alloc: A,
+    part: RestOfInput<'_>,
+    fault: TextFault,
+    text: &mut Vec<u8, A>,
+) -> Result<(), Memory>
+    ensures { OnOk result ((said : List ℕ) × (text.new.items
+        ≡ text.old.items ++ said_text Json fault said (hint_in part.entry.lines part.entry.text.now fault))) }
+{
+    let said = sentence_of(alloc, part, fault)?;
+    let mut kind = Vec::new(alloc);
+    append_kind(fault.kind, &mut kind)?;
+    write_entry(fault.line, &kind, &said, text)
+}
+
+// What is said of the first fault, where no other is told. Its race begins with this part.
+pub(crate) fn alone<A: Allocator + Copy>(
+    alloc: A,
+    form: Form,
+    part: RestOfInput<'_>,
+    fault: TextFault,
+) -> Result<Vec<u8, A>, Memory>
+    ensures { IfOk result (λ text. EndsIn form part.entry.lines part.entry.text.now fault text.items) }
+{
+    match form {
+        Form::Lines => Ok(explanation_of(alloc, part, fault)?),
+        Form::Json => {
+            let mut object = Vec::new(alloc);
+            append_object(alloc, part, fault, &mut object)?;
+            faults_member(alloc, &object, 0, false)
+        }
+    }
+}
+
+// What is said of an input that broke off before a fault was found.
+pub(crate) fn none_told<A: Allocator + Copy>(alloc: A, form: Form) -> Result<Vec<u8, A>, Memory>
+    ensures { IfOk result (λ text. text.items ≡ none_text form) }
+{
+    match form {
+        Form::Lines => Ok(Vec::new(alloc)),
+        Form::Json => faults_member(alloc, b"", 0, true),
+    }
+}
+
+// In lines.
+fn append_lines<A: Allocator + Copy>(
+    alloc: A,
+    part: RestOfInput<'_>,
+    fault: TextFault,
+    text: &mut Vec<u8, A>,
+) -> Result<(), Memory>
+    ensures { OnOk result ((said : List ℕ) × (text.new.items
+        ≡ text.old.items ++ said_text Lines fault said (hint_in part.entry.lines part.entry.text.now fault))) }
 {
     let said = explanation_of(alloc, part, fault)?;
     text.extend_from_slice(b"he: line ")?;

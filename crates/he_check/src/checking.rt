@@ -1,12 +1,16 @@
 //! The check of an input, and what is written of it to an output.
-ghost use Rattle.std.specs.Prelude.{◌≡◌, ◌++◌, IfOk, OnOk};
+ghost use Rattle.std.specs.Prelude.{◌≡◌, ◌++◌, option_map, IfOk, OnOk};
 ghost use Rattle.std.specs.Io.{StartsWith};
 ghost use Rattle.he_stream.specs.Input.{Gives, GivesSoFar};
 ghost use Rattle.he_stream.specs.Output.{PutsPart, PutsWhole};
-ghost use Rattle.he_check.specs.Steps.{TellsRight};
-ghost use Rattle.he_check.specs.Stream.{Checks, Explains, counted, report_text};
+ghost use Rattle.he_check.specs.Objects.{object_text};
+ghost use Rattle.he_check.specs.Steps.{Puts, TellsRight};
+ghost use Rattle.he_check.specs.Stream.{Checks, Explains, IsObject, PutsObject, counted, report_text};
+ghost use Rattle.he_check.specs.declared.form.Form.TheVariants.{Lines};
 
+use crate::form::Form;
 use crate::input::Checked;
+use crate::objects::{object_of, right_members};
 use crate::slips::Warning;
 use crate::taking::take_checked;
 use crate::telling::tell_warnings;
@@ -55,11 +59,67 @@ pub fn check<A: Allocator + Copy, I: InputStream, O: OutputStream>(
         (PutsWhole O.contents O.puts O.flushes output.old output.new)
         (PutsPart O.contents O.puts O.flushes output.old output.new) (output.new ≡ output.old) result }
     ensures stays { StartsWith explanation.new.items explanation.old.items }
-    ensures quiet { Explains is_all (Gives I.remaining I.takes input.old input.new)
+    ensures quiet { Explains is_all Lines (Gives I.remaining I.takes input.old input.new)
         (GivesSoFar I.remaining I.takes input.old input.new) explanation.old.items explanation.new.items result }
 {
-    let (checked, warnings) = take_checked(alloc, is_all, input, explanation)?;
+    let (checked, warnings) = take_checked(alloc, is_all, Form::Lines, input, explanation)?;
     tell_right(alloc, checked, &warnings, output, explanation)
+}
+
+/// The same check, of which all is written to the output as one JSON object and a line end: the name of the input's
+/// file, where it has one, and its races, its lines and its warnings, or its faults, each with its line, its kind and
+/// the sentence of [`check`]. With `is_all` it also has how many more faults there are, where there are more, and that
+/// the input broke off, where it did.
+///
+/// ```text
+/// {"file":"office.timeline","races":3,"lines":27,"warnings":[]}
+/// {"file":null,"faults":[{"line":2,"kind":"range","text":"the attempt delay is 10 to 2000 milliseconds"}]}
+/// {"file":"pipe","faults":[],"broken":true}
+/// ```
+///
+/// # Errors
+///
+/// As [`check`]. After `Text` and `Read` the object was written, after `Write` a first part of it, after `Memory`
+/// nothing.
+pub fn check_json<A: Allocator + Copy, I: InputStream, O: OutputStream>(
+    alloc: A,
+    is_all: bool,
+    file: Option<&str>,
+    input: &mut I,
+    output: &mut O,
+) -> Result<(), StreamFault>
+    ensures { PutsObject (PutsWhole O.contents O.puts O.flushes output.old output.new)
+        (PutsPart O.contents O.puts O.flushes output.old output.new) (output.new ≡ output.old)
+        (IsObject is_all (option_map (λ name. name.now) file.entry)
+        (Gives I.remaining I.takes input.old input.new) (GivesSoFar I.remaining I.takes input.old input.new)) result }
+{
+    let mut faults = Vec::new(alloc);
+    match take_checked(alloc, is_all, Form::Json, input, &mut faults) {
+        Ok((checked, warnings)) => {
+            let members = right_members(alloc, checked, &warnings)?;
+            put_object(alloc, file, &members, output)
+        }
+        Err(StreamFault::Memory) => Err(StreamFault::Memory),
+        Err(fault) => match put_object(alloc, file, &faults, output) {
+            Ok(()) => Err(fault),
+            Err(unwritten) => Err(unwritten),
+        },
+    }
+}
+
+fn put_object<A: Allocator + Copy, O: OutputStream>(
+    alloc: A,
+    file: Option<&str>,
+    members: &[u8],
+    output: &mut O,
+) -> Result<(), StreamFault>
+    ensures { Puts (PutsWhole O.contents O.puts O.flushes output.old output.new)
+        (PutsPart O.contents O.puts O.flushes output.old output.new) (output.new ≡ output.old)
+        (object_text (option_map (λ name. name.now) file.entry) members.now) result }
+{
+    let text = object_of(alloc, file, members)?;
+    write_whole(output, &text)?;
+    Ok(())
 }
 
 // Tells the warnings of an input with which nothing is wrong, and writes what it has.

@@ -5,7 +5,7 @@ ghost use Rattle.std.specs.List.{slice_get};
 ghost use Rattle.std.specs.Option.{option_copied};
 ghost use Rattle.he_reading.specs.Parts.{lines_of};
 ghost use Rattle.he_check.specs.Clauses.{is_of_words, line_at, line_meant};
-ghost use Rattle.he_check.specs.Sentences.{clause_text, meaning_of};
+ghost use Rattle.he_check.specs.Sentences.{meaning_of, meant_text};
 ghost use Rattle.he_check.specs.Steps.{hint_in};
 
 use crate::meant::{Meant, input_meant, meant_of};
@@ -13,18 +13,17 @@ use crate::parts::RestOfInput;
 use he_words::{LINE_END, TOKEN_END, TextFault, TextKind};
 use std::alloc::{AllocError, Allocator};
 
-// Appends what was likely meant, and a line end.
+// Appends what was likely meant.
 pub(crate) fn append_clause<A: Allocator>(
     meant: Option<Meant>,
     text: &mut Vec<u8, A>,
 ) -> Result<(), AllocError>
-    ensures { OnOk result (text.new.items ≡ text.old.items ++ clause_text meant) }
+    ensures { OnOk result (text.new.items ≡ text.old.items ++ meant_text meant) }
 {
     if let Some(meant) = meant {
         text.extend_from_slice(b"; ")?;
         text.extend_from_slice(meaning(meant))?;
     }
-    text.push(b'\n')?;
     Ok(())
 }
 

@@ -6,6 +6,7 @@ ghost use Rattle.he_check.specs.Slips.{warnings_of};
 ghost use Rattle.he_check.specs.Steps.{HasGone, HasStepped, HasStopped, IsCounted, IsNew, IsOpen, MayGo, fault_found};
 
 use crate::all_faults::Told;
+use crate::form::Form;
 use crate::input::Checked;
 use crate::parts::{RACE_LINE, RestOfInput, begins_race};
 use crate::slips::{Slip, Warning, add_if, add_warnings};
@@ -30,15 +31,15 @@ pub(crate) struct Counted<A: Allocator> {
 }
 
 impl<A: Allocator + Copy> Counted<A> {
-    // At the front of an input, of whose faults all are asked for, or the first one alone.
-    pub(crate) fn new(alloc: A, is_all: bool) -> Counted<A>
-        ensures { IsNew is_all result }
+    // At the front of an input, of whose faults all are asked for, or the first one alone, in this form.
+    pub(crate) fn new(alloc: A, is_all: bool, form: Form) -> Counted<A>
+        ensures { IsNew is_all form result }
     {
         Counted {
             reader: RaceReader::START,
             is_seeking: false,
             warnings: Vec::new(alloc),
-            told: Told::new(alloc, is_all),
+            told: Told::new(alloc, is_all, form),
         }
     }
 

@@ -1,13 +1,17 @@
 //! What is said of a fault: the line, the mark below it, and what was expected there.
-ghost use Rattle.std.specs.Prelude.{◌≡◌, IfOk, OnErr, OnOk};
+ghost use Rattle.std.specs.Prelude.{◌≡◌, ◌++◌, ℕ, List, IfOk, OnErr, OnOk};
 ghost use Rattle.std.specs.Io.{StartsWith};
 ghost use Rattle.he_check.specs.Clauses.{EndsInClause};
-ghost use Rattle.he_check.specs.Steps.{EndsIn};
+ghost use Rattle.he_check.specs.Sentences.{meant_text};
+ghost use Rattle.he_check.specs.Steps.{EndsIn, hint_in};
+ghost use Rattle.he_check.specs.declared.form.Form.TheVariants.{Lines};
 
 use crate::clause::{append_clause, hint_in};
 use crate::finding::find_sentence;
+use crate::meant::Meant;
 use crate::parts::RestOfInput;
 use crate::place::find_line;
+use crate::sentence::Sentence;
 use crate::showing::show_line;
 use he_words::TextFault;
 use std::alloc::{AllocError, Allocator};
@@ -47,14 +51,41 @@ pub(crate) fn explanation_of<A: Allocator + Copy>(
     part: RestOfInput<'_>,
     fault: TextFault,
 ) -> Result<Vec<u8, A>, AllocError>
-    ensures { IfOk result (λ text. EndsIn part.entry.lines part.entry.text.now fault text.items) }
+    ensures { IfOk result (λ text. EndsIn Lines part.entry.lines part.entry.text.now fault text.items) }
 {
     let place = find_line(part, fault.line);
     let (mark, sentence) = find_sentence(place, fault.kind);
     let mut text = Vec::new(alloc);
     show_line(place.line, mark.span(place.line), &mut text)?;
+    append_sentence(alloc, sentence, hint_in(part, fault), &mut text)?;
+    text.push(b'\n')?;
+    Ok(text)
+}
+
+// The sentence alone, with what was likely meant.
+pub(crate) fn sentence_of<A: Allocator + Copy>(
+    alloc: A,
+    part: RestOfInput<'_>,
+    fault: TextFault,
+) -> Result<Vec<u8, A>, AllocError>
+    ensures { IfOk result (λ text. (said : List ℕ) × (text.items
+        ≡ said ++ meant_text (hint_in part.entry.lines part.entry.text.now fault))) }
+{
+    let (_, sentence) = find_sentence(find_line(part, fault.line), fault.kind);
+    let mut text = Vec::new(alloc);
+    append_sentence(alloc, sentence, hint_in(part, fault), &mut text)?;
+    Ok(text)
+}
+
+fn append_sentence<A: Allocator + Copy>(
+    alloc: A,
+    sentence: Sentence,
+    meant: Option<Meant>,
+    text: &mut Vec<u8, A>,
+) -> Result<(), AllocError>
+    ensures { OnOk result ((said : List ℕ) × (text.new.items ≡ text.old.items ++ (said ++ meant_text meant))) }
+{
     let sentence = format!(in alloc; "{sentence}")?;
     text.extend_from_slice(sentence.as_bytes())?;
-    append_clause(hint_in(part, fault), &mut text)?;
-    Ok(text)
+    append_clause(meant, text)
 }

@@ -4,6 +4,7 @@ ghost use Rattle.he_check.specs.Checked.{IsRight, IsWrong};
 ghost use Rattle.he_check.specs.Slips.{HasWarnings};
 
 use crate::counting::Counted;
+use crate::form::Form;
 use crate::slips::Warning;
 use he_inputs::{Ending, StreamFault};
 use std::alloc::Allocator;
@@ -35,7 +36,7 @@ pub fn check_input<A: Allocator + Copy>(
     ensures warned { IfOk result (λ found. HasWarnings input.now found.1.items) }
     ensures wrong { IfErr result (IsWrong input.now is_broken) }
 {
-    let mut counted = Counted::new(alloc, false);
+    let mut counted = Counted::new(alloc, false, Form::Lines);
     counted.go_on(alloc, input, Ending::of(is_broken))?;
     match counted.fault(is_broken) {
         Some(fault) => Err(fault),

@@ -2,10 +2,12 @@
 ghost use Rattle.std.specs.Prelude.{◌≡◌, ◌+◌, ◌-◌, ◌≤◌, ◌^◌, drop, length, take, vec_len, IfErr, IfOk, OnOk};
 ghost use Rattle.he_stream.specs.Input.{Gives, GivesSoFar};
 ghost use Rattle.he_inputs.specs.RaceReading.{ending_of};
-ghost use Rattle.he_check.specs.Steps.{EndsWith, HasGone, HasStopped, HoldsOn, IsCounted, IsHeld, IsNew, IsOpen, IsSaidOf, TakesRight, TakesWrong, at_front, fault_found, held_bytes};
+ghost use Rattle.he_check.specs.Steps.{EndsWith, HasGone, HasStopped, HoldsOn, IsCounted, IsHeld, IsNew, IsOpen, IsSaidOf, TakesWrong, at_front, fault_found, held_bytes};
+ghost use Rattle.he_check.specs.Stream.{TakesRight};
 
+use crate::all_faults::{alone, none_told};
 use crate::counting::Counted;
-use crate::explaining::explanation_of;
+use crate::form::Form;
 use crate::input::Checked;
 use crate::limits::{FIRST_BYTES, MOST_SHOWN, STEP_ROOM};
 use crate::parts::RestOfInput;
@@ -34,15 +36,15 @@ struct Held<A: Allocator> {
 
 impl<A: Allocator + Copy> Held<A> {
     // Nothing is taken yet.
-    fn new(alloc: A, is_all: bool) -> Held<A>
+    fn new(alloc: A, is_all: bool, form: Form) -> Held<A>
         ensures none { (result.filled ≡ 0) × (result.tried ≡ 0) }
-        ensures counted { IsNew is_all result.counted }
+        ensures counted { IsNew is_all form result.counted }
     {
         Held {
             bytes: Vec::new(alloc),
             filled: 0,
             tried: 0,
-            counted: Counted::new(alloc, is_all),
+            counted: Counted::new(alloc, is_all, form),
         }
     }
 
@@ -54,6 +56,7 @@ impl<A: Allocator + Copy> Held<A> {
         requires lines { self.old.counted.reader.lines + self.old.filled + count ≤ 2 ^ 63 }
         ensures held { OnOk result (IsHeld self.new) }
         ensures all { OnOk result (self.new.counted.told.is_all ≡ self.old.counted.told.is_all) }
+        ensures form { OnOk result (self.new.counted.told.form ≡ self.old.counted.told.form) }
         ensures on { OnOk result (HoldsOn (take (self.old.filled + count) self.old.bytes.items) self.old self.new) }
     {
         self.filled += count;
@@ -135,13 +138,13 @@ impl<A: Allocator + Copy> Held<A> {
             return counted.told.whole_text(alloc, is_broken);
         }
         let Some(fault) = counted.told.first else {
-            return Ok(Vec::new(alloc));
+            return none_told(alloc, counted.told.form);
         };
         let part = RestOfInput {
             text: &self.bytes[counted.reader.end..self.filled],
             lines: counted.reader.lines,
         };
-        explanation_of(alloc, part, fault)
+        alone(alloc, counted.told.form, part, fault)
     }
 }
 
@@ -162,19 +165,20 @@ fn lines_end(bytes: &[u8]) -> usize
 }
 
 // Takes an input, and checks it as it comes: to its end, or, where the first fault alone is asked for, up to one that
-// nothing mends which follows. What is said of faults is appended.
+// nothing mends which follows. What is said of faults in this form is appended.
 pub(crate) fn take_checked<A: Allocator + Copy, I: InputStream>(
     alloc: A,
     is_all: bool,
+    form: Form,
     input: &mut I,
     explanation: &mut Vec<u8, A>,
 ) -> Result<(Checked, Vec<Warning, A>), StreamFault>
     ensures right { IfOk result (λ found. TakesRight (Gives I.remaining I.takes input.old input.new) found.0
         found.1.items × (explanation.new.items ≡ explanation.old.items)) }
-    ensures wrong { IfErr result (TakesWrong is_all (Gives I.remaining I.takes input.old input.new)
+    ensures wrong { IfErr result (TakesWrong is_all form (Gives I.remaining I.takes input.old input.new)
         (GivesSoFar I.remaining I.takes input.old input.new) explanation.old.items explanation.new.items) }
 {
-    let mut held = Held::new(alloc, is_all);
+    let mut held = Held::new(alloc, is_all, form);
     for _steps in 0..MOST_READS {
         match take_piece(input, &mut held.bytes, held.filled, STEP_ROOM)? {
             Taken::Bytes(count) => {

@@ -36,7 +36,7 @@ fn append_warning<A: Allocator + Copy>(
 }
 
 // What the slip comes to, and what to do.
-fn sentence(slip: Slip) -> &'static [u8]
+pub(crate) fn sentence(slip: Slip) -> &'static [u8]
     ensures { result.now ≡ sentence_of slip }
 {
     match slip {

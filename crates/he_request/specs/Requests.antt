@@ -52,7 +52,7 @@ refusal_by kind error = refusals.Words error
 
 -- whether a task tells each fault of a text, and so goes on after one
 abbrev pub tells_faults : Task → Bool
-tells_faults (Check is_all) = is_all
+tells_faults (Check is_all json) = is_all
 tells_faults _ = false
 
 -- the files of the line, with its settings, of which each race has those in place of its own, and the file of a page
@@ -110,7 +110,8 @@ pub record AsksComparison (found : Found) (texts : Texts) : Type 0 where
   pub keeps : HasFlag found (codes "keep-going") texts.goes_on
 
 abbrev pub AsksCheck : Found → Task → Type 0
-AsksCheck found task = (all : Bool) × HasFlag found (codes "all") all × (task ≡ Check all)
+AsksCheck found task =
+    (all json : Bool) × HasFlag found (codes "all") all × HasFlag found (codes "json") json × (task ≡ Check all json)
 
 -- the file of a page; None for `-`, standard output
 abbrev pub page_of : Option (List ℕ) → Option (List ℕ)

@@ -12,6 +12,8 @@ const ABOUT: &str = "Check timelines, and explain their faults";
 const ALL_HELP: &str = "Go on after a faulty race and after a faulty file,\n\
 and explain the first fault of each race";
 
+const JSON_HELP: &str = "Write one JSON object for each file, each on a line";
+
 const EXAMPLE: &str = "\
 Reads timelines, as `he replay` does. If nothing is wrong, standard output has
 one line, as
@@ -24,7 +26,8 @@ Otherwise standard output has nothing, and standard error has the first fault:
 its line number and text, a mark below what is wrong, and what was expected.
 Nothing after it is read. With --all it goes on at the next line `race 1` or
 `race 2`, explains the first 1000 faults of a file, counts the others, and goes
-on with the next file.
+on with the next file. With --json standard output has all of that instead: the
+races, lines and warnings of a file, or its faults.
 
 Example input:
 
@@ -40,7 +43,11 @@ Standard error for it:
   the attempt delay is 10 to 2000 milliseconds";
 
 pub(crate) fn command<'a>(alloc: Global) -> Result<Command<'a>, AllocError> {
-    let args = vec![in alloc; files(alloc, FILES_HELP), flag(alloc, "all", ALL_HELP)]?;
+    let args = vec![in alloc;
+        files(alloc, FILES_HELP),
+        flag(alloc, "all", ALL_HELP),
+        flag(alloc, "json", JSON_HELP),
+    ]?;
     plain(alloc, "check", ABOUT, EXAMPLE, args)
 }
 
@@ -50,5 +57,6 @@ pub(crate) fn task_of(matches: &ArgMatches<'_>) -> Task
 {
     Task::Check {
         is_all: flag_of(matches, "all"),
+        is_json: flag_of(matches, "json"),
     }
 }

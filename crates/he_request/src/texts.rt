@@ -27,9 +27,11 @@ pub enum Task {
         is_json: bool,
         tells_races: bool,
     },
-    /// To check it, and to explain its first fault, or each after which it goes on, or to warn of its slips.
+    /// To check it, and to explain its first fault, or each after which it goes on, or to warn of its slips; as JSON,
+    /// or in lines.
     Check {
         is_all: bool,
+        is_json: bool,
     },
     /// To sum its races up with those of the other texts, as JSON, as metrics or in lines, with so many of the slowest
     /// ones.
@@ -97,7 +99,7 @@ impl Task {
         ensures { result ≡ tells_faults self }
     {
         match self {
-            Task::Check { is_all } => is_all,
+            Task::Check { is_all, .. } => is_all,
             _ => false,
         }
     }

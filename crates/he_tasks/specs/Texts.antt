@@ -1,7 +1,7 @@
 -- What is done with texts of races, of standard input or of files, and how the status tells how that ended.
 use Rattle.std.specs.Prelude.{◌≡◌, ◌≢◌, ◌⊎◌, ◌++◌, ℕ, Bool, true, false, List, [], ◌∷◌, Option, Some, None, Result, Err, codes, if◌then◌else◌, option_map}
 use Rattle.std.specs.Borrow.{Bor}
-use Rattle.he_check.specs.Stream.{Checks}
+use Rattle.he_check.specs.Stream.{Checks, IsObject, PutsObject}
 use Rattle.he_timeline.specs.Changes.{ChangeValues}
 use Rattle.he_draw.specs.Page.{HasName}
 use Rattle.he_draw.specs.declared.look.Look.TheVariants as looks
@@ -52,9 +52,19 @@ naming name = option_map (λ n. record { path = n.path.now; shown = n.shown.now 
 abbrev pub file_of : Option Naming → Option (List ℕ)
 file_of name = option_map (λ n. n.path) name
 
+-- a text was checked, and what it has was written, or as JSON what was found
+abbrev pub ChecksText : Bool → {I O : Type 0} → inputs.Ghosts I → outputs.Ghosts O → Bool → Option (List ℕ) → I → I → O
+    → O → Result (Unit {0}) StreamFault → Type 0
+ChecksText false input output is_all file first last before after =
+    Checks (Gave input first last) (GaveSoFar input first last) (TookAll output before after)
+    (TookPart output before after) (after ≡ before)
+ChecksText true input output is_all file first last before after =
+    PutsObject (TookAll output before after) (TookPart output before after) (after ≡ before)
+    (IsObject is_all file (Gave input first last) (GaveSoFar input first last))
+
 -- What comes of a text from a file of this name, if it has one, each of whose races has these changes of its settings,
--- where its input went from the first to the last state, and the output and the sums from before to after. That a
--- check tells all faults, or the first, is no part of it.
+-- where its input went from the first to the last state, and the output and the sums from before to after. Which
+-- faults a check that is not written as JSON tells is no part of it.
 abbrev pub RunsTask : {I O : Type 0} → inputs.Ghosts I → outputs.Ghosts O → Task → ChangeValues → Option (List ℕ) → I
     → I → O × Option Sums → O × Option Sums → Result (Unit {0}) StreamFault → Type 0
 RunsTask input output (Write content workers) changes file first last before after =
@@ -64,9 +74,8 @@ RunsTask input output (Write content workers) changes file first last before aft
     (TookRounds output before.0 after.0) result)
 RunsTask input output (Compare json races) changes file first last before after =
     λ result. (after.0 ≡ before.0) × AddsSums input first last before.1 after.1 result
-RunsTask input output (Check is_all) changes file first last before after =
-    Checks (Gave input first last) (GaveSoFar input first last) (TookAll output before.0 after.0)
-    (TookPart output before.0 after.0) (after.0 ≡ before.0)
+RunsTask input output (Check is_all json) changes file first last before after =
+    ChecksText json input output is_all file first last before.0 after.0
 RunsTask input output (Summarize json metrics slowest) changes file first last before after =
     λ result. (after.0 ≡ before.0) × AddsSums input first last before.1 after.1 result
 RunsTask input output (Group json by) changes file first last before after =

@@ -15,7 +15,7 @@ use crate::reports::{DONE, FAULT, explain_in, report_in, tell_lines, tell_reason
 use crate::session::{Session, put_text, report_unwritten};
 use crate::system::TaskSystem;
 use he_addr::Memory;
-use he_check::check;
+use he_check::{check, check_json};
 use he_draw::write_name;
 use he_inputs::StreamFault;
 use he_replay::{TextRequest, replay};
@@ -150,7 +150,17 @@ fn run_task<R: TaskSystem, I: InputStream, O: OutputStream, F>(
             let output = &mut session.output;
             replay(session.system, alloc, &asked, workers, input, output)
         }
-        Task::Check { is_all } => check(alloc, is_all, input, &mut session.output, told),
+        Task::Check {
+            is_all,
+            is_json: false,
+        } => check(alloc, is_all, input, &mut session.output, told),
+        Task::Check {
+            is_all,
+            is_json: true,
+        } => {
+            let (file, output) = (file_of(text.name), &mut session.output);
+            check_json(alloc, is_all, file, input, output)
+        }
         Task::Compare { .. } | Task::Summarize { .. } | Task::Group { .. } => {
             add_text(session.place, input, sums)
         }
@@ -207,14 +217,17 @@ fn tell_end<R: TaskSystem, I: InputStream, O: OutputStream, F: Write>(
     let texts = text.texts;
     let status = match end {
         Ok(()) => DONE,
+        // It stands in the object.
+        Err(StreamFault::Text(_)) if has_object(texts.task) => FAULT,
         // It stands among those that are told.
-        Err(StreamFault::Text(_) | StreamFault::Read) if texts.task.tells_faults() => FAULT,
+        Err(StreamFault::Text(_) | StreamFault::Read) if tells_each(texts.task) => FAULT,
         Err(StreamFault::Write) => report_unwritten(session, texts.explains),
         Err(fault) => report_in(text.name, fault, &mut session.faults),
     };
     let faults = &mut session.faults;
     tell_lines(text.name, told, faults);
     match end {
+        Err(StreamFault::Text(_)) if has_object(texts.task) => {}
         Err(StreamFault::Text(fault)) if texts.explains && told.is_empty() => {
             explain_in(session.system, session.alloc, text.name, fault, faults)
         }
@@ -222,4 +235,14 @@ fn tell_end<R: TaskSystem, I: InputStream, O: OutputStream, F: Write>(
         _ => {}
     }
     status
+}
+
+// Whether what is found in a text is written as an object.
+fn has_object(task: Task) -> bool {
+    matches!(task, Task::Check { is_json: true, .. })
+}
+
+// Whether lines tell each fault of a text.
+fn tells_each(task: Task) -> bool {
+    task.tells_faults() && !has_object(task)
 }

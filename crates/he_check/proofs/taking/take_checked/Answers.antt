@@ -24,13 +24,13 @@ loop-steps-init g c =
     let none = c.new-held.ensures.none in
     let filled = none.0 in
     let tried = none.1 in (
-      record { within = omega arith; tried = omega arith; front = ap (λ r. r.end) new.reader; sound = start_sound held.counted c.args.is_all new },
+      record { within = omega arith; tried = omega arith; front = ap (λ r. r.end) new.reader; sound = start_sound held.counted c.args.is_all c.args.form new },
       λ _. new.none,
-      new.all,
+      (new.all, new.formed),
       refl,
       refl,
       [],
-      start_at held.counted c.args.is_all new endings.Open _,
+      start_at held.counted c.args.is_all c.args.form new endings.Open _,
       nothing_taken (g.I.InputStream.remaining c.args.input.now) held.bytes.items held.filled filled,
       omega arith,
     )
@@ -77,10 +77,11 @@ returns-then-is_done-clause-wrong g c =
     let Taken = GivesSoFar g.I.InputStream.remaining g.I.InputStream.takes c.args.input.now c.take_piece.new.input in
     let at = further next.counted holds.0 next.bytes.items next.tried next.filled c.in_ok-gain-in-Bytes.ensures.held.tried c.in_ok-gain-in-Bytes.ensures.held.front holds.2 in
     let done = c.is_done.ensures.done c.if-is_done.true in
-    let all = c.in_ok-gain-in-Bytes.ensures.all ∙ inv.2 in
-    let ends = found_first holds.0 (held_bytes next) next.counted c.in_ok-gain-in-Bytes.ensures.held.sound (Gives g.I.InputStream.remaining g.I.InputStream.takes c.args.input.now c.take_piece.new.input) Taken c.args.is_all all
+    let all = c.in_ok-gain-in-Bytes.ensures.all ∙ inv.2.0 in
+    let form = c.in_ok-gain-in-Bytes.ensures.form ∙ inv.2.1 in
+    let ends = found_first holds.0 (held_bytes next) next.counted c.in_ok-gain-in-Bytes.ensures.held.sound (Gives g.I.InputStream.remaining g.I.InputStream.takes c.args.input.now c.take_piece.new.input) Taken c.args.is_all c.args.form all form
     c.loop-steps.explanation.items c.conclude.new.explanation.items (λ found. found.0) (λ found. found.1.items) at (sym all ∙ done.0) done.1 (subst Taken holds.1 taken) c.conclude.result c.conclude.ensures.ok c.conclude.ensures.err in
-    subst (λ e. IfErr c.conclude.result (TakesWrong c.args.is_all (Gives g.I.InputStream.remaining g.I.InputStream.takes c.args.input.now c.take_piece.new.input) Taken e.items c.conclude.new.explanation.items)) inv.3 ends.1
+    subst (λ e. IfErr c.conclude.result (TakesWrong c.args.is_all c.args.form (Gives g.I.InputStream.remaining g.I.InputStream.takes c.args.input.now c.take_piece.new.input) Taken e.items c.conclude.new.explanation.items)) inv.3 ends.1
 
 pub returns-in_err-finish-in-End-clause-wrong : goal.returns-in_err-finish-in-End-clause-wrong
 returns-in_err-finish-in-End-clause-wrong g c =
@@ -99,9 +100,9 @@ returns-in-End-clause-right g c =
     let given = gives_whole g.I.InputStream.remaining g.I.InputStream.takes c.args.input.now c.loop-steps.input c.take_piece.new.input c.loop-steps._steps inv.4 few step.1 end _ bytes in
     let at = tried_same held.counted inv.5 held.bytes.items items held.tried held.filled inv.0.tried c.in_ok-count.ensures.front inv.6 in
     let same = c.in_ok-finish-in-End.ensures.same in
-    (ends_taken (λ found. found.0) (λ found. found.1.items) held.counted c.finish.new.self inv.5 items held.tried held.filled false c.args.is_all
+    (ends_taken (λ found. found.0) (λ found. found.1.items) held.counted c.finish.new.self inv.5 items held.tried held.filled false c.args.is_all c.args.form
     (Gives g.I.InputStream.remaining g.I.InputStream.takes c.args.input.now c.take_piece.new.input) (GivesSoFar g.I.InputStream.remaining g.I.InputStream.takes c.args.input.now c.take_piece.new.input) given
-    c.args.explanation.now.items c.loop-steps.explanation.items c.conclude-in-End.new.explanation.items (ap (λ e. e.items) inv.3) inv.2 inv.0.front inv.0.tried at
+    c.args.explanation.now.items c.loop-steps.explanation.items c.conclude-in-End.new.explanation.items (ap (λ e. e.items) inv.3) inv.2.0 inv.2.1 inv.0.front inv.0.tried at
     (ap (λ b. take c.finish.new.self.filled b.items) same.0 ∙ ap (λ (n : ℕ). take n items) same.1) c.in_ok-finish-in-End.ensures.gone c.in_ok-finish-in-End.ensures.stopped c.conclude-in-End.result c.conclude-in-End.ensures.ok
     c.conclude-in-End.ensures.err).0
 
@@ -118,9 +119,9 @@ returns-in-End-clause-wrong g c =
     let given = gives_whole g.I.InputStream.remaining g.I.InputStream.takes c.args.input.now c.loop-steps.input c.take_piece.new.input c.loop-steps._steps inv.4 few step.1 end _ bytes in
     let at = tried_same held.counted inv.5 held.bytes.items items held.tried held.filled inv.0.tried c.in_ok-count.ensures.front inv.6 in
     let same = c.in_ok-finish-in-End.ensures.same in
-    (ends_taken (λ found. found.0) (λ found. found.1.items) held.counted c.finish.new.self inv.5 items held.tried held.filled false c.args.is_all
+    (ends_taken (λ found. found.0) (λ found. found.1.items) held.counted c.finish.new.self inv.5 items held.tried held.filled false c.args.is_all c.args.form
     (Gives g.I.InputStream.remaining g.I.InputStream.takes c.args.input.now c.take_piece.new.input) (GivesSoFar g.I.InputStream.remaining g.I.InputStream.takes c.args.input.now c.take_piece.new.input) given
-    c.args.explanation.now.items c.loop-steps.explanation.items c.conclude-in-End.new.explanation.items (ap (λ e. e.items) inv.3) inv.2 inv.0.front inv.0.tried at
+    c.args.explanation.now.items c.loop-steps.explanation.items c.conclude-in-End.new.explanation.items (ap (λ e. e.items) inv.3) inv.2.0 inv.2.1 inv.0.front inv.0.tried at
     (ap (λ b. take c.finish.new.self.filled b.items) same.0 ∙ ap (λ (n : ℕ). take n items) same.1) c.in_ok-finish-in-End.ensures.gone c.in_ok-finish-in-End.ensures.stopped c.conclude-in-End.result c.conclude-in-End.ensures.ok
     c.conclude-in-End.ensures.err).1
 
@@ -139,9 +140,9 @@ returns-in-Failed-clause-wrong g c =
     let given = gives_broken g.I.InputStream.remaining g.I.InputStream.takes c.args.input.now c.loop-steps.input c.take_piece.new.input c.loop-steps._steps inv.4 few step.1 _ bytes in
     let at = tried_same held.counted inv.5 held.bytes.items items held.tried held.filled inv.0.tried c.in_ok-count.ensures.front inv.6 in
     let same = c.in_ok-finish-in-Failed.ensures.same in
-    (ends_taken (λ found. found.0) (λ found. found.1.items) held.counted c.finish-in-Failed.new.self inv.5 items held.tried held.filled true c.args.is_all
+    (ends_taken (λ found. found.0) (λ found. found.1.items) held.counted c.finish-in-Failed.new.self inv.5 items held.tried held.filled true c.args.is_all c.args.form
     (Gives g.I.InputStream.remaining g.I.InputStream.takes c.args.input.now c.take_piece.new.input) (GivesSoFar g.I.InputStream.remaining g.I.InputStream.takes c.args.input.now c.take_piece.new.input) given
-    c.args.explanation.now.items c.loop-steps.explanation.items c.conclude-in-Failed.new.explanation.items (ap (λ e. e.items) inv.3) inv.2 inv.0.front inv.0.tried at
+    c.args.explanation.now.items c.loop-steps.explanation.items c.conclude-in-Failed.new.explanation.items (ap (λ e. e.items) inv.3) inv.2.0 inv.2.1 inv.0.front inv.0.tried at
     (ap (λ b. take c.finish-in-Failed.new.self.filled b.items) same.0 ∙ ap (λ (n : ℕ). take n items) same.1) c.in_ok-finish-in-Failed.ensures.gone c.in_ok-finish-in-Failed.ensures.stopped
     c.conclude-in-Failed.result c.conclude-in-Failed.ensures.ok c.conclude-in-Failed.ensures.err).1
 
@@ -168,7 +169,7 @@ loop-steps-preserved g c =
           rw w.held-is (
             gained.held,
             w.is_done.ensures.more w.if-is_done.false,
-            gained.all ∙ inv.2,
+            (gained.all ∙ inv.2.0, gained.form ∙ inv.2.1),
             inv.3,
             one_step_more _ _ _ _ _ _ _ inv.4 tt step.1,
             holds.0,
@@ -203,8 +204,8 @@ returns-clause-wrong g c =
     let all : c.loop-steps._steps ≡ most_reads = omega (arith, c.loop-steps-test.false, c.loop-steps.auto._steps-end) in
     let given = gives_no_end g.I.InputStream.remaining g.I.InputStream.takes c.args.input.now c.loop-steps.input c.loop-steps.input c.loop-steps._steps inv.4 all _ inv.7 in
     let same = c.in_ok-finish.ensures.same in
-    (ends_taken (λ found. found.0) (λ found. found.1.items) held.counted c.finish-2.new.self inv.5 held.bytes.items held.tried held.filled true c.args.is_all
+    (ends_taken (λ found. found.0) (λ found. found.1.items) held.counted c.finish-2.new.self inv.5 held.bytes.items held.tried held.filled true c.args.is_all c.args.form
     (Gives g.I.InputStream.remaining g.I.InputStream.takes c.args.input.now c.loop-steps.input) (GivesSoFar g.I.InputStream.remaining g.I.InputStream.takes c.args.input.now c.loop-steps.input) given
-    c.args.explanation.now.items c.loop-steps.explanation.items c.conclude-2.new.explanation.items (ap (λ e. e.items) inv.3) inv.2 inv.0.front inv.0.tried inv.6
+    c.args.explanation.now.items c.loop-steps.explanation.items c.conclude-2.new.explanation.items (ap (λ e. e.items) inv.3) inv.2.0 inv.2.1 inv.0.front inv.0.tried inv.6
     (ap (λ b. take c.finish-2.new.self.filled b.items) same.0 ∙ ap (λ (n : ℕ). take n held.bytes.items) same.1) c.in_ok-finish.ensures.gone c.in_ok-finish.ensures.stopped c.conclude-2.result c.conclude-2.ensures.ok
     c.conclude-2.ensures.err).1

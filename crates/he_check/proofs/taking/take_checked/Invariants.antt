@@ -11,6 +11,6 @@ use Rattle.he_check.proofs.taking.take_checked.Given as goal
 -- nothing is told yet
 abbrev pub invariant-loop-steps : goal.invariant-loop-steps
 invariant-loop-steps g l =
-    IsHeld l.held × IsOpen l.held.counted × (l.held.counted.told.is_all ≡ l.is_all) × (l.explanation ≡ l.fn.explanation) × StepsOn g.I.InputStream.takes TakesOn l._steps l.fn.input l.input
+    IsHeld l.held × IsOpen l.held.counted × ((l.held.counted.told.is_all ≡ l.is_all) × (l.held.counted.told.form ≡ l.fn.form)) × (l.explanation ≡ l.fn.explanation) × StepsOn g.I.InputStream.takes TakesOn l._steps l.fn.input l.input
     × (before : List ℕ) × IsAt endings.Open before (tried_bytes l.held) l.held.counted
     × Consumes (g.I.InputStream.remaining l.fn.input) (g.I.InputStream.remaining l.input) (before ++ held_bytes l.held) × (length before + l.held.filled ≤ STEP_ROOM * l._steps)

@@ -12,4 +12,4 @@ returns g c =
     let sum : end + (held.filled - end) ≡ held.filled = omega arith in
     let same : take (held.filled - end) (drop end c.deref.result.now) ≡ drop end (held_bytes held) =
     ap (λ (b : List ℕ). take (held.filled - end) (drop end b)) c.deref.ensures.value ∙ sym (drop-take end (held.filled - end) held.bytes.items) ∙ ap (λ (n : ℕ). drop end (take n held.bytes.items)) sum in
-    said_of (λ text. text.items) (held_bytes held) _ c.args.is_broken held.counted c.in-Some.fault c.if-counted.false c.in-Some.is same c.explanation_of.result c.explanation_of.ensures
+    said_of (λ text. text.items) (held_bytes held) _ c.args.is_broken held.counted c.in-Some.fault c.if-counted.false c.in-Some.is same c.alone.result c.alone.ensures
