@@ -438,11 +438,18 @@ class NameServer:
         self.seen = []
         ip, _, zone = address.partition("%")
         interface = socket.if_nametoindex(zone) if zone else 0
-        self.datagrams = socket.socket(family_of(ip), socket.SOCK_DGRAM)
-        self.datagrams.bind((ip, port, 0, interface) if interface else (ip, port))
-        self.port = self.datagrams.getsockname()[1]
+        for tries_left in range(20 if port == 0 else 1, 0, -1):
+            self.datagrams = socket.socket(family_of(ip), socket.SOCK_DGRAM)
+            self.datagrams.bind((ip, port, 0, interface) if interface else (ip, port))
+            self.port = self.datagrams.getsockname()[1]
+            try:
+                self.listener = listener_at(ip, self.port, interface=interface)
+                break
+            except OSError:  # (a connection may have the port over TCP)
+                self.datagrams.close()
+                if tries_left == 1:
+                    raise
         self.at = f"[{ip}]:{self.port}" if ":" in ip else f"{ip}:{self.port}"
-        self.listener = listener_at(ip, self.port, interface=interface)
         accept_all(self.listener, self.serve_stream)
         in_thread(self.serve_datagrams)
 
