@@ -1,5 +1,5 @@
 -- Where a text leaves a form.
-use Rattle.std.proofs.Common.{ℕ, ◌≡◌, ◌+◌, ◌<◌, ◌≤◌, ◌∙◌, ◌&&◌, false, List, [], ◌∷◌, Option, Some, None, ap, drop, get_or, length, option_map, refl}
+use Rattle.std.proofs.Common.{ℕ, ◌≡◌, ◌+◌, ◌<◌, ◌≤◌, ◌∙◌, ◌&&◌, false, List, Option, Some, None, ap, drop, get_or, length, option_map, refl}
 use Rattle.std.specs.Borrow.{Bor}
 use Rattle.std.specs.Option.{unwrap_or}
 use Rattle.std.proofs.lemmas.List.{drop_all, drop_more}

@@ -1,4 +1,3 @@
-mod Alike
 mod Forms
 mod Grouped
 mod Tables

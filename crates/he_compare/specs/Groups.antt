@@ -66,22 +66,20 @@ label_of division key = label_by division.by division.names key
 abbrev pub members : Division → ℕ → List Kept → List Kept
 members division key kept = filter (λ race. key_of division race == key) kept
 
--- each group has a race, and its totals are those of its races
-abbrev pub AreCounted : Division → List Kept → List Group → Type 0
-AreCounted division kept [] = Unit {0}
-AreCounted division kept (group ∷ groups) =
-    (0 < length (members division group.key kept)) × AreTotals (members division group.key kept) group.totals
-    × AreCounted division kept groups
-
 -- one after the other, each once
 abbrev pub Ascend : List Group → Type 0
 Ascend [] = Unit {0}
 Ascend (group ∷ groups) = All (λ other. group.key < other.key) groups × Ascend groups
 
+-- there is such a race, and what is told of the group is counted of all of them
+abbrev pub IsCounted : Division → List Kept → Group → Type 0
+IsCounted division kept group =
+    (0 < length (members division group.key kept)) × AreTotals (members division group.key kept) group.totals
+
 -- these are the groups of these races: each race is in one of them
 pub record AreGroups (division : Division) (kept : List Kept) (groups : List Group) : Type 0 where
   pub ascend : Ascend groups
-  pub counted : AreCounted division kept groups
+  pub counted : All (IsCounted division kept) groups
   pub each : All (λ race. Contains (map (λ group. group.key) groups) (key_of division race)) kept
 
 -- what was lost to dead addresses

@@ -1,5 +1,5 @@
 -- The hour in the name of a record, as a proxy keeps it: `DIR/2026-11-26/16-34-40.123-example.org-443.timeline`.
-use Rattle.std.specs.Prelude.{ℕ, ◌==◌, ◌+◌, ◌-◌, ◌*◌, ◌/◌, ◌%◌, ◌&&◌, ◌++◌, if◌then◌else◌, Bool, true, false, List, [], ◌∷◌, codes, length, min, nat_le, nat_lt, Option, Some, None}
+use Rattle.std.specs.Prelude.{ℕ, ◌==◌, ◌+◌, ◌-◌, ◌*◌, ◌/◌, ◌%◌, ◌&&◌, if◌then◌else◌, Bool, true, false, List, [], ◌∷◌, codes, length, min, nat_le, nat_lt, Option, Some, None}
 use Rattle.std.specs.List.{slice_get, slice_split}
 use Rattle.std.specs.Option.{unwrap_or}
 

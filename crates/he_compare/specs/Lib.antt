@@ -1,4 +1,3 @@
-pub mod Cuts
 pub mod Groups
 pub mod Hours
 pub mod Lines

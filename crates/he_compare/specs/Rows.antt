@@ -3,7 +3,7 @@ use Rattle.std.specs.Prelude.{ℕ, zero, suc, ◌≡◌, ◌==◌, ◌+◌, ◌*
 use Rattle.std.specs.Option.{option_map_or}
 use Rattle.he_print.specs.declared.part.Fact.{Fact}
 use Rattle.he_print.specs.declared.part.Fact.TheVariants as facts
-use Rattle.he_summary.specs.Figures.{share}
+use Rattle.he_summary.specs.Figures.{share, total_of}
 use Rattle.he_summary.specs.Totals.{AreTotals}
 use Rattle.he_summary.specs.Tries.{saturated}
 use Rattle.he_summary.specs.declared.kept.Kept.{Kept}
@@ -60,4 +60,4 @@ object_facts row =
     (facts.Number row.totals.counts.races ∷ facts.Number row.totals.counts.won
     ∷ facts.Number row.totals.counts.by_v6 ∷ [])
     ++ (times_facts row.totals.times
-    ++ (facts.Number (option_map_or (λ a. a.total) row.totals.attempts 0) ∷ verdict_facts row.verdicts))
+    ++ (facts.Number (total_of row.totals.attempts) ∷ verdict_facts row.verdicts))

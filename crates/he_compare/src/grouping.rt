@@ -1,5 +1,5 @@
 //! By what races are put into groups, and what each group is called.
-ghost use Rattle.std.specs.Prelude.{◌≡◌, map, string_bytes, IfOk};
+ghost use Rattle.std.specs.Prelude.{◌≡◌, IfOk};
 ghost use Rattle.he_compare.specs.Groups.{division_of, family_key, family_text, hour_key, key_of, label_of};
 
 use crate::hours::{hour_of, push_hour};

@@ -1,8 +1,8 @@
 //! The groups of races.
-ghost use Rattle.std.specs.Prelude.{◌≡◌, ◌≤◌, length, IfOk, IsPermutation};
-ghost use Rattle.std.specs.List.Sorted.{IsNonDecreasingBy};
+ghost use Rattle.std.specs.Prelude.{◌<◌, ◌≤◌, length, IfOk, IsPermutation, OnOk};
+ghost use Rattle.std.specs.List.Sorted.{IsNonDecreasingBy, IsPartitionPoint, IsStableByKey};
+ghost use Rattle.std.specs.Ordering.{nat_cmp};
 ghost use Rattle.he_compare.specs.Groups.{AreGroups, division_of, key_of};
-ghost use Rattle.he_compare.specs.Cuts.{AreCut, run_length};
 
 use crate::grouping::{Grouping, key_of};
 use he_addr::Memory;
@@ -25,15 +25,17 @@ pub(crate) fn groups_of<A: Allocator + Copy>(
     ensures { IfOk result (λ groups. AreGroups (division_of grouping.entry) kept.now groups.items) }
 {
     let mut sorted = Vec::from_slice(alloc, kept)?;
-    sort_by_key(grouping, &mut sorted);
+    sort_by_key(grouping, &mut sorted)?;
     cut(alloc, grouping, sorted.as_slice())
 }
 
-fn sort_by_key<A: Allocator>(grouping: Grouping<'_>, kept: &mut Vec<Kept, A>)
+fn sort_by_key<A: Allocator>(grouping: Grouping<'_>, kept: &mut Vec<Kept, A>) -> Result<(), Memory>
     ensures permutation { IsPermutation kept.old.items kept.new.items }
-    ensures sorted { IsNonDecreasingBy (key_of (division_of grouping.entry)) kept.new.items }
+    ensures stable { IsStableByKey (key_of (division_of grouping.entry)) nat_cmp kept.old.items kept.new.items }
+    ensures sorted { OnOk result (IsNonDecreasingBy (key_of (division_of grouping.entry)) kept.new.items) }
 {
-    kept.sort_unstable_by_key(|race| key_of(grouping, race));
+    kept.sort_by_key(|race| key_of(grouping, race))?;
+    Ok(())
 }
 
 // Cuts races that stand in the order of their groups into these.
@@ -43,13 +45,13 @@ fn cut<A: Allocator + Copy>(
     sorted: &[Kept],
 ) -> Result<Vec<Group, A>, Memory>
     requires { IsNonDecreasingBy (key_of (division_of grouping)) sorted.now }
-    ensures { IfOk result (λ groups. AreCut (division_of grouping.entry) sorted.now groups.items) }
+    ensures { IfOk result (λ groups. AreGroups (division_of grouping.entry) sorted.now groups.items) }
 {
     let mut groups = Vec::new(alloc);
     let mut rest = sorted;
     while let Some(first) = rest.first() {
         let key = key_of(grouping, first);
-        let (own, later) = rest.split_at(run_length(grouping, key, rest));
+        let (own, later) = rest.split_at(end_of(grouping, key, rest));
         groups.push(Group {
             key,
             totals: Totals::of(alloc, own)?,
@@ -59,14 +61,12 @@ fn cut<A: Allocator + Copy>(
     Ok(groups)
 }
 
-// How many of the first of these races are of this group.
-fn run_length(grouping: Grouping<'_>, key: u64, races: &[Kept]) -> usize
-    ensures is { result ≡ run_length (division_of grouping.entry) key races.now }
-    ensures most { result ≤ length races.now }
+// Where the races of this group end, and those of later ones begin.
+fn end_of(grouping: Grouping<'_>, key: u64, sorted: &[Kept]) -> usize
+    requires { IsNonDecreasingBy (key_of (division_of grouping)) sorted.now }
+    ensures most { result ≤ length sorted.now }
+    ensures point { IsPartitionPoint (λ race. key_of (division_of grouping.entry) race ≤ key)
+        (λ race. key < key_of (division_of grouping.entry) race) sorted.now result }
 {
-    let mut count = 0;
-    while count < races.len() && key_of(grouping, &races[count]) == key {
-        count += 1;
-    }
-    count
+    sorted.partition_point(|race| key_of(grouping, race) <= key)
 }

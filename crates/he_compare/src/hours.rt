@@ -95,10 +95,7 @@ fn digit_at(text: &[u8], place: usize) -> u64
     ensures is { result ≡ digit_at text.now place }
     ensures most { result ≤ 9 }
 {
-    let byte = match text.get(place) {
-        Some(byte) => *byte,
-        None => b'0',
-    };
+    let byte = text.get(place).copied().unwrap_or(b'0');
     u64::from(byte.saturating_sub(b'0')).min(9)
 }
 

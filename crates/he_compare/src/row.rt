@@ -1,15 +1,15 @@
 //! A row of the table of a comparison.
 ghost use Rattle.std.specs.Prelude.{◌≡◌, ◌==◌, ◌++◌, ◌∷◌, ◌<◌, filter, IfOk, OnOk};
 ghost use Rattle.std.specs.List.{flat_map};
-ghost use Rattle.std.specs.Option.{option_map_or};
 ghost use Rattle.he_print.specs.Parts.{fact_of};
 ghost use Rattle.he_print.specs.declared.part.Fact.TheVariants as facts;
+ghost use Rattle.he_summary.specs.Figures.{total_of};
 ghost use Rattle.he_compare.specs.Rows.{IsRow, mean, mean_facts, object_facts, row_facts, share_cell, times_facts, verdict_facts};
 
 use crate::verdict::{Verdicts, counts_of, verdicts_on};
 use he_addr::Memory;
 use he_print::{Part, push_parts};
-use he_summary::figures::share;
+use he_summary::figures::{share, total_of};
 use he_summary::{Kept, Spread, Totals};
 use std::alloc::{AllocError, Allocator};
 
@@ -188,7 +188,7 @@ fn push_attempt_members<A: Allocator>(
     text: &mut Vec<Part<Said>, A>,
 ) -> Result<(), Memory>
     ensures { OnOk result (flat_map fact_of text.new.items ≡ flat_map fact_of text.old.items
-        ++ facts.Number (option_map_or (λ a. a.total) attempts 0) ∷ verdict_facts verdicts) }
+        ++ facts.Number (total_of attempts) ∷ verdict_facts verdicts) }
 {
     push_parts(
         &[
@@ -207,12 +207,6 @@ fn push_attempt_members<A: Allocator>(
         ],
         text,
     )
-}
-
-fn total_of(attempts: Option<Spread>) -> u64
-    ensures { result ≡ option_map_or (λ a. a.total) attempts 0 }
-{
-    attempts.map_or(0, |attempts| attempts.total)
 }
 
 fn push_time_members<A: Allocator>(

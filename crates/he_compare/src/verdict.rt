@@ -102,13 +102,5 @@ fn count(verdicts: &[Verdict], verdict: Verdict) -> u64
 fn is_like(verdict: Verdict, other: Verdict) -> bool
     ensures { result ≡ is_like verdict other }
 {
-    match (verdict, other) {
-        (Verdict::Sooner, Verdict::Sooner) => true,
-        (Verdict::Later, Verdict::Later) => true,
-        (Verdict::Same, Verdict::Same) => true,
-        (Verdict::OnlyWith, Verdict::OnlyWith) => true,
-        (Verdict::OnlyWithout, Verdict::OnlyWithout) => true,
-        (Verdict::Neither, Verdict::Neither) => true,
-        _ => false,
-    }
+    verdict == other
 }
