@@ -1,12 +1,12 @@
 // The events of a race, by kind.
 
-ghost use Rattle.std.specs.Prelude.{◌≡◌, ◌++◌, ◌∷◌, [], None, Some, count_by, IfOk, OnOk};
+ghost use Rattle.std.specs.Prelude.{◌≡◌, ◌++◌, ◌∷◌, [], None, Some, All, count_by, IfOk, OnOk};
 ghost use Rattle.std.specs.List.{flat_map};
-ghost use Rattle.he_addr.specs.Ip.{is_usable};
+ghost use Rattle.he_addr.specs.Ip.{InRange, is_usable};
 ghost use Rattle.he_addr.specs.declared.ip.Family.TheVariants as families;
 ghost use Rattle.he_plan.specs.Attempts.{order_at};
 ghost use Rattle.he_plan.specs.Planning.{interlaced_list};
-ghost use Rattle.he_timeline.specs.Race.{reply_of};
+ghost use Rattle.he_timeline.specs.Race.{addresses_of, reply_of};
 ghost use Rattle.he_course.specs.Addresses.{all_attributes_of};
 ghost use Rattle.he_course.specs.Events.{answer_events, attempt_of, cancelled_by, end_event, event_at, events_of, failed_by, met_events, over_events, pause_events, start_event, start_events, told_events, wait_events};
 ghost use Rattle.he_course.specs.Listing.{listed_at};
@@ -266,12 +266,13 @@ fn push_starts<A: Allocator + Copy, B: Allocator>(
     requires { sorted.now ≡ all_attributes_of timeline.now }
     ensures { OnOk result (events.new.items ≡ events.old.items ++ start_events timeline.now None (Some 0) lines.now) }
 {
+    are_addresses_in_range(timeline);
     let mut list = Interlaced::new(alloc);
     let (mut last, mut failed, mut place) = (None, Some(0), 0);
     for line in lines {
         let next = attempt(line);
         bring_to(alloc, timeline, sorted, next.tick, &mut list)?;
-        // Mostly the address behind the last one is tried.
+        // Mostly the address after the last one is tried.
         let listed = listed_at(timeline, &list, place, next);
         let start = start_of(timeline, listed, last, failed, next);
         push(events, next.tick, start)?;
@@ -289,11 +290,12 @@ fn listed_at<A: Allocator, B: Allocator>(
     first: usize,
     next: Attempt,
 ) -> Listed
+    requires six { All InRange (addresses_of timeline.now.aaaa) }
+    requires four { All InRange (addresses_of timeline.now.a) }
     requires list { list.now.ips.items ≡ interlaced_list timeline.now list.now.v6 list.now.v4 }
     requires received { list.now.ips.items ≡ order_at timeline.now next.tick }
     ensures { result ≡ listed_at timeline.now next.tick next.ip }
 {
-    are_addresses_in_range(timeline);
     listed_in(&list.ips, first, timeline.settings().count(), next.ip)
 }
 
