@@ -1,6 +1,6 @@
 -- What a source that hears another one owes of that one.
 use Rattle.std.proofs.Common.{◌≡◌, ◌⊎◌, ℕ, List, [], ◌∷◌, inl, inr, refl}
-use Rattle.std.specs.Prelude.{Option, None, Some, is_some}
+use Rattle.std.specs.Prelude.{Option, None, Some}
 use Rattle.he_addr.specs.declared.ip.Family.{Family}
 use Rattle.he_connect.specs.declared.source.HostAnswers.{HostAnswers}
 use Rattle.he_live.specs.declared.steps.Quiet.{Quiet}

@@ -16,7 +16,6 @@ use Rattle.he_timeline.specs.Race.{Race}
 use Rattle.he_connect.specs.Races.{IsSetUp}
 use Rattle.he_connect.specs.declared.request.ConnectRequest.{ConnectRequest}
 use Rattle.he_connect.specs.declared.setup.Setup.{Setup}
-use Rattle.he_addr.specs.declared.ip.Ip.{Ip}
 use Rattle.he_addr.specs.Text.{ip_of}
 use Rattle.he_live.specs.declared.endpoint.Endpoint.{Endpoint}
 use Rattle.he_race.specs.Resolving.{ReplaysGiven}

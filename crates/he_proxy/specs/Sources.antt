@@ -1,7 +1,6 @@
 -- What a race of the proxy is told of its host, and what its source waits for.
 use Rattle.std.specs.Prelude.{ℕ, ◌≡◌, ⊤, Bool, Option, Some, None, Ok, is_some}
 use Rattle.std.specs.Global.{Vec}
-use Rattle.he_addr.specs.declared.ip.Family.{Family}
 use Rattle.he_addr.specs.declared.ip.Ip.{Ip}
 use Rattle.he_connect.specs.Answers.{IsToldOf}
 use Rattle.he_connect.specs.declared.source.HostAnswers.{HostAnswers}

@@ -24,7 +24,7 @@ pub enum ProxyFault {
     #[error("cannot keep there what is known of addresses: {0}")]
     History(ErrorKind),
     /// That file is one of something else.
-    #[error("is left as it is: no line of it is ADDRESS SOURCE MILLISECONDS SECOND, so it is no history of this proxy")]
+    #[error("is left as it is: no line is ADDRESS SOURCE MILLISECONDS SECOND, so it is no history")]
     NotHistory,
     /// The lines of the races can't be read.
     #[error("{0}")]

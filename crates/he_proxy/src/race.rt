@@ -46,7 +46,10 @@ where
 
     fn poll(&mut self, cx: &mut Context<'_>) -> Poll<Result<Won, Ended>> {
         match self.race.poll(cx) {
-            Poll::Pending => Poll::Pending,
+            Poll::Pending => {
+                self.keeping.shared.make_places(cx);
+                Poll::Pending
+            }
             Poll::Ready(Ok(raced)) => Poll::Ready(self.keeping.end(raced)),
             Poll::Ready(Err(_)) => Poll::Ready(Err(Ended::Failed)),
         }

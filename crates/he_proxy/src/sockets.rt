@@ -1,5 +1,6 @@
 //! The race of a session over the sockets of the event loop.
 ghost use Rattle.std.specs.Prelude.{◌≡◌, IfOk, Ok};
+ghost use Rattle.futures.specs.Task.{Keeps};
 ghost use Rattle.he_connect.specs.Races.{only_of};
 ghost use Rattle.he_resolver.specs.Heard.{IsSound};
 ghost use Rattle.he_proxy.specs.Kept.{BeginsBy};
@@ -10,6 +11,7 @@ use crate::answers::KeptAnswers;
 use crate::dial::LoopConnector;
 use crate::source::{Earlier, RaceSource};
 use futures::Future;
+use futures::task::Context;
 use he_connect::{ConnectFault, ConnectRequest, HostAnswers, LookupFaults, Setup};
 use he_live::{LiveTicker, Quiet, Steps};
 use he_race::ResolvingRace;
@@ -18,7 +20,7 @@ use std::alloc::{AllocError, AllocGlobal, Global};
 use std::net::Net;
 use std::random::RandomSource;
 use std::rt::Files;
-use std::time::{Clock, Instant};
+use std::time::{Clock, Duration, Instant};
 use tokio::runtime::Handle;
 
 /// The race over the sockets of the event loop.
@@ -35,6 +37,24 @@ pub struct SharedLoop<'h, R> {
     pub alloc: Global,
     pub handle: &'h Handle,
 }
+
+impl<R: Clock> SharedLoop<'_, R> {
+    /// Makes places in the event loop for all sockets so far. Of a socket without one the loop forgets what it hears
+    /// before the socket's first poll, at the next tick: where a server greets and closes by then, its end would not
+    /// be seen.
+    pub fn make_places(&self, cx: &mut Context<'_>)
+        ensures { Keeps cx.old cx.new }
+    {
+        // Places are made in the order of the sockets and timers, and where one is polled first.
+        let never = Duration::from_secs(NEVER);
+        if let Ok(mut last) = self.handle.time().sleep(self.rt, never) {
+            let _ = last.poll_elapsed(cx);
+        }
+    }
+}
+
+// Seconds, which no race takes.
+const NEVER: u64 = 86_400;
 
 /// What is noted of a race while it runs.
 #[derive(Drop)]

@@ -1,4 +1,3 @@
-use Rattle.std.proofs.Common.{◌≡◌}
 use Rattle.he_proxy.proofs.source.RaceSource.poll_own.Goals as goal
 
 pub returns-in-Ready-clause-other : goal.returns-in-Ready-clause-other

@@ -1,8 +1,5 @@
-use Rattle.std.proofs.Common.{◌≡◌, ◌⊎◌, inl, subst, sym}
-use Rattle.std.specs.Prelude.{⊤}
-use Rattle.futures.specs.Task.{Covers}
+use Rattle.std.proofs.Common.{inl, subst, sym}
 use Rattle.he_proxy.specs.Sources.{Asks}
-use Rattle.he_proxy.specs.declared.source.Turn.{Turn}
 use Rattle.he_proxy.proofs.Hearing.{by_poll, covers_asking, covers_own, either, pending_so, silent_by}
 use Rattle.he_proxy.proofs.source.RaceSourceAnswerSource.poll_answer.Goals as goal
 
