@@ -104,47 +104,25 @@ $(LIBRARY):
 	$(MAKE) build-library
 
 library: build-library program
-	scripts/c-library $(HE)
+	scripts/examples $(HE) library
 
-examples: program
-	scripts/examples $(HE)
+examples documents page manual captures: program
+	scripts/examples $(HE) $@
 
-documents: program
-	scripts/documents $(HE)
+hosts live names: program
+	scripts/network $(HE) $@
 
-hostile: program
-	scripts/hostile $(HE)
-
-hosts: program
-	scripts/hosts $(HE)
-
-captures: program
-	scripts/captures $(HE)
-
-live: program
-	scripts/live $(HE)
-
-names: program
-	scripts/names $(HE)
-
-connect: program
-	scripts/connect $(HE) --full
-
-proxy: program
-	scripts/proxy $(HE) --full
+connect proxy: program
+	scripts/network $(HE) --full $@
 
 fuzz: program
-	scripts/fuzz $(HE) --large --seed $(SEED)
-	scripts/fuzz $(HE) --seconds $(SECONDS) --seed $(SEED)
+	scripts/examples $(HE) --full --seconds $(SECONDS) --seed $(SEED) fuzz
 
-manual: program
-	scripts/manual $(HE)
-
-page: program
-	scripts/page $(HE)
+hostile: program
+	scripts/hostile $(HE) hostile
 
 refused: program $(CASES)
-	scripts/refused $(HE) $(CASES)
+	scripts/hostile $(HE) --cases $(CASES) refused
 
 crates/cases/out/cases: | kit
 	cd crates/cases && rt run

@@ -6,9 +6,9 @@
  * of a race.
  *
  * WHAT IS PROVED of a function is stated at the function, by definitions beside the library's source. It holds if the
- * caller keeps to this: each pointer points to as much memory as the length beside it says; the room that is written
- * to, the struct that is filled in and the text that is read do not overlap; and nothing else writes to them during
- * the call. A text or a room of length 0 may be a null pointer: that is tested, not proved.
+ * caller keeps to this: each pointer points to as much memory as its length says; the room that is written to, the
+ * struct that is filled in and the text that is read do not overlap; and nothing else writes to them during the call.
+ * A text or a room of length 0 may be a null pointer: that is tested, not proved.
  *
  * TEXTS OF RACES. A text holds races, one after another. A race is a line `race 1` or `race 2`, then lines of the
  * kinds below, in this order, then a line `end`; each line ends with one line feed.
@@ -25,7 +25,7 @@
  *     a 25 198.51.100.1               the IPv4 answer
  *     rtt 2001:db8:1::1 35            (race 2) the round trip time of an address, known from before
  *     used 2001:db8:1::1              (race 2) an address that was used before
- *     connect 2001:db8:1::1 ok 35     connected so many ticks after the start; `fail 35`: it failed then
+ *     connect 2001:db8:1::1 ok 35     connected this many ticks after the start; `fail 35`: it failed then
  *     pause 100 200                   the client slept from tick 100 to tick 199
  *
  * A HOST NEEDS source and route lines: an address that no source reaches is tried last, and without any such lines
@@ -55,7 +55,7 @@ enum he_answer {
     HE_NO_ROOM = 2,
     /* malloc refused. Nothing was written, and all members of the struct are 0. */
     HE_NO_MEMORY = 3,
-    /* he_next alone: the record has more than one race. */
+    /* Only he_next: the record has more than one race. */
     HE_NOT_ONE = 4
 };
 
@@ -80,7 +80,7 @@ enum he_kind {
 
 /* What a call reports, besides its answer. */
 struct he_told {
-    uint64_t length; /* how many bytes the whole text has that was to be written */
+    uint64_t length; /* the number of bytes of the whole text to be written */
     uint64_t line;   /* the line of the fault, counted from 1; 0 if there is none */
     uint32_t kind;   /* an he_kind */
 };
@@ -143,7 +143,7 @@ struct he_step {
  * ended record. Along with an answer may come lines `rtt` and `used` of its addresses, in their order, and lines
  * `source` and `route` of its family, after those already there.
  *
- * Returns HE_DONE; HE_FAULT, if the ended record has a fault, or cannot have the pause that it must have; HE_NOT_ONE;
+ * Returns HE_DONE; HE_FAULT, if the ended record has a fault, or cannot have the pause that it needs; HE_NOT_ONE;
  * or HE_NO_MEMORY. `told` has a fault's line and kind, and a length of 0.
  *
  * Each call reads the whole record, so its cost grows with the record: about 10 microseconds for 10 addresses, and

@@ -2,7 +2,7 @@
 
 It says what `he replay` and `he order` write for a text: the output, and the line of a fault; what other commands write
 stands in the files plain_*.py beside it, of which plain_wanted.py is their command line. It is as slow and plain as it
-can be, and shares nothing with the program: who compares both (scripts/fuzz) finds where they differ.
+can be, and shares nothing with the program: who compares both (scripts/parts/fuzz.py) finds where they differ.
 
 needs: python3, its standard library alone
 """

@@ -7,7 +7,7 @@ from collections import Counter
 
 import plain
 from plain import one_line
-from plain_summary import percentiles, rounded
+from plain_summary import mean_cell, percentiles, share_cell
 
 VERDICTS = ("sooner", "later", "same", "only_with", "only_without")
 # What the lines and the objects of races say.
@@ -54,10 +54,8 @@ def row_of(races, changes, label):
 
 def as_text(row):
     times = row["connect_ms"] or dict.fromkeys(("median", "p90", "p99"), "-")
-    mean = rounded(row["attempts"], row["races"], 100) if row["races"] else 0
-    share = rounded(row["ipv6"], row["won"], 1000) if row["won"] else None
-    cells = "".join(f"{time:>7}" for time in times.values()) + f"{mean // 100:>7}.{mean % 100:02}"
-    cells += "       -" if share is None else f"{share // 10:>4}.{share % 10} %"
+    cells = "".join(f"{time:>7}" for time in times.values()) + mean_cell(row["attempts"], row["races"])
+    cells += share_cell(row["ipv6"], row["won"])
     cells += "".join(f"{row[verdict]:>{width}}" for width, verdict in zip((8, 8, 8, 11, 14), VERDICTS))
     return f"{cells}  {row['settings']}\n"
 

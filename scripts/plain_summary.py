@@ -1,8 +1,9 @@
-"""A plain reading of what `he summary` writes, apart from the program, as plain.py is of the rules: by
-docs/DEFINITIONS.md and crates/he_summary/specs.
+"""A plain reading of what `he summary` writes, also by groups, apart from the program, as plain.py is of the rules: by
+docs/DEFINITIONS.md and the specs of he_summary and he_compare.
 
 needs: python3, its standard library alone
 """
+import re
 from collections import Counter, namedtuple
 
 import plain
@@ -11,6 +12,11 @@ from plain import counted, one_line, print_address
 # How many of the addresses are told to which attempts failed or were silent.
 MOST_TOLD = 10
 PERCENTS = {"median": 50, "p90": 90, "p99": 99, "greatest": 100}
+GROUPINGS = ("file", "hour", "family")
+# The name of a record, as `he proxy --record` gives it, with its day and its hour.
+RECORD = re.compile(r"(?:.*/)?(\d{4}-\d\d-\d\d)/(\d\d)-\d\d-\d\d\.\d{3}-[^/]*", re.ASCII | re.DOTALL)
+FAMILIES = {6: "IPv6", 4: "IPv4", None: "none"}
+HEADING = "  races     won    p50    p90    p99  attempts    IPv6   lost ms  {}\n"
 
 Summary = namedtuple("Summary", "races won kinds times lost attempts most waited failed silent tried slowest")
 
@@ -157,3 +163,74 @@ def written(races, changes, slowest=0):
 
 def written_json(races, changes, slowest=0):
     return one_line(as_object(summed(races, changes), slowest)).encode()
+
+
+# Groups
+
+
+def hour_of(name):
+    found = RECORD.fullmatch(name)
+    return f"{found[1]} {found[2]}" if found else "other"
+
+
+def family_of(race):
+    winner = race.report.winner
+    return FAMILIES[winner and winner.address.family]
+
+
+def groups_of(by, files, changes):
+    """The races of each group with its label, in order: `files` has the name and the races of each."""
+    if by == "file":
+        groups = [(name, races) for name, races in files]
+    elif by == "hour":
+        hours = {}
+        for name, races in files:
+            hours.setdefault(hour_of(name), []).extend(races)
+        groups = sorted(hours.items(), key=lambda one: (one[0] == "other", one[0]))
+    else:
+        changed = [race.changed(changes) for _, races in files for race in races]
+        groups = [(label, [race for race in changed if family_of(race) == label]) for label in FAMILIES.values()]
+    return [(label, races) for label, races in groups if races]
+
+
+def share_cell(number, of):
+    if not of:
+        return "       -"
+    tenths = rounded(number, of, 1000)
+    return f"{tenths // 10:>4}.{tenths % 10} %"
+
+
+def mean_cell(number, of):
+    mean = rounded(number, of, 100) if of else 0
+    return f"{mean // 100:>7}.{mean % 100:02}"
+
+
+def group_row(summary, label):
+    times = percentiles(summary.times)
+    cells = f"{summary.races:>7}{share_cell(summary.kinds['won'], summary.races)}"
+    cells += "".join(f"{times[name] if times else '-':>7}" for name in ("median", "p90", "p99"))
+    cells += mean_cell(summary.attempts, summary.races) + share_cell(summary.won[6], len(summary.times))
+    return f"{cells}{sum(map(sum, summary.lost.values())):>10}  {label}\n"
+
+
+def group_object(summary, label):
+    told = as_object(summary, 0)
+    del told["failing"]
+    return one_line({**told, "group": label})
+
+
+def written_by(by, files, changes, is_json=False):
+    """What is written of these files; of standard input that is one of the name `-`."""
+    groups = [(label, summed(races, changes)) for label, races in groups_of(by, files, changes)]
+    make = group_object if is_json else group_row
+    return ("" if is_json else HEADING.format(by)).encode() + "".join(
+        make(summary, label) for label, summary in groups).encode()
+
+
+def writer_by(by, is_json):
+    return lambda races, changes: written_by(by, [("-", races)], changes, is_json)
+
+
+# What is written of standard input, by the words of the command.
+WRITTEN_BY = {f"summary --by {by}{option}": writer_by(by, bool(option)) for by in GROUPINGS
+              for option in ("", " --json")}

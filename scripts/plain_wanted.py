@@ -12,7 +12,6 @@ import sys
 import plain
 import plain_compared
 import plain_drawn
-import plain_groups
 import plain_json
 import plain_story
 import plain_summary
@@ -22,10 +21,10 @@ WRITTEN = {
     "order": plain.ordered, "replay": plain.replayed, "order --json": plain_json.ordered,
     "replay --json": plain_json.replayed, "explain": plain_story.written, "compare": plain_compared.written,
     "draw": plain_drawn.written, "draw --ascii": plain_drawn.written_ascii, "summary": plain_summary.written,
-    "summary --json": plain_summary.written_json, "explain --json": plain_json.explained, **plain_groups.WRITTEN,
+    "summary --json": plain_summary.written_json, "explain --json": plain_json.explained, **plain_summary.WRITTEN_BY,
 }
 # The words that tell what is written, of a command that has settings too.
-WORDS = ("--json", "--ascii", "--by", *plain_groups.GROUPINGS)
+WORDS = ("--json", "--ascii", "--by", *plain_summary.GROUPINGS)
 
 
 class Wanted:
@@ -62,7 +61,7 @@ def main(words):
     settings = [word for word in words if "=" in word]
     if files:
         by = words[words.index("--by") + 1]
-        output = plain_groups.written_of(by, texts, plain.changes_of(settings), "--json" in words)
+        output = plain_summary.written_by(by, texts, plain.changes_of(settings), "--json" in words)
     elif words[0] == "compare":
         rows = plain_compared.rows_of(settings)
         output = plain_compared.written_for(wanted.races, rows, "--json" in words, "--races" in words)

@@ -1,16 +1,21 @@
-"""What the scripts share that try a built program: how they begin, what they count, runs and namespaces of their own,
-addresses that answer, refuse or are silent, servers, and a name server.
+"""What the harnesses share: how they run their parts and what they count, runs and namespaces of their own, addresses
+that answer, refuse or are silent, servers, and a name server.
 
 needs: Linux, python3, its standard library alone
 """
+import argparse
+import collections
 import contextlib
 import functools
 import hashlib
 import http.server
+import importlib
 import os
 import pathlib
+import random
 import re
 import resource
+import shlex
 import shutil
 import socket
 import struct
@@ -22,37 +27,35 @@ import time
 
 ROOT = pathlib.Path(__file__).resolve().parent.parent
 DATA = ROOT / "crates/cases/data"
-INSIDE = "--inside"  # a script runs itself so, in a namespace
+OPTIONS = argparse.Namespace()  # the command line of a harness, read before a part is loaded; a part's own folder
+KEPT = pathlib.Path("fuzz-found")  # where a text is kept that was drawn, and is read wrong
 TIMEOUT = 60  # seconds, of a run that never ends
 ALONE = 0.1  # seconds in which this machine answers itself
 os.environ["PATH"] += ":/usr/sbin:/sbin"  # where dnsmasq, sshd and ip may be
+# The parts of each harness, scripts/parts/NAME.py, in their order.
+PARTS = {
+    "examples": "examples page documents documents_parallel manual installed architecture captures library fuzz",
+    "network": "hosts hosts_bytes live names names_files connect connect_relay proxy proxy_load proxy_names "
+               "proxy_programs",
+    "hostile": "hostile refused",
+}
 
-# How a script begins and ends
-
-
-def program(doc, count=1):
-    """The built program that the first of so many words names; other command lines end with the script's text."""
-    words = [word for word in sys.argv[1:] if not word.startswith("-")]
-    if len(words) < count or {"-h", "--help"} & set(sys.argv):
-        print(doc.strip())
-        sys.exit(0 if {"-h", "--help"} & set(sys.argv) else 2)
-    return os.path.abspath(words[0])
+# A harness, its parts and their checks
 
 
-class Counts:
-    """How many checks passed and failed. What failed is told."""
+COUNTS = collections.Counter()  # how many checks passed (True) and failed (False)
 
-    def __init__(self):
-        self.passed = self.failed = 0
 
-    def check(self, is_right, *told):
-        self.passed, self.failed = self.passed + bool(is_right), self.failed + (not is_right)
-        if not is_right:
-            print(*told, flush=True)
+def tell(is_right, *told):
+    """Counts a check, and tells what is wrong."""
+    COUNTS[bool(is_right)] += 1
+    if not is_right:
+        print(*told)
 
-    def end(self):
-        print(f"{self.passed} passed, {self.failed} failed")
-        sys.exit(self.failed > 0)
+
+def end():
+    print(f"{COUNTS[True]} passed, {COUNTS[False]} failed")
+    sys.exit(COUNTS[False] > 0)
 
 
 def must(is_right, *told):
@@ -61,27 +64,11 @@ def must(is_right, *told):
         raise ValueError(" ".join(map(str, told)))
 
 
-def said_of(check):
-    """What is wrong, or None."""
-    try:
-        return check()
-    except (ValueError, subprocess.TimeoutExpired) as error:
-        return str(error)
-
-
-def run_check(check, is_timed):
-    """Runs a check, once more where it went wrong and looks at times, and tells how it went: whether well, or None
-    where it could not be tried."""
-    try:
-        wrong = said_of(check)
-        if wrong is not None and is_timed:
-            print(f"{check.__name__}: {wrong}: tried again: machine busy", flush=True)
-            wrong = said_of(check)
-    except (FileNotFoundError, PermissionError) as error:
-        print(f"{check.__name__}: not tried ({error})", flush=True)
-        return None
-    print(f"{check.__name__}: {'passed' if wrong is None else 'FAILED: ' + wrong}", flush=True)
-    return wrong is None
+def needs(*programs):
+    """Ends a check, which then isn't tried, where one of the programs is missing."""
+    missing = [name for name in programs if shutil.which(name) is None]
+    if missing:
+        raise FileNotFoundError(f"{', '.join(missing)} isn't installed")
 
 
 def timed(check):
@@ -90,24 +77,92 @@ def timed(check):
     return check
 
 
-def run_checks(script):
-    """Runs each function of a script (its globals) that is named check_*, in their order, or those that the command
-    line names (`log` is check_log), and ends as below."""
-    checks = {name: one for name, one in script.items() if name.startswith("check_")}
-    chosen = [f"check_{word}" for word in sys.argv if f"check_{word}" in checks] or checks
-    end_checks([run_check(checks[name], hasattr(checks[name], "is_timed")) for name in chosen])
+def run_check(name, check, is_last=False):
+    """Runs a check, once more where it went wrong and looks at times. It counts as one, but where it counts itself."""
+    counted = COUNTS.total()
+    try:
+        check()
+        if COUNTS.total() == counted:
+            tell(True)
+    except (FileNotFoundError, PermissionError) as error:
+        print(f"{name}: not tried ({error})")
+    except (ValueError, OSError, subprocess.TimeoutExpired) as error:
+        if is_last or not hasattr(check, "is_timed"):
+            return tell(False, f"{name}: FAILED: {error}")
+        print(f"{name}: {error}: tried again: machine busy")
+        run_check(name, check, is_last=True)
 
 
-def end_checks(ends):
-    """The last line, and the status."""
-    print(f"{ends.count(True)} passed, {ends.count(False)} failed, {ends.count(None)} not tried")
-    sys.exit(False in ends)
+def program(name):
+    """The path of a program that the command line names."""
+    if not os.access(name, os.X_OK):
+        raise argparse.ArgumentTypeError(f"no program {name}")
+    return os.path.abspath(name)
 
 
-def needs(*programs):
-    missing = [name for name in programs if shutil.which(name) is None]
-    if missing:
-        raise FileNotFoundError(f"{', '.join(missing)} isn't installed")
+def read_options(doc):
+    parser = argparse.ArgumentParser(description=doc, formatter_class=argparse.RawDescriptionHelpFormatter)
+    parser.add_argument("program", type=program, help="the built program")
+    parser.add_argument("part", nargs="*", help="how the names PART.CHECK begin of the checks that are run: else all")
+    parser.add_argument("--full", action="store_true", help="with what takes minutes")
+    parser.add_argument("--seconds", type=float, help="how long a check goes on that draws what it tries")
+    parser.add_argument("--seed", type=int, default=1, help="of what is drawn")
+    parser.add_argument("--cases", type=program, metavar="PROGRAM", help="the program of the crate cases")
+    parser.add_argument("--before", default="0 passed, 0 failed", metavar="COUNTS", help="which the last line adds")
+    parser.add_argument("--run", help=argparse.SUPPRESS)  # the part that this process runs
+    parser.add_argument("--inside", action="store_true", help=argparse.SUPPRESS)  # in namespaces of its own
+    parser.parse_intermixed_args(namespace=OPTIONS)
+
+
+def checks_of(name, part):
+    """The functions check_* of a part, by PART.CHECK, of those that the command line names."""
+    checks = {f"{name}.{word[6:]}": check for word, check in vars(part).items() if word.startswith("check_")}
+    return {word: check for word, check in checks.items() if word.startswith(tuple(OPTIONS.part or [""]))}
+
+
+def run_part(name, part):
+    """Runs a part in a process of its own, and tells how many checks passed and failed. Where it has a SETUP, lines of
+    sh, that is in network and mount namespaces which they set up; where these can't be made, it is tried without them
+    if it has ANYWHERE."""
+    words, counts = [sys.executable, "-u", *sys.argv, "--run", name], None
+    if hasattr(part, "SETUP"):
+        inside = ["unshare", "-n", "-m", "sh", "-ec", f'{part.SETUP}\nexec "$0" "$@"']
+        if shutil.which("unshare") and run(*inside, "true").returncode == 0:
+            words = [*inside, *words, "--inside"]
+        elif not hasattr(part, "ANYWHERE"):
+            print(f"{name}: not tried (no network of its own can be made)")
+            return 0, 0
+    with subprocess.Popen(words, stdout=subprocess.PIPE, text=True) as running:
+        for line in running.stdout:
+            counts = re.fullmatch(r"(\d+) passed, (\d+) failed\n", line)
+            print("" if counts else line, end="", flush=True)
+    if not counts:
+        print(f"{name}: breaks off, status {running.returncode}")
+    return map(int, counts.groups() if counts else (0, 1))
+
+
+def run_harness(doc, *harnesses):
+    """Runs the parts of harnesses, or what the command line names of them, and tells of each its time and its counts.
+    The last line counts all."""
+    read_options(doc)
+    parts = {name: importlib.import_module(f"parts.{name}") for each in harnesses for name in PARTS[each].split()}
+    checks = {name: checks_of(name, part) for name, part in parts.items()}
+    for word in OPTIONS.part:
+        if not any(check.startswith(word) for each in checks.values() for check in each):
+            sys.exit(f"no check begins with {word}: the parts are {', '.join(parts)}")
+    if OPTIONS.run:
+        with tempfile.TemporaryDirectory() as folder:
+            OPTIONS.folder = pathlib.Path(folder)
+            for each in checks[OPTIONS.run].items():
+                run_check(*each)
+        end()
+    COUNTS.update(dict(zip((True, False), map(int, re.findall(r"\d+", OPTIONS.before)))))
+    for name in filter(checks.get, parts):
+        began = time.monotonic()
+        passed, failed = run_part(name, parts[name])
+        print(f"{name}, {time.monotonic() - began:.0f} s: {passed} passed, {failed} failed", flush=True)
+        COUNTS.update({True: passed, False: failed})
+    end()
 
 
 # Runs
@@ -136,9 +191,11 @@ def attempts_of(transcript):
     return [(int(start), ip, end) for start, ip, end in found]
 
 
-def winner_of(transcript):
-    """The address that won, or None."""
-    return next((ip for _, ip, end in attempts_of(transcript) if end == "won"), None)
+def replayed(record, command="replay"):
+    """What a command writes of a record, which is a sound one."""
+    done = run(OPTIONS.program, *command.split(), input=record)
+    must(done.returncode == 0, f"he {command} of the record: {done.stderr!r}: {record!r}")
+    return done.stdout
 
 
 class Run:
@@ -147,28 +204,8 @@ class Run:
 
     def __init__(self, done, transcript, record):
         self.status, self.told, self.transcript, self.record = done.returncode, done.stderr, transcript, record
-        self.attempts, self.won = attempts_of(transcript), winner_of(transcript)
-
-
-def in_namespaces(flags, setup):
-    """Runs this script again, with INSIDE, in namespaces of its own that lines of sh set up: its status, or None where
-    that cannot be done."""
-    unshare, lines = ["unshare", *flags.split(), "sh", "-c"], f"set -e\n{setup}\n"
-    if not shutil.which("unshare") or run(*unshare, lines).returncode:
-        return None
-    again = [sys.executable, os.path.abspath(sys.argv[0]), *sys.argv[1:], INSIDE]
-    return subprocess.run([*unshare, f'{lines}exec "$0" "$@"', *again]).returncode
-
-
-def is_inside(flags, setup, otherwise):
-    """Whether the script runs in such namespaces: it goes into them, and ends as it does there, or says what is not
-    tried otherwise."""
-    if INSIDE not in sys.argv:
-        status = in_namespaces(flags, setup)
-        if status is not None:
-            sys.exit(status)
-        print(otherwise)
-    return INSIDE in sys.argv
+        self.attempts = attempts_of(transcript)
+        self.won = next((ip for _, ip, end in self.attempts if end == "won"), None)
 
 
 def comes(is_there, seconds=20):
@@ -239,7 +276,7 @@ def is_listening(port):
     return in_tcp_table(port, "0A", 1) > 0
 
 
-# A network of a script's own: addresses that answer, others that are silent, a link, and names of a file of hosts
+# A network of a part's own: addresses that answer, others that are silent, a link, and names of a file of hosts
 
 
 SIX, FOUR = "2001:db8:1e::1", "127.0.0.1"  # addresses of this machine
@@ -250,6 +287,14 @@ NAMES = {"both.test": [SIX, FOUR], "dead6.test": [DEAD_SIX, FOUR], "dead.test": 
 # Where a server listens, the host that is asked for, and the address that wins.
 TAKEN = [(FOUR, "four.test", FOUR), (SIX, "six.test", SIX), (FOUR, FOUR, FOUR), (SIX, SIX, SIX),
          (FOUR, "dead6.test", FOUR), (FOUR, "both.test", FOUR), (SIX, "both.test", SIX)]
+
+
+def file_of_etc(name, text):
+    """A line of sh behind those of NETWORK that sets a text in as /etc/NAME; the file itself is /run/he/NAME."""
+    return (f"[ ! -e /etc/{name} ] || {{ printf %s {shlex.quote(text)} > /run/he/{name};"
+            f" mount --bind /run/he/{name} /etc/{name}; }}\n")
+
+
 NETWORK = f"""
 ip link set lo up
 ip link add here type veth peer name there
@@ -259,19 +304,9 @@ ip address add {SIX}/64 dev here nodad
 ip address add {DEAD_SIX}/64 dev here nodad
 ip address add {WIDE_FOUR}/24 dev here
 mount -t sysfs sysfs /sys
-"""
-
-
-def run_checks_in_network(script, **files):
-    """As run_checks, in the network above, with these files set in as /etc/NAME beside that of the hosts."""
-    files["hosts"] = "".join(f"{address} {name}\n" for name, found in NAMES.items() for address in found)
-    with tempfile.TemporaryDirectory() as folder:
-        setup = NETWORK
-        for name, text in files.items():
-            pathlib.Path(folder, name).write_text(text)
-            setup += f"[ ! -e /etc/{name} ] || mount --bind {folder}/{name} /etc/{name}\n"
-        if is_inside("-n -m", setup, "not tried: no network and file of hosts of its own can be made"):
-            run_checks(script)
+mkdir -p /run/he
+mount -t tmpfs tmpfs /run/he
+""" + file_of_etc("hosts", "".join(f"{address} {name}\n" for name, found in NAMES.items() for address in found))
 
 
 def in_thread(work, *given):
@@ -389,6 +424,15 @@ def sshd(address, folder, port=None, inside=(), settings=()):
         yield port, ["ssh", "-F", "none", "-i", f"{folder}/key", *(f"-o{option}" for option in options)]
 
 
+def must_log_in(proxy_command):
+    """ssh logs in at both.test through a command, and all of a file comes over."""
+    with tempfile.TemporaryDirectory() as folder, sshd(FOUR, folder) as (port, ssh):
+        given = random.Random(5).randbytes(3_000_000)
+        words = [*ssh, "-o", f"ProxyCommand={proxy_command} %h %p", "-p", port, "both.test", "cat"]
+        done = run(*words, input=given, timeout=TIMEOUT)
+    must(done.stdout == given, done.returncode, len(done.stdout), "bytes", done.stderr)
+
+
 # Messages of the domain name system, and a server
 
 
@@ -405,9 +449,9 @@ def record(name, kind, data, ttl=60):
     return name + struct.pack("!HHIH", kind, 1, ttl, len(data)) + data
 
 
-def addresses(kind, *given):
+def addresses(kind, *given, ttl=60):
     """Records of the question's name for those of the addresses that are of the kind."""
-    return [record(OWN_NAME, kind, data_of(ip)) for ip in given if ip and (":" in ip) == (kind == AAAA)]
+    return [record(OWN_NAME, kind, data_of(ip), ttl) for ip in given if (":" in ip) == (kind == AAAA)]
 
 
 def question_of(query):
@@ -495,14 +539,28 @@ class NameServer:
             put(reply)
 
 
-def is_answered(address, port):
-    """Whether some name server answers there."""
-    with socket.socket(family_of(address), socket.SOCK_DGRAM) as asking, contextlib.suppress(OSError):
-        asking.settimeout(ALONE)
-        asking.connect((address, port))
-        asking.send(b"he" + struct.pack("!5H", 0x100, 1, 0, 0, 0) + wire("a.test") + struct.pack("!HH", A, 1))
-        return asking.recv(512)[:2] == b"he"
-    return False
+class Zone(NameServer):
+    """A name server at which each name has these addresses, for so many seconds, and for none under the label `none`;
+    `lacks` is no name. The answer for AAAA may be late, and be refused by a code."""
+
+    def __init__(self, *ips, ttl=60, late=0, six_code=NOERROR):
+        self.ips, self.ttl, self.late, self.six_code = ips or (SIX, FOUR), ttl, late, six_code
+        super().__init__(FOUR)
+
+    def replies(self, query, _):
+        label, kind = labels_of(query)[0], kind_of(query)
+        late, code = (self.late, self.six_code) if kind == AAAA else (0, NOERROR)
+        code = NXDOMAIN if label == "lacks" else code
+        found = [] if code else addresses(kind, *self.ips, ttl=0 if label == "none" else self.ttl)
+        return [(late, message(query, found, code))]
+
+    def asked(self, label):
+        """How often it was asked for a name that begins so."""
+        return sum(labels_of(query)[0] == label for _, query, _ in self.seen)
+
+    def kinds(self):
+        """What it was asked for."""
+        return {kind_of(query) for _, query, _ in self.seen}
 
 
 @contextlib.contextmanager
@@ -512,5 +570,5 @@ def dnsmasq(address, *records):
     port = unused_port(address)
     command = ["dnsmasq", "--keep-in-foreground", "--conf-file=/dev/null", "--no-resolv", "--no-hosts", "--pid-file=",
                "--user=", "--bind-interfaces", f"--listen-address={address}", f"--port={port}", *records]
-    with server_at(port, *command, is_there=lambda: is_answered(address, port)):
+    with server_at(port, *command):
         yield f"{address}:{port}"

@@ -1,10 +1,14 @@
 """What a built program's help says of its commands, and what is written from it: the completions of three shells, and
-the synopsis of the manual page. scripts/manual compares these with the files, or writes them."""
+the synopsis of the manual page. scripts/manual writes the files, scripts/parts/manual.py compares them."""
 import re
 import subprocess
 from collections import namedtuple
 from dataclasses import dataclass
 
+from support import ROOT
+
+PAGE = ROOT / "docs/he.1"
+SYNOPSIS = re.compile(r"(?<=^\.SH SYNOPSIS\n).*?(?=^\.SH )", re.MULTILINE | re.DOTALL)
 SETTINGS = ("attempt", "resolution", "count", "limit", "floor")
 NAMES_OF_SETTINGS = " ".join(f"{name}=" for name in SETTINGS)
 GROUPS = "file hour family"
@@ -263,3 +267,11 @@ def synopsis_option(option):
         return [f".B {name}", f".I {option.value}"]
     end = '" ...]"' if option.is_many else "]"
     return [f".RB [ {name}", f".IR {option.value} {end}"]
+
+
+def written(commands):
+    """Each file that is written from the help, with its text."""
+    yield ROOT / "completions/he.bash", bash(commands)
+    yield ROOT / "completions/he.fish", fish(commands)
+    yield ROOT / "completions/_he", zsh(commands)
+    yield PAGE, SYNOPSIS.sub(lambda _: synopsis(commands), PAGE.read_text())

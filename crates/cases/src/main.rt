@@ -6,13 +6,13 @@
 //! the line that the program prints after each of them; `check` tells the same fault, and `NAME.check` is all that the
 //! program prints of it then, with the line, its mark and the sentence; beside a text without a fault it has what
 //! `check` warns of; `NAME.check-all` is the same of a check for all faults, and `NAME.check-json` and
-//! `NAME.check-all-json` are what a check writes as JSON. Each example is run in pieces of 1 byte, of 7 bytes and whole, a short one in every cut into two
-//! pieces too, and `replay` with 1, 2, 7 and 64 workers; each of its races is run as a future too, to the same
-//! transcript, and each of their attempts alone (`turns.rt`), and again with its answers coming while it runs
-//! (`resolving.rt`). Command lines are run beside them, over streams that may fail (`command_lines.rt`,
-//! `command_rows.rt`). A line names each run that differs, and the last three say how many there were. Where memory is
-//! refused to an example, the program ends and says so. Nothing is proved of this program but that it is safe and
-//! ends.
+//! `NAME.check-all-json` are what a check writes as JSON. Each example is run in pieces of 1 byte, of 7 bytes and
+//! whole, a short one in every cut into two pieces too, and `replay` with 1, 2, 7 and 64 workers; each of its races is
+//! run as a future too, to the same transcript, and each of their attempts alone (`turns.rt`), and again with its
+//! answers coming while it runs (`resolving.rt`). Command lines are run beside them, over streams that may fail
+//! (`command_lines.rt`, `command_rows.rt`). A line names each run that differs, and the last three say how many there
+//! were. Where memory is refused to an example, the program ends and says so. Nothing is proved of this program but
+//! that it is safe and ends.
 #![tactic(auto)]
 
 mod check_rows;

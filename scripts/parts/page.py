@@ -1,29 +1,22 @@
-#!/usr/bin/env python3
 """Writes a page of races by `he draw --html`, and reads it as a browser would: every tag is ended where it must be, no
 name stands twice, each link leads to one, nothing is taken from elsewhere and no script runs. What it shows is
-compared with the plain reading beside this file: of each race its section, with its end, its heading, its rows, the
-ticks of their bars and its story; and of all races the totals and the end of the scale. Tried on the texts of
+compared with the plain reading (plain.py and others): of each race its section, with its end, its heading, its rows,
+the ticks of their bars and its story; and of all races the totals and the end of the scale. Tried on the texts of
 crates/cases/data that have stories, on all that have transcripts as one page, and on settings in place of the races'
 own.
-
-needs: python3, its standard library alone
-usage: scripts/page PROGRAM
 """
 import html.parser
 import pathlib
 import re
-import sys
-import tempfile
 from collections import namedtuple
 
 import plain
 import plain_drawn
 import plain_story
-import support
 from plain_summary import percentile
-from support import DATA
+from support import DATA, OPTIONS, run, tell
 
-HE = support.program(__doc__)
+HE = OPTIONS.program
 VOID = {"meta", "input"}
 NO_TEXT = {"style", "script", "title"}
 # The numbers above all races, by the words after them.
@@ -126,17 +119,16 @@ def read(text, changes):
     return [race.changed(changes) for race in races]
 
 
-def check(words, texts, room):
-    """What is wrong with the page of these texts, and how many sections it has."""
-    page = f"{room}/page.html"
-    end = support.run(HE, "draw", "--html", page, *words, *texts, timeout=600)
+def faults_of(words, texts):
+    """What is wrong with the page of these texts."""
+    page = OPTIONS.folder / "page.html"
+    end = run(HE, "draw", "--html", page, *words, *texts, timeout=600)
     if end.returncode or end.stdout:
-        return [f"status {end.returncode}: {end.stdout}{end.stderr}"], 0
-    shown = Page(pathlib.Path(page).read_text(encoding="utf-8"))
+        return [f"status {end.returncode}: {end.stdout}{end.stderr}"]
+    shown = Page(page.read_text(encoding="utf-8"))
     files = [read(text, plain.changes_of(words[1:])) for text in texts]
     races = [race for file in files for race in file]
-    wanted = [section(place, number, race)
-              for place, file in enumerate(files) for number, race in enumerate(file, 1)]
+    wanted = [section(place, number, race) for place, file in enumerate(files) for number, race in enumerate(file, 1)]
     shown.sections = [one._replace(story=[one.story[0].removeprefix("\n")]) for one in shown.sections]
     faults = shown.faults
     if shown.sections != wanted:
@@ -147,23 +139,13 @@ def check(words, texts, room):
     for what, own, right in (("totals", shown.totals, totals(races)), ("the end of the scale", shown.end, end),
                              ("files", shown.files, list(texts) if len(texts) > 1 else [])):
         faults += [] if own == right else [f"{what}: {own}, not {right}"]
-    return faults, len(wanted)
+    return faults
 
 
-def main():
+def check_pages():
     texts, every = (sorted(str(it.with_suffix(".timeline")) for it in DATA.glob(f"*.{ending}")
                            if not it.with_suffix(".fault").exists() or ending == "story")
                     for ending in ("story", "transcript"))
-    failed = sections = 0
-    tries = [((), [text]) for text in texts] + [((), every), (("--set", "attempt=100"), texts)]
-    with tempfile.TemporaryDirectory() as room:
-        for given, those in tries:
-            faults, count = check(given, those, room)
-            sections, failed = sections + count, failed + bool(faults)
-            for fault in faults:
-                print(f"{' '.join(given)} {those[0]}{' ..' if len(those) > 1 else ''}: {fault}")
-    print(f"{len(tries)} pages, {sections} races, {failed} wrong")
-    return 1 if failed or not sections else 0
-
-
-sys.exit(main())
+    for given, those in [*(((), [text]) for text in texts), ((), every), (("--set", "attempt=100"), texts)]:
+        faults = faults_of(given, those)
+        tell(not faults, *given, f"{those[0]}{' ..' if len(those) > 1 else ''}:", *faults)

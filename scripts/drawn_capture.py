@@ -1,17 +1,12 @@
-#!/usr/bin/env python3
 """Draws races, and writes a packet capture of them and what tools/from-capture must make of it.
 
-usage: scripts/draw-capture FOLDER [--races 1000] [--seed 1]
-
-FOLDER gets drawn.pcap, drawn.timeline, drawn.done, and drawn.said: the notes on silent addresses and on connections
+A folder gets drawn.pcap, drawn.timeline, drawn.done, and drawn.said: the notes on silent addresses and on connections
 that are passed over. The races run beside each other, and some names and some addresses come again. Among their packets
 are aliases, answers over TCP, answers with what they don't need, copies as they are captured on two interfaces,
 repetitions, refusals, ICMP errors that are heeded and such that are not, connections that come too late, and further
 ones after the race is won.
 """
-import argparse
 import ipaddress
-import pathlib
 import random
 import struct
 
@@ -232,19 +227,11 @@ def draw_all(races, seed):
     return {"timeline": timeline, "done": done, "said": said}, sorted(drawn.packets)
 
 
-def main():
-    parser = argparse.ArgumentParser(description=__doc__, formatter_class=argparse.RawDescriptionHelpFormatter)
-    parser.add_argument("folder", type=pathlib.Path)
-    parser.add_argument("--races", type=int, default=1000)
-    parser.add_argument("--seed", type=int, default=1)
-    options = parser.parse_args()
-    texts, packets = draw_all(options.races, options.seed)
+def draw_into(folder, races, seed):
+    texts, packets = draw_all(races, seed)
     for end, lines in texts.items():
-        (options.folder / f"drawn.{end}").write_text("".join(f"{line}\n" for line in lines))
-    with open(options.folder / "drawn.pcap", "wb") as file:
+        (folder / f"drawn.{end}").write_text("".join(f"{line}\n" for line in lines))
+    with open(folder / "drawn.pcap", "wb") as file:
         file.write(struct.pack("<IHHiIII", 0xA1B2C3D4, 2, 4, 0, 0, 65535, 101))
         for time, _, packet in packets:
             file.write(struct.pack("<IIII", time // 1_000_000, time % 1_000_000, len(packet), len(packet)) + packet)
-
-
-main()

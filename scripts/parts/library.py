@@ -1,39 +1,23 @@
-#!/usr/bin/env python3
 """Makes libhe of the proved library of crates/he_c, and tries it from C and from Python.
 
-- The symbols that it exports are the functions of include/he.h, and of the system it needs malloc alone, beside what
-  every compiler takes as given (memcpy and the like).
-- It is linked with relro and now; he_version is the version of he.h and of the file; a text and a room of length 0
-  may be null pointers.
-- he_replay, he_order, he_explain and he_check give what stands beside each example of crates/cases/data, and, where a
-  PROGRAM is given, that program's bytes; room that is one byte too small is told, and stays as it was.
-- he_next drives each race of the examples, with its own answers and outcomes: the attempts that it starts are those of
-  the transcript, and the record that is written down replays to the race's own.
-- Each growth of each function is refused in turn: the answer is HE_NO_MEMORY, with nothing written, or as ever.
-- examples/c, also under valgrind and with the sanitizers of the compiler, connects on this machine, past dead and
-  refused addresses; what it recorded replays to the transcript that it printed. The tests of examples/python pass.
-
-usage: scripts/c-library [PROGRAM]    after `rt lib` in crates/he_c
-needs: Linux, python3, its standard library alone, gcc; valgrind where it is there
+needs: the proved library, by `make build-library`; gcc; valgrind where it is there
 """
 import contextlib
 import ctypes
+import functools
 import importlib
 import os
 import re
 import shutil
 import socket
 import sys
-import tempfile
 import time
 from pathlib import Path
 
-from support import DATA, ROOT, Counts, data_of, has_six, listener_at, run, silent
+from support import DATA, OPTIONS, ROOT, data_of, has_six, listener_at, must, needs, run, silent, tell
 
-sys.dont_write_bytecode = True  # examples/python is loaded
-CALLS = {"replay": "transcript", "order": "order", "explain": "explanation-json"}
-# The words with which the program writes the same.
-WORDS = {"replay": ["replay"], "order": ["order"], "explain": ["explain", "--json"]}
+# The functions, with the words by which the program writes the same.
+CALLS = {"replay": ["replay"], "order": ["order"], "explain": ["explain", "--json"]}
 # What the library may call, beside the loader's own weak names.
 NEEDED = {"malloc", "realloc", "free", "memcpy", "memmove", "memset", "memcmp", "bcmp"}
 HEADER = (ROOT / "include/he.h").read_text()
@@ -49,14 +33,24 @@ KINDS |= {NUMBERS[word.upper().replace(" ", "_")]: word for word in (
 FILLER = b"\xa5"
 NEVER = 1 << 40  # a tick
 MOST_MICROSECONDS = 20, 2000  # of a call of he_next: 10 addresses, the largest race
-COUNTS = Counts()
-tell = COUNTS.check
+
+
+@functools.cache
+def prefix():
+    """Where the library is put."""
+    needs("gcc")
+    if not (ROOT / "crates/he_c/out/libhe_c.a").exists():
+        raise FileNotFoundError("the library is not built: make build-library")
+    made = run(ROOT / "scripts/make-library", OPTIONS.folder)
+    must(made.returncode == 0, made.stderr)
+    return OPTIONS.folder
 
 
 class Library:
     """libhe, by ctypes: the classes are those of the example in Python."""
 
     def __init__(self, file):
+        sys.dont_write_bytecode = True  # examples/python is loaded
         os.environ["HE_LIBRARY"] = str(file)
         sys.path.append(str(ROOT / "examples/python"))
         self.example = importlib.import_module("happy_eyeballs")
@@ -80,44 +74,50 @@ class Library:
         return answer, step, told
 
 
+@functools.cache
+def library():
+    return Library(prefix() / "lib/libhe.so.1")
+
+
 def header_names():
     return set(re.findall(r"^uint32_t (he_\w+)\(", HEADER, re.M))
 
 
-def symbols(library, archive):
-    """What is exported, what is called, and what the loader is told: names are bound at once, and their table is then
-    read alone."""
-    for file, words in ((library, ["-D"]), (archive, ["-g"])):
+def check_symbols():
+    """What is exported are the functions of he.h; what is called is malloc, beside what every compiler takes as given;
+    the loader is told that names are bound at once, and that their table is then read alone."""
+    shared = prefix() / "lib/libhe.so"
+    for file, words in ((shared, ["-D"]), (prefix() / "lib/libhe.a", ["-g"])):
         lines = run("nm", *words, file).stdout.splitlines()
         names = [line.split()[-2:] for line in lines if len(line.split()) > 1]
         found = {name for kind, name in names if kind not in "Uw"}
         needed = {name.split("@")[0] for kind, name in names if kind == "U"}
         tell(found == header_names(), f"{file.name} exports {sorted(found)}, and he.h has {sorted(header_names())}")
         tell(needed <= NEEDED, f"{file.name} needs {sorted(needed - NEEDED)}")
-    told = run("readelf", "-dlW", library).stdout
+    told = run("readelf", "-dlW", shared).stdout
     tell("[libhe.so.1]" in told, "libhe.so has not the soname libhe.so.1")
     tell("GNU_RELRO" in told and re.search(r"\bNOW\b", told), "libhe.so is not linked with relro and now")
 
 
-def versions(library):
+def check_versions():
     """One version: the library's, the header's and that of its file."""
     version = re.search(r"^version=(\d+)\.(\d+)\.(\d+)$", (ROOT / "scripts/make-library").read_text(), re.M)
     major, minor, patch = map(int, version.groups())
     number = int(re.search(r"^#define HE_VERSION (\d+)$", HEADER, re.M)[1])
-    found = library.he.he_version()
+    found = library().he.he_version()
     tell(found == number == 10000 * major + 100 * minor + patch, f"he_version: {found}, he.h {number}, {version[0]}")
 
 
-def bare(library):
+def check_bare():
     """A text and a room of length 0 may be null pointers."""
-    example = library.example
+    example = library().example
     for name in (*CALLS, "check"):
         told = example.Told()
-        answer = library.call_of(name)(None, 0, None, 0, ctypes.byref(told))
-        wanted = (NO_ROOM, len(counts(b""))) if name == "check" else (DONE, 0)
+        answer = library().call_of(name)(None, 0, None, 0, ctypes.byref(told))
+        wanted = (NO_ROOM, len(b"0 races, 0 lines\n")) if name == "check" else (DONE, 0)
         tell((answer, told.length, told.kind) == (*wanted, 0), f"he_{name} of nothing: {answer}, {told.length} bytes")
     step, told = example.Step(), example.Told()
-    answer = library.he.he_next(None, 0, 0, 1, ctypes.byref(step), ctypes.byref(told))
+    answer = library().he.he_next(None, 0, 0, 1, ctypes.byref(step), ctypes.byref(told))
     tell((answer, told.line, told.kind) == (FAULT, 1, NUMBERS["HEADER"]), f"he_next of nothing: {answer}, {told.kind}")
 
 
@@ -127,58 +127,38 @@ def is_told(told, fault):
     return re.fullmatch(f"he: line {told.line}: {words}\n" if words else "", fault.decode())
 
 
-def compare(library, name, text, wanted, fault):
+def compare(name, text, wanted, fault):
     """One call over one text: its bytes, its fault, and room that is too small by one."""
-    answer, told, room = library.text(name, text)
+    answer, told, room = library().text(name, text)
     where = f"he_{name}: answer {answer}, line {told.line}, kind {told.kind}, {told.length} bytes"
     tell(room[:told.length] == wanted and answer == (FAULT if fault else DONE), where)
     tell(set(room[told.length:told.length + 64]) <= set(FILLER), f"{where}: wrote behind its text")
     tell(is_told(told, fault), f"{where}, and not {fault}")
     size = len(wanted)
-    answer, told, room = library.text(name, text, size)
+    answer, told, room = library().text(name, text, size)
     tell(answer == (FAULT if fault else DONE) and room == wanted, f"{where}: not with just enough room")
     if size:
-        answer, told, room = library.text(name, text, size - 1)
+        answer, told, room = library().text(name, text, size - 1)
         told_so = answer == NO_ROOM and told.length == size and room == FILLER * (size - 1)
         tell(told_so, f"{where}: not with room one byte too small")
 
 
-def beside(timeline, ending):
-    """The file of this ending that stands beside a timeline, if there is one."""
-    file = timeline.with_suffix(f".{ending}")
-    return file.read_bytes() if file.exists() else None
-
-
-def examples(library, program):
-    for timeline in sorted(DATA.glob("*.timeline")):
-        text, fault = timeline.read_bytes(), beside(timeline, "fault") or b""
-        for name, ending in CALLS.items():
-            wanted = beside(timeline, ending)
-            if program:
-                ran = run(program, *WORDS[name], input=text)
-                wanted, fault = ran.stdout, ran.stderr
-            if wanted is not None:
-                compare(library, name, text, wanted, fault)
-        check(library, program, timeline, text, fault)
-
-
-def counts(text):
-    """What is said of a text without a fault."""
-    races, lines = len(re.findall(rb"^race ", text, re.M)), text.count(b"\n")
-    return b"%d race%s, %d line%s\n" % (races, b"s" * (races != 1), lines, b"s" * (lines != 1))
-
-
-def check(library, program, timeline, text, fault):
+def compare_check(timeline, text, fault):
     """he_check: the program's words, on its standard output or behind `he: ` on standard error."""
-    answer, told, room = library.text("check", text)
-    said = room[:told.length]
-    wanted = beside(timeline, "check") if fault else b"he: " + counts(text)
-    if program:
-        ran = run(program, "check", input=text)
-        wanted = ran.stderr if fault else b"he: " + ran.stdout
-    if wanted is not None:
-        tell(b"he: " + said == wanted, f"{timeline.name}: he_check says {said}")
+    answer, told, room = library().text("check", text)
+    said, ran = room[:told.length], run(OPTIONS.program, "check", input=text)
+    tell(b"he: " + said == (ran.stderr if fault else b"he: " + ran.stdout), f"{timeline.name}: he_check says {said}")
     tell((answer == FAULT) == bool(fault), f"{timeline.name}: he_check answers {answer}")
+
+
+def check_examples():
+    """What the program writes; room that is one byte too small is told, and stays as it was."""
+    for timeline in sorted(DATA.glob("*.timeline")):
+        text = timeline.read_bytes()
+        for name, words in CALLS.items():
+            ran = run(OPTIONS.program, *words, input=text)
+            compare(name, text, ran.stdout, ran.stderr)
+        compare_check(timeline, text, ran.stderr)
 
 
 class Script:
@@ -210,8 +190,8 @@ class Driver:
     """A client that runs the script's race by he_next: it sleeps where the script has a pause, and writes down what it
     finds when it wakes up. An answer keeps its own tick, so where one came in its sleep, the sleep is written too."""
 
-    def __init__(self, library, script):
-        self.library, self.script = library, script
+    def __init__(self, script):
+        self.script = script
         self.answers, self.connects, self.pauses = {}, [], []
         self.running, self.starts, self.end = [], [], None
 
@@ -250,7 +230,7 @@ class Driver:
         now = self.script.seen(0)
         while True:
             self.happen(now)
-            answer, step, told = self.library.step(self.record(), len(self.starts), now)
+            answer, step, told = library().step(self.record(), len(self.starts), now)
             if answer != DONE:
                 return f"answer {answer}, line {told.line}, kind {told.kind}"
             if step.pause_until:
@@ -271,34 +251,35 @@ class Driver:
                 return None
 
 
-def drive(library):
+def check_races():
+    """With its own answers and outcomes each race starts the attempts of its transcript, and its record replays."""
     races = 0
     for timeline in sorted(DATA.glob("*.timeline")):
         if timeline.with_suffix(".fault").exists():
             continue
         for text in re.findall(r"race [12]\n(?:.*\n)*?end\n", timeline.read_text()):
             races += 1
-            driver = Driver(library, Script(text))
+            driver = Driver(Script(text))
             fault = driver.run()
-            wanted = library.text("replay", text.encode(), 1 << 16)
+            wanted = library().text("replay", text.encode(), 1 << 16)
             record = driver.record("end\n")
-            found = library.text("replay", record, 1 << 16)
+            found = library().text("replay", record, 1 << 16)
             attempts = re.findall(rb"^attempt (\d+) (\d+) (\S+)", found[2], re.M)
             starts = [(int(place), int(tick), data_of(ip.decode())) for place, tick, ip in attempts]
             end = found[2][:found[1].length].decode().splitlines()[-1]
             same = found[2] == wanted[2] and starts == driver.starts and end == driver.end
             what = fault or f"another race, {driver.end}"
             tell(fault is None and same, f"{timeline.name}: {what}:\n{text}-- driven:\n{record.decode()}")
-    print(f"{races} races driven by he_next")
+    print(f"    {races} races driven by he_next")
 
 
-def measure(library):
+def check_times():
     """How long a call of he_next takes: the least of many."""
     def least(record, started, now):
         best, until = 1e9, time.perf_counter() + 0.5
         while time.perf_counter() < until:
             began = time.perf_counter()
-            library.step(record, started, now)
+            library().step(record, started, now)
             best = min(best, time.perf_counter() - began)
         return best * 1e6
     v6 = " ".join(f"2001:db8:1::{n:x}" for n in range(1, 257))
@@ -317,12 +298,12 @@ def measure(library):
     records = ("10 addresses", small), ("the largest race", large)
     for (name, record), most in zip(records, MOST_MICROSECONDS):
         # the next attempt behind all pauses, to which the client comes a tick late: the record is read twice
-        transcript = library.text("replay", record + b"end\n")[2]
+        transcript = library().text("replay", record + b"end\n")[2]
         ticks = [int(tick) for tick in re.findall(rb"^attempt \d+ (\d+) ", transcript, re.M)]
         started = next(place for place, tick in enumerate(ticks) if tick > 4300 or len(ticks) == 10 and place > 1)
-        answer, step, told = library.step(record, started, ticks[started] + 1)
+        answer, step, told = library().step(record, started, ticks[started] + 1)
         took = least(record, started, ticks[started] + 1)
-        print(f"he_next, {name}, a record of {len(record)} bytes, late: {took:.1f} microseconds")
+        print(f"    he_next, {name}, a record of {len(record)} bytes, late: {took:.1f} microseconds")
         good = answer == DONE and step.pause_until and took <= most
         tell(good, f"{name}: answer {answer}, line {told.line}, kind {told.kind}, of at most {most} microseconds")
 
@@ -350,59 +331,61 @@ RACES = [
 ]
 
 
-def judge(library, program, what, race, transcript, record):
+def judge(what, race, transcript, record):
     ips, result, marks = race
     found = re.findall(r"^attempt \d+ \d+ \S+ (\w+) \d+$", transcript, re.M)
     last = transcript.splitlines()[-1] if transcript else ""
     tell(last.startswith(result) and found == marks, f"{what} {ips}:\n{transcript}")
-    answer, told, room = library.text("replay", record.encode(), 1 << 16)
+    answer, told, room = library().text("replay", record.encode(), 1 << 16)
     same = answer == DONE and room[:told.length].decode() == transcript
     tell(same, f"{what} {ips}: the record does not replay:\n{record}")
-    if program:
-        replayed = run(program, "replay", input=record.encode()).stdout.decode()
-        tell(replayed == transcript, f"{what} {ips}: he replay has another transcript:\n{replayed}")
+    replayed = run(OPTIONS.program, "replay", input=record.encode()).stdout.decode()
+    tell(replayed == transcript, f"{what} {ips}: he replay has another transcript:\n{replayed}")
 
 
-def build_by_pc(words, source, prefix):
+def build_by_pc(words, source):
     """he.pc tells how to build a program with the shared library."""
     if not shutil.which("pkg-config"):
-        print("no pkg-config: he.pc is not tried")
+        print("    no pkg-config: he.pc is not tried")
         return
-    paths = {**os.environ, "PKG_CONFIG_PATH": f"{prefix}/lib/pkgconfig", "LD_LIBRARY_PATH": f"{prefix}/lib"}
+    paths = {**os.environ, "PKG_CONFIG_PATH": f"{prefix()}/lib/pkgconfig", "LD_LIBRARY_PATH": f"{prefix()}/lib"}
     told = run("pkg-config", "--cflags", "--libs", "he", env=paths)
-    built = run("gcc", *words, "-o", prefix / "shared", source, *told.stdout.split())
+    built = run("gcc", *words, "-o", prefix() / "shared", source, *told.stdout.split())
     tell(built.returncode == 0, f"examples/c does not build by he.pc: {told.stderr}{built.stderr}")
-    ran = run(prefix / "shared", "1", "127.0.0.1", env=paths)
+    ran = run(prefix() / "shared", "1", "127.0.0.1", env=paths)
     tell(ran.returncode == 3 and " failed " in ran.stdout, f"examples/c with libhe.so: {ran.stdout}{ran.stderr}")
 
 
-def example_in_c(library, program, prefix):
+def check_example_in_c():
+    """It connects past dead and refused addresses, and its record replays to the transcript that it prints."""
+    if not has_six():
+        print("    no ::1: it is not tried")
     source = ROOT / "examples/c/connect.c"
-    words = ["-std=c11", "-D_GNU_SOURCE", "-Wall", "-Wextra", "-Werror", "-g", f"-I{prefix}/include"]
+    words = ["-std=c11", "-D_GNU_SOURCE", "-Wall", "-Wextra", "-Werror", "-g", f"-I{prefix()}/include"]
     names = {"connect": ["-O2"], "checked": ["-O1", "-fsanitize=address,undefined", "-fno-sanitize-recover=all"]}
     runs = []
     for name, more in names.items():
-        built = run("gcc", *words, *more, "-o", prefix / name, source, prefix / "lib/libhe.a")
+        built = run("gcc", *words, *more, "-o", prefix() / name, source, prefix() / "lib/libhe.a")
         if "-fsanitize" in " ".join(more) and re.search("cannot find .*(asan|ubsan)", built.stderr):
-            print("no libraries of gcc's sanitizers: examples/c is not tried with them")
+            print("    no libraries of gcc's sanitizers: examples/c is not tried with them")
             continue
         tell(built.returncode == 0, f"examples/c does not build: {built.stderr}")
-        runs.append([prefix / name])
-    build_by_pc(words, source, prefix)
+        runs.append([prefix() / name])
+    build_by_pc(words, source)
     if shutil.which("valgrind"):
-        runs.append(["valgrind", "-q", "--error-exitcode=9", "--leak-check=full", prefix / "connect"])
+        runs.append(["valgrind", "-q", "--error-exitcode=9", "--leak-check=full", prefix() / "connect"])
     else:
-        print("no valgrind: examples/c is not tried with it")
+        print("    no valgrind: examples/c is not tried with it")
     with servers() as port:
         for before in runs:
             for race in RACES:
-                record = prefix / "record"
+                record = prefix() / "record"
                 record.unlink(missing_ok=True)
                 done = run(*before, str(port), *race[0], env={**os.environ, "RECORD": str(record)})
                 status = 0 if race[1].startswith("won") else 3
                 what = f"{Path(before[0]).name}, status {done.returncode}, {done.stderr}"
                 tell(done.returncode == status, f"{what}: {race[0]}")
-                judge(library, program, what, race, done.stdout, record.read_text() if record.exists() else "")
+                judge(what, race, done.stdout, record.read_text() if record.exists() else "")
 
 
 # Calls each function on the text of standard input, and refuses each growth in turn, up to a call in which none is: it
@@ -461,46 +444,22 @@ int main(void)
 """
 
 
-def refused(prefix):
-    """malloc refuses each growth in turn."""
-    source = prefix / "refusing.c"
+def check_refused():
+    """Where a growth is refused, each in turn, the answer is HE_NO_MEMORY, with nothing written, or as ever."""
+    source = prefix() / "refusing.c"
     source.write_text(REFUSING)
-    words = ["-O1", f"-I{prefix}/include", "-Wl,--wrap=malloc", "-Wl,--wrap=realloc", "-o", prefix / "refusing"]
-    built = run("gcc", *words, source, prefix / "lib/libhe.a")
+    words = ["-O1", f"-I{prefix()}/include", "-Wl,--wrap=malloc", "-Wl,--wrap=realloc", "-o", prefix() / "refusing"]
+    built = run("gcc", *words, source, prefix() / "lib/libhe.a")
     tell(built.returncode == 0, f"the caller that is refused memory does not build: {built.stderr}")
     text = (DATA / "ipv6-late-but-within-delay-leads.timeline").read_bytes()
-    done = run(prefix / "refusing", input=text)
+    done = run(prefix() / "refusing", input=text)
     lines = done.stdout.decode().splitlines()
     tell(len(lines) == 5 and all(line.startswith("passed") for line in lines), f"refused memory: {lines}")
     given_up = [int(line.split()[-1]) for line in lines]
     tell(all(given_up), f"never HE_NO_MEMORY where growths are refused: {given_up}")
 
 
-def main():
-    program = sys.argv[1] if len(sys.argv) > 1 else None
-    if not shutil.which("gcc"):
-        print("no gcc: not tried")
-        return
-    if not has_six():
-        print("no ::1: it is not tried")
-    with tempfile.TemporaryDirectory() as name:
-        prefix = Path(name)
-        made = run(ROOT / "scripts/make-library", prefix)
-        if made.returncode:
-            sys.exit(made.stderr)
-        library = Library(prefix / "lib/libhe.so.1")
-        symbols(prefix / "lib/libhe.so", prefix / "lib/libhe.a")
-        versions(library)
-        bare(library)
-        examples(library, program)
-        drive(library)
-        measure(library)
-        refused(prefix)
-        example_in_c(library, program, prefix)
-        tested = run(sys.executable, "-m", "unittest", "test_happy_eyeballs", cwd=ROOT / "examples/python",
-                     env={**os.environ, **({"HE": os.path.abspath(program)} if program else {})})
-        tell(tested.returncode == 0, f"examples/python: {tested.stderr}")
-    COUNTS.end()
-
-
-main()
+def check_example_in_python():
+    tested = run(sys.executable, "-m", "unittest", "test_happy_eyeballs", cwd=ROOT / "examples/python",
+                 env={**os.environ, "HE_LIBRARY": str(prefix() / "lib/libhe.so.1"), "HE": OPTIONS.program})
+    must(tested.returncode == 0, tested.stderr)

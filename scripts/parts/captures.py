@@ -1,21 +1,15 @@
-#!/usr/bin/env python3
 """Tries tools/from-capture and tools/compare-done, with a built program, on captures of clients (examples/captures),
-which must give the texts that stand beside them; of races that are drawn (scripts/draw-capture), whose timelines are
+which must give the texts that stand beside them; of races that are drawn (drawn_capture.py), whose timelines are
 known; and on such that are damaged, cut, or tell too little; and tools/compare-done on races that were made up.
 
-usage: scripts/captures PROGRAM          the last line says how many checks passed
-       scripts/captures PROGRAM --table  writes the table of docs/CLIENTS.md, from the captures of clients
-
-Where tshark (Debian's package tshark) is not there, nothing is tried, and that is said.
+needs: tshark
 """
-import pathlib
 import re
-import shutil
-import sys
-import tempfile
 
-from support import ROOT, Counts, program, run, seconds_of_children
+from drawn_capture import draw_into
+from support import OPTIONS, ROOT, must, needs, run, seconds_of_children, tell
 
+HE = OPTIONS.program
 CAPTURES = ROOT / "examples/captures"
 HOST = CAPTURES / "host-lines"
 CLIENTS = {"curl": "curl", "wget": "wget", "ssh": "ssh", "go": "Go", "node": "node", "asyncio": "asyncio"}
@@ -32,95 +26,92 @@ SHORT = [  # what the table says of the first place where a client and the rules
 
 
 def from_capture(*words):
+    needs("tshark")
     return run(ROOT / "tools/from-capture", *words)
 
 
-def compare(program, timeline, done):
-    rules = run(program, "replay", input=timeline.read_text())
+def compare(timeline, done):
+    rules = run(HE, "replay", input=timeline.read_text())
     return run(ROOT / "tools/compare-done", timeline, done, input=rules.stdout)
 
 
-class Checks(Counts):
-    def __init__(self, program, work):
-        super().__init__()
-        self.program, self.work = program, work
-
-    def check(self, name, is_good):
-        super().check(is_good, f"{name}: differs")
-
-    def texts(self, name, ran, wanted):
-        """What a run wrote, against texts by the end of their file's name; and that the program takes the timeline."""
-        self.check(f"{name}: status", self.is_sound(ran))
-        for end, text in wanted.items():
-            self.check(f"{name}.{end}", text == (CAPTURES / f"{name}.{end}").read_text())
-
-    def is_sound(self, ran):
-        """Whether it went well, and what it wrote is taken by the program."""
-        return ran.returncode == 0 and run(self.program, "check", input=ran.stdout).returncode == 0
-
-    def refused(self, name, words, said):
-        """One line on standard error, and nothing else."""
-        ran = from_capture(*words)
-        self.check(name, ran.returncode == 1 and not ran.stdout and ran.stderr.count("\n") == 1
-                   and ran.stderr.startswith("from-capture: ") and said in ran.stderr)
+def is_same(name, is_good):
+    tell(is_good, f"{name}: differs")
 
 
-def try_clients(checks):
-    done = checks.work / "done"
+def is_sound(ran):
+    """Whether it went well, and what it wrote is taken by the program."""
+    return ran.returncode == 0 and run(HE, "check", input=ran.stdout).returncode == 0
+
+
+def is_refused(name, words, said):
+    """One line on standard error, and nothing else."""
+    ran = from_capture(*words)
+    is_same(name, ran.returncode == 1 and not ran.stdout and ran.stderr.count("\n") == 1
+            and ran.stderr.startswith("from-capture: ") and said in ran.stderr)
+
+
+def check_clients():
+    """What is made of each capture stands beside it."""
+    done = OPTIONS.folder / "done"
     for client in CLIENTS:
         ran = from_capture(CAPTURES / f"{client}.pcap", "--host", HOST, "--done", done)
-        checks.texts(client, ran, {"timeline": ran.stdout, "said": ran.stderr, "done": done.read_text()})
-        compared = compare(checks.program, CAPTURES / f"{client}.timeline", CAPTURES / f"{client}.done")
-        checks.texts(client, ran, {"compared": compared.stdout})
-    checks.check("docs/CLIENTS.md: its table", table(checks.program) in (ROOT / "docs/CLIENTS.md").read_text())
+        compared = compare(CAPTURES / f"{client}.timeline", CAPTURES / f"{client}.done").stdout
+        is_same(f"{client}: status", is_sound(ran))
+        for end, text in (("timeline", ran.stdout), ("said", ran.stderr), ("done", done.read_text()),
+                          ("compared", compared)):
+            is_same(f"{client}.{end}", text == (CAPTURES / f"{client}.{end}").read_text())
 
 
-def try_drawn(checks):
+def check_table():
+    must(table() in (ROOT / "docs/CLIENTS.md").read_text(), f"the table of docs/CLIENTS.md should be\n{table()}")
+
+
+def check_drawn():
     """A thousand races, in less than a minute of processor time."""
-    run(ROOT / "scripts/draw-capture", checks.work, "--races", DRAWN)
-    lines = (checks.work / "drawn.timeline").read_text()
-    host, done = checks.work / "host", checks.work / "done"
+    work, host = OPTIONS.folder, OPTIONS.folder / "host"
+    draw_into(work, DRAWN, OPTIONS.seed)
+    lines = (work / "drawn.timeline").read_text()
     host.write_text("".join(f"{line}\n" for line in lines.splitlines()[1:5]))
     begun = seconds_of_children()
-    ran = from_capture(checks.work / "drawn.pcap", "--host", host, "--done", done)
-    checks.check("drawn races: time", seconds_of_children() - begun < MOST_SECONDS)
-    checks.check("drawn races: timelines", ran.stdout == lines)
-    checks.check("drawn races: what was done", done.read_text() == (checks.work / "drawn.done").read_text())
+    ran = from_capture(work / "drawn.pcap", "--host", host, "--done", work / "done")
+    is_same("time", seconds_of_children() - begun < MOST_SECONDS)
+    is_same("timelines", ran.stdout == lines)
+    is_same("what was done", (work / "done").read_text() == (work / "drawn.done").read_text())
     said = [line for line in ran.stderr.splitlines() if re.search(r" was silent: | passed over$| of no answer ", line)]
-    checks.check("drawn races: what is said", "".join(f"{line}\n" for line in said) == (
-        checks.work / "drawn.said").read_text())
-    checks.check("drawn races: he check", run(checks.program, "check", input=lines).returncode == 0)
+    is_same("what is said", "".join(f"{line}\n" for line in said) == (work / "drawn.said").read_text())
+    is_same("he check", run(HE, "check", input=lines).returncode == 0)
 
 
 OWN_DELAYS = {"curl": 200, "go": 300}  # milliseconds: curl's --happy-eyeballs-timeout-ms, and Go's FallbackDelay
 
 
-def try_fit(checks):
+def check_fit():
     """The settings that fit a client: its documented delay is found, and what went by the rules still does."""
     for client in CLIENTS:
         capture = CAPTURES / f"{client}.pcap"
-        ran = from_capture(capture, "--host", HOST, "--fit", "--he", checks.program)
-        fitted = checks.work / "fitted"
+        ran = from_capture(capture, "--host", HOST, "--fit", "--he", HE)
+        fitted = OPTIONS.folder / "fitted"
         fitted.write_text(ran.stdout)
-        checks.check(f"{client} fitted: status", checks.is_sound(ran))
-        parts = [compare(checks.program, text, CAPTURES / f"{client}.done").stdout.splitlines()[:-1]
+        is_same(f"{client} fitted: status", is_sound(ran))
+        parts = [compare(text, CAPTURES / f"{client}.done").stdout.splitlines()[:-1]
                  for text in (CAPTURES / f"{client}.timeline", fitted)]
         rule = re.compile(r"\d+: as the rules have it")
-        checks.check(f"{client} fitted: nothing lost", all(rule.match(after) for before, after in zip(*parts)
-                                                           if rule.match(before)))
+        is_same(f"{client} fitted: nothing lost", all(rule.match(after) for before, after in zip(*parts)
+                                                      if rule.match(before)))
         told = re.findall(r"(?m)^\d+: (?:(?:attempt|resolution|floor) \d[^:]*|the standard's settings): (.*)$",
                           ran.stderr)
-        checks.check(f"{client} fitted: what is said", told == [line.partition(": ")[2] for line in parts[1]])
+        is_same(f"{client} fitted: what is said", told == [line.partition(": ")[2] for line in parts[1]])
         delays = [int(delay) for delay in re.findall(r"(?m)^set attempt (\d+)$", ran.stdout)]
         own = OWN_DELAYS.get(client)
-        checks.check(f"{client} fitted: its delay", all(own <= delay <= own + 3 for delay in delays) and delays if own
-                     else not delays)
-    checks.refused("no program to fit with", [CAPTURES / "curl.pcap", "--fit", "--he", checks.work / "nothing"],
-                   "--fit needs the program he")
+        is_same(f"{client} fitted: its delay", all(own <= delay <= own + 3 for delay in delays) and delays if own
+                else not delays)
+    is_refused("no program to fit with", [CAPTURES / "curl.pcap", "--fit", "--he", OPTIONS.folder / "nothing"],
+               "--fit needs the program he")
 
 
-def try_faults(checks):
-    work, whole = checks.work, (CAPTURES / "curl.pcap").read_bytes()
+def check_faults():
+    work, whole = OPTIONS.folder, (CAPTURES / "curl.pcap").read_bytes()
     host = work / "no-host"
     host.write_text("source 192.0.2.2/24 1\naaaa 0 none\n")
     for name, content, said in (
@@ -129,7 +120,7 @@ def try_faults(checks):
             ("damaged", whole[:24] + b"\xff" * 16 + whole[40:], "damaged or corrupt"),
             ("without-packets", whole[:24], "no race in it")):
         (work / name).write_bytes(content)
-        checks.refused(f"{name} capture", [work / name], said)
+        is_refused(f"{name} capture", [work / name], said)
     kept = CAPTURES / "curl.pcap"
     for name, words, said in (
             ("no such file", [work / "nothing"], "no such file"), ("no capture", [], "FILE"),
@@ -139,31 +130,30 @@ def try_faults(checks):
             ("no such host", [kept, "--host", work / "nothing"], "nothing"),
             ("no such folder", [kept, "--done", work / "nothing/done"], "nothing"),
             ("no such option", [kept, "--nothing"], "--nothing")):
-        checks.refused(name, words, said)
+        is_refused(name, words, said)
 
 
-def try_parts(checks):
+def check_parts():
     """Captures of which a part is missing: what is left is told, and what is missing is said."""
-    kept = CAPTURES / "curl.pcap"
+    work, kept = OPTIONS.folder, CAPTURES / "curl.pcap"
     wanted = from_capture(kept, "--host", HOST).stdout.split("race 1\n")[1]
     for name, filter, said in (
             ("late", "not (dns.flags.response == 0 and frame.number < 4)", "the capture began late"),
             ("no-answer", "not (dns.flags.response == 1 and dns.qry.type == 1)", "no answer for A, so no line"),
             ("no-query", "not dns.qry.type == 1", "no query for A, so no line"),
             ("encrypted", "tcp or icmpv6 or (dns and frame.number < 99)", "to addresses of no answer")):
-        run("tshark", "-r", kept, "-Y", filter, "-w", checks.work / name)
-        ran = from_capture(checks.work / name, "--host", HOST)
-        checks.check(f"{name} capture", checks.is_sound(ran) and said in ran.stderr)
-    run("tshark", "-r", kept, "-Y", "tcp and not dns", "-w", checks.work / "connections")
-    run("editcap", "-s", "110", kept, checks.work / "short")
-    checks.refused("packets cut when captured", [checks.work / "short", "--name", "many.test"],
-                   "more are cut or damaged")
-    checks.refused("connections alone", [checks.work / "connections"], "no race in it")
+        run("tshark", "-r", kept, "-Y", filter, "-w", work / name)
+        ran = from_capture(work / name, "--host", HOST)
+        is_same(f"{name} capture", is_sound(ran) and said in ran.stderr)
+    run("tshark", "-r", kept, "-Y", "tcp and not dns", "-w", work / "connections")
+    run("editcap", "-s", "110", kept, work / "short")
+    is_refused("packets cut when captured", [work / "short", "--name", "many.test"], "more are cut or damaged")
+    is_refused("connections alone", [work / "connections"], "no race in it")
     one = from_capture(kept, "--host", HOST, "--name", "FINE.test.", "--client", "192.0.2.2", "--client", "2001:db8::2")
-    checks.check("one race", one.returncode == 0 and one.stdout == "race 1\n" + wanted)
+    is_same("one race", one.returncode == 0 and one.stdout == "race 1\n" + wanted)
     shown = from_capture(kept)
-    checks.check("no host", checks.is_sound(shown) and "those that the SYNs show" in shown.stderr
-                 and "source 2001:db8::2/64 1\n" in shown.stdout)
+    is_same("no host", is_sound(shown) and "those that the SYNs show" in shown.stderr
+            and "source 2001:db8::2/64 1\n" in shown.stdout)
 
 
 IPS = {"6": "2001:db8::1", "4": "192.0.2.1"}
@@ -195,20 +185,20 @@ def transcript(attempts):
     return "".join([*lines, *(won or [f"limit {rows[-1][3]}\n"])])
 
 
-def try_comparisons(checks):
-    timeline, done = checks.work / "timeline", checks.work / "done"
+def check_comparisons():
+    timeline, done = OPTIONS.folder / "timeline", OPTIONS.folder / "done"
     for number, (ticks, rules, did, wanted) in enumerate(COMPARISONS):
         answers = [f"{word} {tick} {IPS[family]}\n" for word, tick, family in zip(("aaaa", "a"), ticks.split(), "64")]
         timeline.write_text("".join(["race 1\n", *(line for line in answers if " - " not in line), "end\n"]))
         done.write_text(transcript(did))
         told = run(ROOT / "tools/compare-done", timeline, done, input=transcript(rules))
-        checks.check(f"comparison {number}", told.returncode == 0 and told.stdout.startswith(f"1: {wanted}"))
+        is_same(f"comparison {number}", told.returncode == 0 and told.stdout.startswith(f"1: {wanted}"))
     one = transcript(V6)
     for number, (rules, did) in enumerate(((one * 2, one), ("limit\n", one), (one, "nothing\n"), (one, "limit 30\n"))):
         done.write_text(did)
         told = run(ROOT / "tools/compare-done", timeline, done, input=rules)
-        checks.check(f"fault {number}", told.returncode == 1 and not told.stdout
-                     and re.fullmatch(r"compare-done: .*\n", told.stderr))
+        is_same(f"fault {number}", told.returncode == 1 and not told.stdout
+                and re.fullmatch(r"compare-done: .*\n", told.stderr))
 
 
 def short(compared):
@@ -218,13 +208,13 @@ def short(compared):
     raise ValueError(compared)
 
 
-def cells(program, client):
+def cells(client):
     """By the name of a scenario: time to connect, attempts, and the first place where the client leaves the rules."""
     timeline, done = CAPTURES / f"{client}.timeline", CAPTURES / f"{client}.done"
     names = [line.split()[1] for line in (CAPTURES / f"{client}.said").read_text().splitlines()
              if re.match(r"\d+ ", line)]
     races = re.findall(r"((?:attempt .*\n)+)(\w+) .*?(\d+)\n", done.read_text())
-    compared = [line.split(": ", 1)[1] for line in compare(program, timeline, done).stdout.splitlines()[:-1]]
+    compared = [line.split(": ", 1)[1] for line in compare(timeline, done).stdout.splitlines()[:-1]]
     told = {}
     for name, (attempts, result, tick), parts in zip(names, races, compared):
         time = tick if result == "won" else "never"
@@ -232,27 +222,9 @@ def cells(program, client):
     return told
 
 
-def table(program):
-    by_client = {client: cells(program, client) for client in CLIENTS}
+def table():
+    by_client = {client: cells(client) for client in CLIENTS}
     names = dict.fromkeys(name for told in by_client.values() for name in told)
     rows = [["Scenario", *CLIENTS.values()], ["---"] * (len(CLIENTS) + 1)]
     rows += [[f"`{name}`", *(told.get(name, "never, 0: no lookup") for told in by_client.values())] for name in names]
     return "".join(f"| {' | '.join(row)} |\n" for row in rows)
-
-
-def main():
-    he = program(__doc__)
-    if "--table" in sys.argv:
-        print(table(he), end="")
-        return
-    if not shutil.which("tshark"):
-        print("tshark is not there: no captures were tried")
-        return
-    with tempfile.TemporaryDirectory() as work:
-        checks = Checks(he, pathlib.Path(work))
-        for each in (try_clients, try_drawn, try_fit, try_faults, try_parts, try_comparisons):
-            each(checks)
-    checks.end()
-
-
-main()

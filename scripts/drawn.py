@@ -1,47 +1,19 @@
 #!/usr/bin/env python3
-"""Runs a built program over texts that are drawn, and tells where it says something else than a plain reading of the
-rules (scripts/plain.py and the files plain_*.py beside it).
-
-A round is one text: some races, at times with one thing broken. `he order` and `he replay` with 1, 2, 7 and 64 workers
-get it in one piece, then one of the other commands with drawn settings, also as JSON, or `he check --all`, and last one
-of all these in random pieces through a pipe. Output, faults and status are compared. Where they differ, the text is
-made smaller by lines, and kept as a file with what both said. A seed gives the same texts each
-time; each round's seed is told, and `--seed N --rounds 1` repeats it.
+"""Draws races and texts of them, also with something broken.
 
 needs: python3, its standard library alone
-usage: scripts/fuzz PROGRAM [--seconds N] [--rounds N] [--seed N] [--keep FOLDER]
-       scripts/fuzz PROGRAM --large [--seed N]
-           runs one text above 10 MiB, from which size on workers share its races, whole and cut short
-       scripts/fuzz --text RACES [--most BYTES | --largest] [--seed N]
-           writes a text of so many sound races, each of at most so many bytes or as large as may be, and runs nothing
+usage: scripts/drawn.py RACES [--most BYTES | --largest] [--seed N]
+           writes a text of so many sound races, each of at most so many bytes or as large as may be
 """
 import argparse
-import collections
-import contextlib
 import itertools
-import os
-import pathlib
 import random
 import re
 import sys
-import time
-from concurrent.futures import ThreadPoolExecutor
 
 import plain
-import support
-from plain_wanted import WRITTEN, Wanted
 
-NEW_LINE = b"\n"
 HEADER = re.compile(rb"^race [12]$", re.MULTILINE)
-FAULT_LINE = re.compile(rb"^he: (?!line [0-9]+: warning).*\n", re.MULTILINE)
-RUNS = [["order"]] + [["replay", "--workers", str(workers)] for workers in (1, 2, 7, 64)]
-SECONDS_OF_A_RUN = 120
-MOST_SMALLER_TRIES = 400
-ROUNDS_OF_A_REPORT = 1000
-# Of a large text: the races that differ, and the least bytes.
-LARGE_RACES = 30
-LARGE_BYTES = 10 << 20
-
 V6_BLOCKS = ["2001:db8::/32", "2001:db8:1::/64", "2002::/16", "2001::/32", "fc00::/7", "fe80::/10", "fec0::/10",
              "3ffe::/16", "::/96", "::/0", "64:ff9b::/96"]
 V4_BLOCKS = ["198.51.100.0/24", "192.0.2.0/24", "10.0.0.0/8", "192.168.0.0/16", "169.254.0.0/16", "127.0.0.0/8",
@@ -143,13 +115,6 @@ class Drawer(random.Random):
             floors = [10, 10, 50, 100, values["floor"]]
             values["floor"] = min(self.choice(floors), values.get("attempt", plain.SETTINGS["attempt"][1]))
         return [word for name, value in values.items() for word in ("--set", f"{name}={value}")]
-
-    def new_run(self):
-        """A run of one command with drawn settings, or of `check --all`."""
-        command = self.choice([*WRITTEN, "explain", "compare", "check --all"])
-        if command.startswith(("order", "check")):
-            return command.split()
-        return [*command.split(), *self.changes(1 if command == "compare" else 0)]
 
     def setting(self, name):
         least, most = plain.SETTINGS[name][:2]
@@ -440,154 +405,18 @@ def as_text(lines):
     return "".join(f"{line}\n" for line in lines).encode()
 
 
-def run(program, words, text, pieces=None):
-    """What the program writes: its output, its standard error and its status."""
-    if pieces is None:
-        done = support.run(program, *words, input=text, timeout=SECONDS_OF_A_RUN)
-        return done.stdout, done.stderr, done.returncode
-    reading, writing = os.pipe()
-    with ThreadPoolExecutor() as pool, open(reading, "rb") as pipe:
-        pool.submit(feed, open(writing, "wb", buffering=0), text, pieces)
-        done = support.run(program, *words, stdin=pipe, text=False, timeout=SECONDS_OF_A_RUN)
-    return done.stdout, done.stderr, done.returncode
-
-
-def feed(pipe, text, chance):
-    """Writes the text in pieces; a program that has seen enough may close its end."""
-    place = 0
-    with contextlib.suppress(BrokenPipeError), pipe:
-        while place < len(text):
-            size = chance.choice([1, 2, 7, 100, 4096, 65536])
-            pipe.write(text[place:place + size])
-            place += size
-            time.sleep(0 if chance.randrange(3) else 0.0002)
-
-
-def differences(program, text, chance, runs):
-    """The runs that say something else, each with what was wanted and what came."""
-    want, found = Wanted(text), []
-    for words, in_pieces in runs:
-        came = run(program, words, text, chance if in_pieces else None)
-        if words[0] == "check":
-            # (what it says of each, and its warnings, no plain reading tells)
-            came = came[0], b"".join(FAULT_LINE.findall(came[1])), came[2]
-        if came != want.of(words):
-            found.append((words, in_pieces, want.of(words), came))
-    return found
-
-
-def without(parts, differs):
-    """The parts without those that the difference does not need: halves first, then smaller runs, then single ones."""
-    size, tries = max(1, len(parts) // 2), 0
-    while size >= 1 and tries < MOST_SMALLER_TRIES:
-        place = 0
-        while place < len(parts) and tries < MOST_SMALLER_TRIES:
-            shorter = parts[:place] + parts[place + size:]
-            tries += 1
-            if differs(b"".join(shorter)):
-                parts = shorter
-            else:
-                place += size
-        size //= 2
-    return parts
-
-
-def smaller(program, text, chance, runs):
-    """The text without the races, and then without the lines, that the difference does not need."""
-    def differs(shorter):
-        return bool(differences(program, shorter, chance, runs))
-
-    races = without(re.split(rb"(?<=\nend\n)", text), differs)
-    return b"".join(without(b"".join(races).splitlines(keepends=True), differs))
-
-
-def keep(folder, seed, program, text, found, chance):
-    runs = [(words, in_pieces) for words, in_pieces, _, _ in found[:1]]
-    text = smaller(program, text, chance, runs)
-    folder.mkdir(parents=True, exist_ok=True)
-    (folder / f"{seed}.timeline").write_bytes(text)
-    with open(folder / f"{seed}.said", "wb") as file:
-        for words, in_pieces, want, came in differences(program, text, chance, runs) or found:
-            file.write(f"he {' '.join(words)}{', in pieces' if in_pieces else ''}\n".encode())
-            for name, (out, err, status) in (("wanted", want), ("came", came)):
-                file.write(f"-- {name}, status {status}\n".encode() + out + err)
-    print(f"seed {seed}: {len(found)} runs differ; see {folder / str(seed)}.said", flush=True)
-
-
-def fuzz(options):
-    began, rounds, runs_made, differ, races, faults = time.monotonic(), 0, 0, 0, 0, collections.Counter()
-    while rounds < options.rounds and time.monotonic() - began < options.seconds:
-        seed = options.seed + rounds
-        drawer = Drawer(seed)
-        text = drawer.text()
-        runs = [*RUNS, drawer.new_run()]
-        runs = [(words, False) for words in runs] + [(drawer.choice(runs), True)]
-        found = differences(options.program, text, drawer, runs)
-        rounds += 1
-        runs_made += len(runs)
-        races += len(HEADER.findall(text))
-        faults.update(wanted_fault(text))
-        if found:
-            differ += 1
-            keep(options.keep, seed, options.program, text, found, drawer)
-        if rounds % ROUNDS_OF_A_REPORT == 0:
-            print(f"{rounds} texts, {differ} differ", flush=True)
-    told = ", ".join(f"{kind} {amount}" for kind, amount in faults.most_common())
-    print(f"faults: {told or 'none'}")
-    print(f"{rounds} texts from seed {options.seed}, {faults.total()} of them faulty: {races} races begun,"
-          f" {runs_made} runs, {differ} texts differ")
-    return differ
-
-
-def large(options):
-    """The number of runs over a large text, and over one that ends inside a race, that say something else."""
-    drawer = Drawer(options.seed)
-    races = [drawer.large_race() for _ in range(LARGE_RACES)]
-    said = [Wanted(race) for race in races]
-    picks = [drawer.randrange(LARGE_RACES) for _ in range(2 * LARGE_BYTES // min(map(len, races)))]
-    whole = b"".join(races[pick] for pick in picks)
-    cut = len(whole) - drawer.randrange(2, len(races[picks[-1]]))
-    assert cut > LARGE_BYTES
-    line = f"he: line {whole.count(NEW_LINE, 0, cut) + 1}: unfinished\n".encode()
-    found = 0
-    for text, complete, fault in ((whole, picks, b""), (whole[:cut], picks[:-1], line)):
-        for words, in_pieces in [(words, False) for words in RUNS] + [(RUNS[-1], True)]:
-            want = b"".join(said[pick].of(words)[0] for pick in complete), fault, 1 if fault else 0
-            if run(options.program, words, text, drawer if in_pieces else None) != want:
-                found += 1
-                print(f"he {' '.join(words)} differs on {len(text)} bytes{', in pieces' if in_pieces else ''}")
-    print(f"seed {options.seed}: {len(whole)} bytes, {2 * len(RUNS) + 2} runs, {found} differ")
-    return found
-
-
-def wanted_fault(text):
-    """The kind of the text's fault, as a list of none or one; the numbers of policy rows are left out."""
-    fault = plain.read_text(text.decode("latin-1"))[1]
-    return [] if fault is None else [re.sub("rows [0-9]+ and [0-9]+", "rows", fault.kind)]
-
-
 def main():
-    parser = argparse.ArgumentParser(description="Compares a built program with a plain reading of the rules.")
-    parser.add_argument("program", nargs="?")
-    parser.add_argument("--seconds", type=float, default=60)
-    parser.add_argument("--rounds", type=int, default=10**9)
-    parser.add_argument("--seed", type=int, default=1)
-    parser.add_argument("--keep", type=pathlib.Path, default=pathlib.Path("fuzz-found"))
-    parser.add_argument("--large", action="store_true")
-    parser.add_argument("--text", type=int, metavar="RACES")
+    parser = argparse.ArgumentParser(description=__doc__, formatter_class=argparse.RawDescriptionHelpFormatter)
+    parser.add_argument("races", type=int)
     parser.add_argument("--most", type=int, metavar="BYTES")
     parser.add_argument("--largest", action="store_true")
+    parser.add_argument("--seed", type=int, default=1)
     options = parser.parse_args()
-    if options.text is not None:
-        drawer = Drawer(options.seed)
-        text = (b"".join(drawer.largest_race() for _ in range(options.text)) if options.largest
-                else drawer.sound_text(options.text, options.most))
-        sys.stdout.buffer.write(text)
-        return 0
-    if options.program is None:
-        parser.error("the program to run is missing")
-    return 1 if (large if options.large else fuzz)(options) else 0
+    drawer = Drawer(options.seed)
+    text = (b"".join(drawer.largest_race() for _ in range(options.races)) if options.largest
+            else drawer.sound_text(options.races, options.most))
+    sys.stdout.buffer.write(text)
 
 
 if __name__ == "__main__":
-    sys.exit(main())
+    main()

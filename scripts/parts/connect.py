@@ -1,35 +1,25 @@
-#!/usr/bin/env python3
-"""Connects by a built program's `he connect`, in a network of this script's own, and looks at what comes of it: which
-address it takes and when, what it tells, its status and its record, and each byte that is relayed.
+"""Connects by a built program's `he connect`, in a network of its own, and looks at what comes of it: which address it
+takes and when, what it tells, its status and its record.
 
-needs: Linux, python3, its standard library, root and `unshare` for a network and files of hosts and of services of its
-own, else it tries nothing. With dnsmasq it looks names up there, with sshd and ssh it logs in through ProxyCommand,
-with curl and nc it connects to and from those; what isn't there is told, and is no failure.
-usage: scripts/connect PROGRAM [CHECK ..] [--full]    with --full 1,000 connections under faults and transfers of 100 MB
+needs: dnsmasq, to look names up there. With --full it makes 1,000 connections under faults.
 """
 import contextlib
-import fcntl
 import json
 import os
 import pathlib
-import queue
 import random
 import re
-import signal
 import socket
 import statistics
 import subprocess
-import sys
 import tempfile
 import time
 
 import support
-from support import (DEAD_FOUR, DEAD_SIX, FOUR, SIX, TIMEOUT, WIDE_FOUR, answer_digest, digest_of, greet, must, needs,
-                     read_all, serving, set_to_reset, silent, timed, unused_port)
+from support import (A, AAAA, DEAD_FOUR, DEAD_SIX, FOUR, OPTIONS, SERVFAIL, SIX, TIMEOUT, WIDE_FOUR, Zone,
+                     answer_digest, digest_of, greet, must, needs, replayed, serving, silent, timed, unused_port)
 
-HE = support.program(__doc__)
-IS_FULL = "--full" in sys.argv
-SIZE = 100_000_000 if IS_FULL else 20_000_000  # bytes of a transfer
+HE, IS_FULL = OPTIONS.program, OPTIONS.full
 NEAR, ON_LINK = "fe80::1e:1", "fe80::1e:2"  # link-local addresses of this machine, on the ends of its link
 # The file of services, and the port over TCP that it gives a service.
 SERVICE_PORT = 7007
@@ -41,7 +31,7 @@ he-test {SERVICE_PORT}/tcp # as of RFC 6335
 second-name-too {SERVICE_PORT}/tcp first other
 he-test 7008/tcp
 """
-LATE = 0.3  # seconds by which the AAAA answers of a name server of this script are late
+SETUP = support.NETWORK + support.file_of_etc("services", SERVICES)
 DOWN = "127.0.0.99:53"  # where no name server is
 
 
@@ -55,7 +45,7 @@ class Run(support.Run):
             done = support.run(HE, "connect", "--record", record, *words, input=given, timeout=TIMEOUT)
             self.seconds = time.monotonic() - began
             text = record.read_text() if record.exists() else ""
-        super().__init__(done, replayed("replay", text) if replays else "", text)
+        super().__init__(done, replayed(text) if replays else "", text)
         self.words, self.output, self.told = words, done.stdout, done.stderr.decode()
 
     def lines(self):
@@ -71,10 +61,9 @@ class Run(support.Run):
         must(is_right, *self.words, f"status {self.status}, {told}")
 
 
-def replayed(command, record):
-    done = support.run(HE, *command.split(), input=record)
-    must(done.returncode == 0, f"he {command} of the record: {done.stderr!r}: {record!r}")
-    return done.stdout
+def started(*words, **pipes):
+    pipes = {"stdin": subprocess.PIPE, "stdout": subprocess.PIPE, "stderr": subprocess.PIPE, **pipes}
+    return subprocess.Popen([HE, "connect", *map(str, words)], **pipes)
 
 
 def check_takes():
@@ -253,7 +242,7 @@ def check_policy_routing():
         tries([], "far.test", ["198.51.100.9"], [1])
         tries([], "2001:db8:5::1", [], [])
         for six, four in [*((None, four) for four in list(sources)[:4]), (SIX, "198.51.100.77")]:
-            with NameServer(six=six, four=four) as names:
+            with Zone(*filter(None, (six, four))) as names:
                 tries(["--resolver", names.at], "some.zone", [four, *([six] if six else [])], [2, 1])
         told = support.run(HE, "host").stderr
         must("he: not seen: the IPv4 routes of table 51820, " in told, f"he host: {told!r}")
@@ -267,8 +256,7 @@ def check_many_routes():
     """However many routes there are, to connect to an address or to a name takes no longer."""
     count = 80_000 if IS_FULL else 20_000
     routes = "".join(f"route add 10.{n >> 8 & 255}.{n & 255}.{(n >> 16) << 6}/26 dev wan\n" for n in range(count))
-    with made(f"{WAN}; ip link set provider up", "ip link del wan"), NameServer() as names, serving(greet) as port:
-
+    with made(f"{WAN}; ip link set provider up", "ip link del wan"), Zone() as names, serving(greet) as port:
         def least(*words):
             return 1000 * min(Run("-z", *words, port, replays=False).seconds for _ in range(20))
 
@@ -281,28 +269,11 @@ def check_many_routes():
         must(many[what] < few[what] + 20, "more than 20 ms longer")
 
 
-class NameServer(support.NameServer):
-    """A name server at which each name has these addresses, a family of which may come late, be refused by a code, or
-    not be there; `asked` has the types that it was asked for."""
-
-    def __init__(self, six=SIX, four=FOUR, late=0, six_code=0):
-        self.ips, self.late, self.six_code, self.asked = (six, four), late, six_code, set()
-        super().__init__(FOUR)
-
-    def replies(self, query, _):
-        kind = support.kind_of(query)
-        is_six = kind == support.AAAA
-        self.asked.add("aaaa" if is_six else "a")
-        code = self.six_code if is_six else 0
-        records = () if code else support.addresses(kind, *self.ips)
-        return [(self.late if is_six else 0, support.message(query, records, code))]
-
-
 @timed
 def check_late():
     """Where the AAAA answer is late, the IPv4 address is tried when the Resolution Delay is over, and not before; with
     -6 the late answer is waited for."""
-    with NameServer(late=LATE) as names, serving(greet) as port:
+    with Zone(late=0.3) as names, serving(greet) as port:
         run, six = Run("--resolver", names.at, "late.test", port), Run("-6", "--resolver", names.at, "late.test", port)
     at, ip, _ = run.attempts[0]
     run.must(50 <= at < 250 and ip == FOUR, output=b"hello\n", won=FOUR)
@@ -314,14 +285,15 @@ def check_unused_family():
     """A family of which this machine has no address beyond its links is not asked for, and that is told; a name of the
     file of hosts has both all the same."""
     line = "he: 0 ms: A not asked: this machine has no IPv4 address or route beyond its links\n"
-    with NameServer() as names, serving(greet) as port:
+    with Zone() as names, serving(greet) as port:
         both = Run("--resolver", names.at, "both.zone", port)
-        asked, names.asked = names.asked, set()
+        asked = names.kinds()
+        names.seen.clear()
         with made(f"ip address del {WIDE_FOUR}/24 dev here", f"ip address add {WIDE_FOUR}/24 dev here"):
             six = Run("-v", "--resolver", names.at, "both.zone", port)
             told = Run("--explain", "--resolver", names.at, "both.zone", port).told
             known, literal = Run("-z", "both.test", port), Run("-z", FOUR, port)
-    must((asked, names.asked) == ({"a", "aaaa"}, {"aaaa"}), f"asked for {asked}, and without IPv4 for {names.asked}")
+    must((asked, names.kinds()) == ({A, AAAA}, {AAAA}), f"asked for {asked}, and without IPv4 for {names.kinds()}")
     six.must("\na 0 none\n" in six.record and line in six.told, six.status)
     must(line in told, f"--explain {told!r}")
     both.must(line not in both.told, won=FOUR)
@@ -333,7 +305,7 @@ def check_failed_family():
     """Where nothing connects, the line says which family's look-up failed; a name without addresses of the family that
     is asked for alone is no connection."""
     port, at = unused_port(), re.escape(FOUR)
-    with NameServer(six_code=2) as fails, NameServer(six=None) as four:
+    with Zone(six_code=SERVFAIL) as fails, Zone(FOUR) as four:
         failing, lacking = ("--resolver", fails.at, "half.zone", port), ("--resolver", four.at, "four.zone", port)
         told = (f"he: no connection to half.zone port {port}: 1 address tried: {FOUR} refused after \\d+ ms; AAAA: "
                 "[^\n]*\n")
@@ -364,7 +336,7 @@ def check_explained():
     lines = run.told.splitlines()
     story = [line for line in lines if not line.startswith("he: ")]
     look_up = r"(?m)^he: \d+ ms: AAAA answer: 1 address, no name server asked$"
-    run.must(story == replayed("explain", run.record).splitlines() and re.search(look_up, run.told))
+    run.must(story == replayed(run.record, "explain").splitlines() and re.search(look_up, run.told))
     steps.must(SIX in steps.told and FOUR in steps.told)
 
 
@@ -375,7 +347,7 @@ def check_object():
     lost = Run("-z", "--json", FOUR, unused_port())
     for run, status, end in ((won, 0, "won"), (lost, 3, "exhausted")):
         run.must(end in [event["event"] for event in json.loads(run.output)["events"]], status,
-                 output=replayed("explain --json", run.record).encode())
+                 output=replayed(run.record, "explain --json").encode())
 
 
 def check_lines():
@@ -389,154 +361,6 @@ def check_lines():
         wrong = Run("--host", file.name, FOUR, port)
     run.must(run.record.count("source") == 1)
     wrong.must(status=1, told=".*line 3: number.*")
-
-
-def check_transfers():
-    """All bytes come over, each way, and the end of standard input ends the sending alone."""
-    given = random.Random(1).randbytes(SIZE)
-    with serving(answer_digest) as port:
-        there = Run(FOUR, port, given=given)
-    with serving(lambda connection: connection.sendall(given)) as port:
-        back = Run(FOUR, port)
-    print(f"    {SIZE / there.seconds / 1e9:.2f} GB/s there, {SIZE / back.seconds / 1e9:.2f} GB/s back")
-    there.must(output=digest_of(given))
-    back.must(output=given)
-
-
-def read_on(connection, got):
-    """Ends its own way first, and puts the digest of all that comes then."""
-    connection.shutdown(socket.SHUT_WR)
-    got.put(read_all(connection))
-
-
-def check_first_end():
-    """A remote that ends its way first still gets what standard input has."""
-    got, given = queue.SimpleQueue(), random.Random(2).randbytes(SIZE)
-    with serving(lambda connection: read_on(connection, got)) as port:
-        Run(FOUR, port, given=given).must()
-    must(got.get(timeout=TIMEOUT) == (digest_of(given), SIZE), "not all came over")
-
-
-def started(*words, **pipes):
-    pipes = {"stdin": subprocess.PIPE, "stdout": subprocess.PIPE, "stderr": subprocess.PIPE, **pipes}
-    return subprocess.Popen([HE, "connect", *map(str, words)], **pipes)
-
-
-def end_of(running):
-    """The status, and what was told."""
-    return running.wait(TIMEOUT), running.stderr.read()
-
-
-LEFT = b"he: the remote has closed, and standard input was not read to its end\n"
-
-
-@timed
-def check_remote_ends():
-    """It ends soon once the remote has closed, while standard input stays open: a fault at a pipe, of which more may
-    come, and none at a terminal."""
-    for stdin, wanted in [(subprocess.PIPE, (1, LEFT)), (os.openpty()[1], (0, b""))]:
-        with serving(greet) as port, started(FOUR, port, stdin=stdin) as running:
-            began = time.monotonic()
-            end, seconds, output = end_of(running), time.monotonic() - began, running.stdout.read()
-        is_right = (end, output) == (wanted, b"hello\n") and 0.4 < seconds < 2
-        must(is_right, end, "after", seconds, "s,", output)
-
-
-@timed
-def check_pause():
-    """What comes after a pause, once the remote has ended its way, is waited for as long as --wait says; where it comes
-    too late, that is told."""
-    got = queue.SimpleQueue()
-    for words, pause, wanted in [([], 0.2, 0), ([], 1.0, 1), (["--wait", 2000], 1.0, 0), (["--wait", 50], 0.3, 1)]:
-        with serving(lambda connection: read_on(connection, got)) as port, started(*words, FOUR, port) as running:
-            running.stdin.write(b"one\n")
-            running.stdin.flush()
-            time.sleep(pause)
-            with contextlib.suppress(BrokenPipeError):
-                running.stdin.write(b"three\n")
-                running.stdin.close()
-            end = end_of(running)
-        sent, ends = b"one\n" if wanted else b"one\nthree\n", (*end, got.get(timeout=TIMEOUT))
-        must(ends == (wanted, LEFT if wanted else b"", (digest_of(sent), len(sent))), words, pause, "s:", ends)
-
-
-def check_unsent():
-    """Where the remote has closed while more is there, that is told, and how much was not sent."""
-    reading, writing = os.pipe()
-    fcntl.fcntl(writing, fcntl.F_SETPIPE_SZ, 1 << 20)
-    with serving(lambda connection: None) as port, started(FOUR, port, stdin=reading) as running:
-        os.close(reading)
-        time.sleep(0.2)
-        os.write(writing, bytes(500_000))
-        os.close(writing)
-        status, told = end_of(running)
-    found = re.fullmatch(rb"he: the remote has closed, and (\d+) bytes more were not sent\n", told)
-    must(status == 1 and found and 0 < int(found[1]) <= 131_072, status, told)
-
-
-def check_closed_remote():
-    """A remote that closed while more was to come, and resets it, did not get what the system took to send: also where
-    standard input then ends."""
-    for _ in range(20):
-        with serving(lambda connection: None) as port, started(FOUR, port) as running:
-            time.sleep(0.1)
-            running.send_signal(signal.SIGSTOP)  # so that the bytes and the end come at once
-            running.stdin.write(b"hello\n")
-            running.stdin.close()
-            running.send_signal(signal.SIGCONT)
-            end = end_of(running)
-        must(end == (1, b"he: the remote reset the connection: 6 bytes sent, 0 received\n"), end)
-
-
-def check_output_waits():
-    """An output that does not block is waited for, and all comes over."""
-    given, got = random.Random(6).randbytes(3_000_000), b""
-    reading, writing = os.pipe()
-    os.set_blocking(writing, False)
-    with serving(lambda connection: connection.sendall(given)) as port:
-        with started(FOUR, port, stdin=subprocess.DEVNULL, stdout=writing) as running, open(reading, "rb") as output:
-            os.close(writing)
-            while piece := output.read(50_000):
-                got += piece
-                time.sleep(0.005)
-            status, told = end_of(running)
-    must((status, got) == (0, given), status, len(got), "bytes", told)
-
-
-@timed
-def check_reset():
-    """A remote that resets is a fault that tells what went over the connection, and ends it at once."""
-
-    def serve(connection):
-        connection.sendall(b"hello\n")
-        connection.recv(20, socket.MSG_WAITALL)
-        set_to_reset(connection)
-
-    with serving(serve) as port, started(FOUR, port) as running:
-        running.stdout.read(6)
-        running.stdin.write(b"x" * 20)
-        running.stdin.flush()
-        began = time.monotonic()
-        end, seconds = end_of(running), time.monotonic() - began
-    must(end == (1, b"he: the remote reset the connection: 20 bytes sent, 6 received\n") and seconds < 2, end, seconds)
-
-
-def check_reader_stops():
-    """Where standard output is closed, a write to it ends the relay, though standard input stays open: without a word,
-    with status 1. An output that is full is told."""
-
-    def serve(connection):
-        while True:
-            connection.sendall(b"y\n" * 40000)
-
-    with serving(serve) as port, started(FOUR, port) as running:
-        running.stdout.read(10)
-        running.stdout.close()
-        end = end_of(running)
-    must(end == (1, b""), end)
-    with serving(serve) as port, open("/dev/full", "wb") as full, started(FOUR, port, stdout=full) as running:
-        status, told = end_of(running)
-    must(status == 1 and b"cannot write the output" in told, "/dev/full:", status, told)
 
 
 def check_record_file():
@@ -579,21 +403,6 @@ def check_full_disk():
     must(is_right and (kept, names) == ("old\n", ["record", "rest"]), done, kept, names)
 
 
-def check_descriptors():
-    """While it relays it has the three standard descriptors and one socket."""
-
-    def serve(connection):
-        connection.sendall(b"hello\n")
-        connection.recv(1)
-
-    with serving(serve) as port, started("dead6.test", port) as running:
-        running.stdout.read(6)
-        held = sorted(os.readlink(f"/proc/{running.pid}/fd/{fd}") for fd in os.listdir(f"/proc/{running.pid}/fd"))
-        running.stdin.close()
-        status = running.wait(TIMEOUT)
-    must(status == 0 and len(held) == 4 and sum(name.startswith("socket") for name in held) == 1, status, held)
-
-
 @timed
 def check_quick():
     """A name of the file of hosts is connected to within milliseconds."""
@@ -613,39 +422,3 @@ def check_many():
             given = rows.randbytes(rows.choice([0, 1, 100, 70000, 300000]))
             run = Run("--set", "attempt=20", host, at, given=given)
             run.must(not run.won or run.output == digest_of(given), 0 if run.won else 3)
-
-
-def check_curl():
-    """An answer of python's web server is what curl gets of it."""
-    needs("curl")
-    with tempfile.TemporaryDirectory() as folder:
-        pathlib.Path(folder, "page").write_bytes(random.Random(4).randbytes(1_000_000))
-        with support.web_server(folder) as port:
-            got = Run("four.test", port, given=b"GET /page HTTP/1.0\r\n\r\n").output
-            wanted = support.run("curl", "-s", "--noproxy", "*", f"http://{FOUR}:{port}/page", text=False).stdout
-    must(len(wanted) == 1_000_000 and got.endswith(b"\r\n\r\n" + wanted), len(got), "bytes")
-
-
-def check_nc():
-    """nc listens, and gets what standard input has."""
-    needs("nc")
-    port = unused_port()
-    for words in (["-l", FOUR, port], ["-l", "-s", FOUR, "-p", port]):
-        with contextlib.suppress(FileNotFoundError):
-            with support.server_at(port, "nc", *words, stdout=subprocess.PIPE) as server:
-                Run(FOUR, port, given=b"hello\n").must()
-                server.terminate()
-                return must(server.stdout.read() == b"hello\n", "not all came over")
-    raise FileNotFoundError("nc does not listen")
-
-
-def check_ssh():
-    """ssh logs in through ProxyCommand, and all of a file comes over."""
-    with tempfile.TemporaryDirectory() as folder, support.sshd(FOUR, folder) as (port, ssh):
-        given = random.Random(5).randbytes(3_000_000)
-        command = [*ssh, "-o", f"ProxyCommand={HE} connect %h %p", "-p", port, "both.test", "cat"]
-        done = support.run(*command, input=given, timeout=TIMEOUT)
-    must(done.stdout == given, done.returncode, len(done.stdout), "bytes", done.stderr)
-
-
-support.run_checks_in_network(globals(), services=SERVICES)

@@ -1,4 +1,3 @@
-#!/usr/bin/env python3
 """Draws what the kernel might say of a host, right and wrong, and has a built program read it: each file of /proc/net
 and /sys/class/net that `he host` reads, cut, mixed up, made long, or of bytes by chance, the others as recorded.
 
@@ -6,28 +5,27 @@ The program must end by itself, within a time and with little memory: with statu
 a host's, or with one line that says why there are none. Each file is drawn by itself, from the recordings of
 crates/edge_cases/data.
 
-needs: Linux, python3, its standard library alone; root and `unshare`, for /proc and /sys of its own: else it tries
-nothing
-usage: scripts/host-bytes PROGRAM [--seconds 5] [--seed 1] [--reader NAME]    so many seconds for each file, or for one
+Each file is drawn for so many --seconds, up to the first that is wrong, which is kept.
+
+needs: root and `unshare`, for /proc and /sys of its own
 """
-import argparse
 import collections
 import functools
-import os
 import pathlib
 import random
 import re
 import subprocess
-import sys
 import time
 
 import support
-from support import must
+from support import KEPT, OPTIONS, must
 
+SETUP = "".join(f"mount -t tmpfs tmpfs {folder}; mkdir -p {folder}/{inner}\n"
+                for folder, inner in (("/sys", "class/net"), ("/proc", "net")))
+SECONDS = 2
 DATA = support.ROOT / "crates/edge_cases/data"
 NET = ("if_inet6", "ipv6_route", "fib_trie", "route", "dev")
 LINK = ("ifindex", "flags", "carrier", "type")
-READERS = NET + ("sysfs",)
 NEEDED = {"fib_trie", "route", "dev"}  # where one of these isn't there, nothing can be told
 MOST_SECONDS = 5  # processor time of a run
 LONGEST = 600  # seconds of a run by the clock, on a machine with other work
@@ -116,10 +114,10 @@ def drawn(chance, reader, files, links):
     return files, links
 
 
-def judge(program, files, found):
+def judge(files, found):
     """Has the program read the files, and counts what it found; tells the processor time."""
     before = support.seconds_of_children()
-    done = support.run(*bounded(program), "host", text=False, stdin=subprocess.DEVNULL, timeout=LONGEST)
+    done = support.run(*bounded(), "host", text=False, stdin=subprocess.DEVNULL, timeout=LONGEST)
     seconds = support.seconds_of_children() - before
     if done.returncode == 1:
         found["without files"] += 1
@@ -129,42 +127,38 @@ def judge(program, files, found):
     must(done.returncode == 0 and not REMARK.sub(b"", done.stderr), f"status {done.returncode}, {done.stderr[:200]}")
     found["hosts" if done.stdout else "empty hosts"] += 1
     race = b"race 1\n" + done.stdout + b"aaaa 0 none\na 0 none\nend\n"
-    check = support.run(program, "check", input=race, timeout=LONGEST)
+    check = support.run(OPTIONS.program, "check", input=race, timeout=LONGEST)
     must(check.returncode == 0, f"he check: {check.stderr[:300]}")
     must(seconds <= MOST_SECONDS, f"{seconds:.2f} s of processor time")
     return seconds
 
 
-def try_reader(program, reader, seed, seconds):
-    """Draws for so long, up to the first that is wrong, which is kept; tells whether none is."""
-    chance, recorded, found, longest = random.Random(f"{reader} {seed}"), list(recordings()), collections.Counter(), 0
-    end = time.monotonic() + seconds
+def draw_for(reader):
+    chance, recorded, found = random.Random(f"{reader} {OPTIONS.seed}"), list(recordings()), collections.Counter()
+    longest, end = 0, time.monotonic() + (OPTIONS.seconds or SECONDS)
     while time.monotonic() < end:
         files, links = drawn(chance, reader, *chance.choice(recorded))
         put(files, links)
         found["runs"] += 1
         try:
-            longest = max(longest, judge(program, files, found))
+            longest = max(longest, judge(files, found))
         except (ValueError, subprocess.TimeoutExpired) as wrong:
-            kept = pathlib.Path(f"host-bytes-{reader}.found")
-            kept.write_text(repr((files, links)))
-            told = wrong if isinstance(wrong, ValueError) else "does not end"
-            print(f"{reader}: {told}; the files stand in {kept}")
-            return False
+            KEPT.mkdir(exist_ok=True)
+            (KEPT / reader).write_text(repr((files, links)))
+            raise ValueError(f"{wrong}; the files stand in {KEPT / reader}")
     told = ", ".join(f"{count} {name}" for name, count in sorted(found.items()))
-    print(f"{reader}: {told}; at most {longest:.2f} s of processor time", flush=True)
-    return True
+    print(f"    {reader}: {told}; at most {longest:.2f} s of processor time")
 
 
 @functools.cache
-def bounded(program):
+def bounded():
     """The words that run the program with so much memory and processor time."""
-    time_bound = f"ulimit -t {2 * MOST_SECONDS}"
-    words = ["sh", "-c", f'{time_bound}; ulimit -v {MOST_MEMORY}; exec "$0" "$@"', program]
-    if support.run(*words, "--version").returncode == 0:
-        return words
-    print("the program does not start within so little memory: it is tried without that bound")
-    return ["sh", "-c", f'{time_bound}; exec "$0" "$@"', program]
+    for memory in (MOST_MEMORY, "unlimited"):
+        line = f'ulimit -t {2 * MOST_SECONDS}; ulimit -v {memory}; exec "$0" "$@"'
+        words = ["sh", "-c", line, OPTIONS.program]
+        if support.run(*words, "--version").returncode == 0:
+            return words
+        print("    the program does not start within so little memory: it is tried without that bound")
 
 
 def put(files, links):
@@ -182,23 +176,5 @@ def put(files, links):
             folder.joinpath(file).write_bytes(link.get(file, b""))
 
 
-def main():
-    parser = argparse.ArgumentParser(description=__doc__, formatter_class=argparse.RawDescriptionHelpFormatter)
-    parser.add_argument("program")
-    parser.add_argument("--seconds", type=float, default=5)
-    parser.add_argument("--seed", type=int, default=1)
-    parser.add_argument("--reader", choices=READERS)
-    parser.add_argument(support.INSIDE, action="store_true", help=argparse.SUPPRESS)
-    options = parser.parse_args()
-    setup = "".join(f"mount -t tmpfs tmpfs {folder}; mkdir -p {folder}/{inner}\n"
-                    for folder, inner in (("/sys", "class/net"), ("/proc", "net")))
-    if not support.is_inside("-mn", setup, "no namespace can be made: the bytes of a host are not tried"):
-        return 0
-    readers = [options.reader] if options.reader else READERS
-    ends = [try_reader(os.path.abspath(options.program), reader, options.seed, options.seconds) for reader in readers]
-    print(f"{ends.count(True)} passed, {ends.count(False)} failed")
-    return 1 if False in ends else 0
-
-
-if __name__ == "__main__":
-    sys.exit(main())
+check_if_inet6, check_ipv6_route, check_fib_trie, check_route, check_dev, check_sysfs = (
+    functools.partial(draw_for, reader) for reader in (*NET, "sysfs"))

@@ -1,12 +1,8 @@
-#!/usr/bin/env python3
 """Runs races of a built program on real sockets, of this machine alone, and looks from the other side at what it did:
 which address and port it dialled, by what order and floor, when its packets came, what waiting costs, with which
 status it ends, and what it tells of failures. Each record is replayed, and must give its transcript.
 
-needs: Linux, python3, its standard library alone. Where the process may make a network namespace (root, `unshare`),
-races run over IPv6 addresses there; where it may read packets (root), their times are looked at. What cannot be tried
-is told, and is no failure.
-usage: scripts/live PROGRAM [CHECK ..]
+needs: root to run races over IPv6 addresses, and to look at the times of packets
 """
 import pathlib
 import re
@@ -15,15 +11,15 @@ import socket
 import statistics
 import struct
 import subprocess
-import sys
 import tempfile
 import time
 from contextlib import ExitStack, contextmanager, suppress
 
 import support
-from support import INSIDE, has_six, must, silent, timed, unused_port
+from support import OPTIONS, has_six, must, silent, timed, unused_port
 
-HE = support.program(__doc__)
+HE = OPTIONS.program
+SETUP, ANYWHERE = "ip link set lo up", True
 LOOPBACK = "source 127.0.0.1/8 1\nroute 127.0.0.0/8 1\n"
 PREFIX = "fd5c:a1ab:1e::"
 FILL = 0.9  # seconds that a connect is waited for, before the system asks again
@@ -157,7 +153,7 @@ def check_known():
 
 def check_ipv6():
     """The third of four IPv6 addresses listens: it alone is connected to, from the host's source."""
-    if INSIDE not in sys.argv or not has_six():
+    if not OPTIONS.inside or not has_six():
         raise FileNotFoundError("no network namespace can be made, or there is no IPv6")
     for last in (1, 2, 3, 4, 9):
         support.run("ip", "address", "add", f"{PREFIX}{last}/64", "dev", "lo", "nodad", check=True)
@@ -310,7 +306,3 @@ def check_times():
           f"{middle:.2f} ms after its tick")
     is_right = -earliest <= MOST_EARLY and middle <= MOST_LATE and 0 <= min(late) and tick <= MOST_LATE
     must(is_right, "too early or too late: gaps from", min(late), "ms")
-
-
-support.is_inside("-n", "ip link set lo up", "no network of its own can be made")
-support.run_checks(globals())

@@ -1,0 +1,30 @@
+"""Compares docs/ARCHITECTURE.md with the tree: each file, folder and crate that it names is there, and each crate that
+is there is named.
+
+A word in backquotes that begins with src/, specs/ or proofs/ is a file of the crate that was named last before it on
+the line, and one that begins with crates/, docs/, scripts/, tools/, include/ or completions/ a file of the tree.
+"""
+import re
+
+from support import ROOT, tell
+
+
+def check_names():
+    crates = {folder.name for folder in (ROOT / "crates").iterdir() if (folder / "src").is_dir()}
+    named = set()
+    for number, line in enumerate((ROOT / "docs/ARCHITECTURE.md").read_text().splitlines(), 1):
+        crate = None
+        for word in re.findall(r"`([^`\s]+)`|\b(he_[a-z_]+|[a-z]+_[a-z_]+|cases|refusing)\b", line):
+            word = word[0] or word[1]
+            if word in crates or re.fullmatch(r"he_[a-z_]+", word):
+                crate, place = word, f"crates/{word}"
+                named.add(word)
+            elif crate and re.match(r"(src|specs|proofs|data|must-fail|more-edits)/.", word):
+                place = f"crates/{crate}/{word}"
+            elif re.match(r"(crates|docs|scripts|tools|include|completions)/.", word):
+                place = word
+            else:
+                continue
+            tell((ROOT / place).exists(), f"docs/ARCHITECTURE.md:{number}: {place} is not there")
+    unnamed = sorted(crate for crate in crates - named if not crate.endswith("_tests"))
+    tell(not unnamed, "docs/ARCHITECTURE.md does not name", *unnamed)

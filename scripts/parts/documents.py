@@ -1,0 +1,130 @@
+"""Runs the command lines that stand in README.md, docs/ and the manual page, and compares what they print with what is
+written below them. A file that one page makes is there for the pages behind it, of which README.md is the last.
+
+A line that begins with `$ ` is run by a shell, with the built program as `he`; the lines behind it, up to the next
+one or the block's end, are what standard output and standard error must hold. A `$ cat FILE` whose file isn't there
+yet makes the file. An image `docs/NAME.svg` must be what `he draw --svg NAME.timeline` draws then. Where `he live`
+runs, a server listens at port 8080 of 127.0.0.1, and ticks may differ by 100, at a second try at the latest (a busy
+machine is late); where that port is taken, these lines are not tried. Of the other lines of the shell blocks of README
+and LIBRARY those that begin with `he` must end with status 0, and those that begin with `make` must name a target; of
+those that look for a host on the network, or never end, only the words are tried.
+"""
+import contextlib
+import os
+import re
+import subprocess
+
+import support
+from support import DATA, OPTIONS, ROOT, tell
+
+PORT = 8080
+MOST_TICKS_APART = 100
+
+
+def blocks_of_markdown(text, kind="text"):
+    return re.findall(rf"^```{kind}\n(.*?)^```$", text, re.MULTILINE | re.DOTALL)
+
+
+def blocks_of_page(text):
+    """The blocks of a manual page between .EX and .EE, with its escapes undone."""
+    blocks = re.findall(r"^\.EX\n(.*?)^\.EE$", text, re.MULTILINE | re.DOTALL)
+    return [block.replace("\\-", "-").replace("\\(aq", "'").replace("\\(ha", "^") for block in blocks]
+
+
+def shell_lines(text):
+    """The lines of the shell blocks of a text, without their comments."""
+    return [line.split("  #")[0].strip() for block in blocks_of_markdown(text, "sh") for line in block.splitlines()]
+
+
+def commands_of(block):
+    """Pairs of a command line and what is written below it."""
+    commands = []
+    for line in block.splitlines(keepends=True):
+        if line.startswith("$ "):
+            commands.append((line[2:].strip(), []))
+        elif commands:
+            commands[-1][1].append(line)
+    return [(command, "".join(lines)) for command, lines in commands]
+
+
+def is_alike(printed, written, has_raced):
+    """Whether both are the same; behind a race their ticks may be a little apart."""
+    one, other = printed.split(), written.split()
+    return printed == written or has_raced and len(one) == len(other) and all(map(are_near, one, other))
+
+
+def are_near(x, y):
+    return x == y or x.isdigit() and y.isdigit() and abs(int(x) - int(y)) <= MOST_TICKS_APART
+
+
+def run(command, folder):
+    """What the command prints in the folder, where `he` is the program, and its status."""
+    done = support.run("sh", "-c", command, cwd=folder, capture_output=False, stdout=subprocess.PIPE,
+                       stderr=subprocess.STDOUT)
+    return done.stdout, done.returncode
+
+
+def tried(line):
+    """The line as it is run: one that looks for a host on the network, or never ends, asks for help after its words."""
+    return f"{line.split(' <')[0]} --help" if line.startswith(("he names", "he connect", "he proxy")) else line
+
+
+def run_shell_lines(text, folder):
+    """Runs the lines of the shell blocks, `make` without doing anything; of each what is wrong, or None."""
+    for line in shell_lines(text):
+        word = line.split(" ")[0]
+        if word in ("he", "make"):
+            printed, status = run(tried(line), folder) if word == "he" else run(f"make -n{line[4:]}", ROOT)
+            yield f"{line}\nends with status {status}\n{printed}" if status else None
+
+
+def try_block(block, folder, is_live):
+    """As run_block: a block with `he live` once more where it isn't right, and not at all where its port is taken."""
+    if "he live" in block and not is_live:
+        print(f"port {PORT} is taken: a block with he live is not tried")
+        return []
+    ends = list(run_block(block, folder))
+    if "he live" in block and any(ends):
+        print("tried again: machine busy")
+        ends = list(run_block(block, folder))
+    return ends
+
+
+def run_block(block, folder):
+    """Runs the commands of one block in order; of each what is wrong, or None."""
+    has_raced = False
+    for command, written in commands_of(block):
+        file = re.fullmatch(r"cat (\S+)", command)
+        if file and not (folder / file[1]).exists():
+            (folder / file[1]).write_text(written)
+            continue
+        has_raced = has_raced or "he live" in command
+        printed, _ = run(command, folder)
+        is_right = is_alike(printed, written, has_raced)
+        yield None if is_right else f"$ {command}\nprints\n{printed}where stands\n{written}"
+
+
+def check_pages():
+    folder = OPTIONS.folder
+    (folder / "bin").mkdir()
+    (folder / "bin/he").symlink_to(OPTIONS.program)
+    os.environ["PATH"] = f"{folder}/bin:{os.environ['PATH']}"
+    # What `he proxy --record day/` leaves.
+    record = folder / "day/2026-01-02/12-00-00.000-example.org-443.timeline"
+    record.parent.mkdir(parents=True)
+    record.write_bytes((DATA / "ipv6-late-but-within-delay-leads.timeline").read_bytes())
+    with contextlib.ExitStack() as held:
+        is_live = False
+        with contextlib.suppress(OSError):
+            is_live = held.enter_context(support.listener_at("127.0.0.1", PORT)) is not None
+        for page in [*sorted((ROOT / "docs").glob("*.md")), ROOT / "docs/he.1", ROOT / "README.md"]:
+            text = page.read_text()
+            blocks = blocks_of_page(text) if page.suffix == ".1" else blocks_of_markdown(text)
+            ends = [end for block in blocks for end in try_block(block, folder, is_live)]
+            if page.name in ("README.md", "LIBRARY.md"):
+                ends += run_shell_lines(text, folder)
+            for end in ends:
+                tell(end is None, f"{page.relative_to(ROOT)}: {end}")
+    for image in sorted((ROOT / "docs").glob("*.svg")):
+        drawn, status = run(f"he draw --svg {image.stem}.timeline", folder)
+        tell(status == 0 and drawn == image.read_text(), f"{image.relative_to(ROOT)} is not what is drawn")

@@ -1,0 +1,462 @@
+"""Connects through a built program's `he proxy`, in a network of its own, as a client of SOCKS 5 and of HTTP CONNECT,
+and looks at what comes of it: the replies, the records, the log, and what is left open.
+"""
+import contextlib
+import datetime
+import json
+import os
+import pathlib
+import random
+import re
+import signal
+import socket
+import struct
+import subprocess
+import tempfile
+import time
+import unittest.mock
+
+import support
+from support import (DEAD_SIX, FOUR, OPTIONS, TIMEOUT, WIDE_FOUR, comes, greet, must, needs, serving, set_to_reset,
+                     silent, timed, unused_port)
+
+HE = OPTIONS.program
+SETUP = support.NETWORK
+SOON = 5.0  # seconds in which anything that needs no wait is over
+ALL = 1 << 20  # bytes, more than come
+RECORD = re.compile(r"\d{4}-\d\d-\d\d/\d\d-\d\d-\d\d\.\d{3}-(.+?)-(\d+)(?:-\d+)?\.timeline")
+INSTANT = r"\d{4}-\d\d-\d\dT\d\d:\d\d:\d\d\.\d{3}Z"
+LINE = re.compile(rf"time={INSTANT} client=\S+ host=\S* port=\d+ .*end=.+")
+
+
+class Proxy:
+    """A proxy that runs: its port, the folder of its records, and what it told."""
+
+    def __init__(self, *words, at=FOUR, limits=None, earlier=()):
+        self.words, self.at, self.port, self.limits, self.earlier = words, at, unused_port(at), limits, earlier
+
+    def __enter__(self):
+        self.folder = tempfile.TemporaryDirectory()
+        self.records, self.told = (pathlib.Path(self.folder.name, name) for name in ("day", "told"))
+        for name in self.earlier:  # records that are there at its start
+            path = self.records / name
+            path.parent.mkdir(parents=True, exist_ok=True)
+            path.write_text("race 1\nend\n")
+        words = [HE, "proxy", "--listen", f"{self.at}:{self.port}", "--record", self.records, *self.words]
+        with open(self.told, "wb") as told:
+            self.running = subprocess.Popen([str(word) for word in words], stdin=subprocess.DEVNULL,
+                                            stdout=subprocess.DEVNULL, stderr=told, preexec_fn=self.limits)
+        must(support.is_up(self.running, lambda: support.is_listening(self.port)),
+             f"the proxy does not listen: {self.said()!r}")
+        return self
+
+    def __exit__(self, *_):
+        self.running.kill()
+        self.running.wait()
+        self.folder.cleanup()
+
+    def said(self):
+        return self.told.read_text()
+
+    def lines(self):
+        """The lines of sessions that it told."""
+        return [line for line in self.said().splitlines() if LINE.fullmatch(line)]
+
+    def files(self):
+        return sorted(self.records.rglob("*.timeline"))
+
+    def descriptors(self):
+        return len(os.listdir(f"/proc/{self.running.pid}/fd"))
+
+    def memory(self):
+        """Its resident memory, in kB."""
+        status = pathlib.Path(f"/proc/{self.running.pid}/status").read_text()
+        return int(re.search(r"VmRSS:\s+(\d+) kB", status)[1])
+
+    def seconds_used(self):
+        fields = pathlib.Path(f"/proc/{self.running.pid}/stat").read_text().rsplit(")", 1)[1].split()
+        return (int(fields[11]) + int(fields[12])) / os.sysconf("SC_CLK_TCK")
+
+    def connect(self, seconds=TIMEOUT):
+        client = socket.create_connection((FOUR, self.port), timeout=seconds)
+        client.setsockopt(socket.IPPROTO_TCP, socket.TCP_NODELAY, 1)
+        return client
+
+    def ask(self, host, port, count=0, seconds=TIMEOUT):
+        """The code of the reply to a SOCKS request, and so many bytes, or all, of what comes behind it."""
+        with self.connect(seconds) as client:
+            return socks(client, host, port), get(client, count)
+
+    def answer(self, given):
+        """All that it answers to these bytes; where it does not end, the error."""
+        with self.connect(SOON) as client:
+            client.sendall(given)
+            try:
+                return all_of(client)
+            except (ConnectionResetError, TimeoutError) as error:
+                return repr(error).encode()
+
+
+# What a client sends
+
+
+def destination(host, port):
+    """The address and the port of a SOCKS request (RFC 1928 section 4)."""
+    for family, kind in ((socket.AF_INET, 1), (socket.AF_INET6, 4)):
+        with contextlib.suppress(OSError):
+            return bytes([kind]) + socket.inet_pton(family, host) + struct.pack(">H", port)
+    return bytes([3, len(host)]) + host.encode() + struct.pack(">H", port)
+
+
+def get(client, count):
+    """So many bytes; fewer where the other side closes."""
+    got = b""
+    while len(got) < count and (piece := client.recv(count - len(got))):
+        got += piece
+    return got
+
+
+def socks(client, host, port, early=b""):
+    """The code of the reply to a SOCKS request; None where there is none."""
+    client.sendall(b"\5\1\0")
+    if get(client, 2) != b"\5\0":
+        return None
+    client.sendall(b"\5\1\0" + destination(host, port) + early)
+    reply = get(client, 4)
+    if len(reply) < 4:
+        return None
+    get(client, {1: 6, 4: 18}[reply[3]])
+    return reply[1]
+
+
+def head_of(client):
+    """The status of an HTTP response, and its head."""
+    head = b""
+    while not head.endswith(b"\r\n\r\n") and (piece := client.recv(1)):
+        head += piece
+    found = re.match(rb"HTTP/1\.1 (\d{3}) ", head)
+    return int(found[1]) if found else None, head
+
+
+def tunnel(client, host, port, early=b""):
+    authority = f"[{host}]:{port}" if ":" in host else f"{host}:{port}"
+    client.sendall(f"CONNECT {authority} HTTP/1.1\r\nHost: {authority}\r\n\r\n".encode() + early)
+    return head_of(client)[0]
+
+
+def all_of(client):
+    return b"".join(iter(lambda: client.recv(1 << 17), b""))
+
+
+def end_of(client):
+    """What comes next, and after how many seconds."""
+    began = time.monotonic()
+    return client.recv(10), time.monotonic() - began
+
+
+# Servers
+
+
+def echo(connection):
+    while piece := connection.recv(1 << 16):
+        connection.sendall(piece)
+
+
+def must_close(proxy, held, seconds=SOON):
+    """Soon it has no more descriptors than before."""
+    is_closed = comes(lambda: proxy.descriptors() == held, seconds)
+    must(is_closed, f"{proxy.descriptors()} descriptors, {held} before: {proxy.said()!r}")
+
+
+# Checks
+
+
+def check_takes():
+    """By both protocols the address that answers is taken, each record has its target in its name and replays to it."""
+    for ask in (socks, tunnel):
+        for address, host, wanted in support.TAKEN:
+            with Proxy() as proxy, serving(greet, address) as port, proxy.connect() as client:
+                code, got, what = ask(client, host, port), all_of(client), f"{ask.__name__} {host}:"
+                must(code in (0, 200) and got == b"hello\n", what, code, got, repr(proxy.said()))
+                must(comes(lambda: len(proxy.files()) == 1, SOON), what, "records", proxy.files())
+                record, = proxy.files()
+                found = RECORD.fullmatch(str(record.relative_to(proxy.records)))
+                name = re.sub(r"[^A-Za-z0-9.:-]", "_", host)
+                must(found and found.groups() == (name, str(port)), what, "record", record)
+                transcript = support.replayed(record.read_text())
+                is_right = support.attempts_of(transcript)[-1][1:] == (wanted, "won") and "\nwon " in transcript
+                must(is_right, what, transcript)
+
+
+# Is 15 ms late after each attempt begins, as a busy machine may be; port 9 is that of no attempt.
+LATE = """
+#include <netinet/in.h>
+#include <sys/syscall.h>
+#include <unistd.h>
+int connect(int socket, const struct sockaddr *to, socklen_t length)
+{
+    int end = syscall(SYS_connect, socket, to, length);
+    usleep(((const struct sockaddr_in *)to)->sin_port == htons(9) ? 0 : 15000);
+    return end;
+}
+"""
+
+
+def check_greets():
+    """The end of a server that greets and closes is passed on, also by a proxy that is late."""
+    needs("cc")
+    library = OPTIONS.folder / "late.so"
+    subprocess.run(["cc", "-shared", "-fPIC", "-o", library, "-xc", "-"], input=LATE.encode(), check=True)
+    for ask in (socks, tunnel):
+        with (unittest.mock.patch.dict(os.environ, LD_PRELOAD=str(library)), Proxy() as proxy, serving(greet) as port,
+              proxy.connect(SOON) as client):
+            code, got = ask(client, "both.test", port), all_of(client)
+            must(code in (0, 200) and got == b"hello\n", ask.__name__, code, got)
+
+
+def check_pieces():
+    """A request that comes byte by byte is read, and what comes after it is the server's."""
+    for given in (b"\5\2\0\2" + b"\5\1\0" + b"%s", b"CONNECT four.test:%d HTTP/1.1\r\nHost: a\r\n\r\n"):
+        with Proxy() as proxy, serving(echo) as port, proxy.connect() as client:
+            text = given % (destination("four.test", port) if given[0] == 5 else port)
+            for byte in text + b"early":
+                client.sendall(bytes([byte]))
+                time.sleep(0.001)
+            head = get(client, 12) if given[0] == 5 else head_of(client)[1]
+            got = get(client, 5)
+        must(got == b"early", f"{text!r}: {head!r}, {got!r}")
+
+
+def check_early():
+    """What a client sends with its request goes to the server first, however much it is."""
+    for seed, ask in enumerate((socks, tunnel), 1):
+        early = random.Random(seed).randbytes(9_000)
+        with Proxy() as proxy, serving(echo) as port, proxy.connect() as client:
+            code = ask(client, "both.test", port, early)
+            got = get(client, len(early))
+        must(code in (0, 200) and got == early, f"{ask.__name__}: {code}, {len(got)} bytes")
+
+
+def check_refusals():
+    """What isn't served is refused by its protocol's reply."""
+    with Proxy() as proxy:
+        for given, wanted in [
+            (b"\4\1\0\x50\x7f\0\0\1user\0", rb"\x00\x5b.{6}"),
+            (b"\5\1\2", rb"\x05\xff"),
+            (b"\5\1\0\5\2\0" + destination(FOUR, 80), rb"\x05\x00\x05\x07.{8}"),
+            (b"\5\1\0\5\1\0\x09\0\0\0\0\0\x50", rb"\x05\x00\x05\x08.{8}"),
+            (b"\5\1\0\5\1\0" + destination(FOUR, proxy.port), rb"\x05\x00\x05\x02.{8}"),
+            (b"CONNECT 127.0.0.1:%d HTTP/1.1\r\n\r\n" % proxy.port, rb"HTTP/1\.1 403 .*"),
+            (b"CONNECT no.port HTTP/1.1\r\n\r\n", rb"HTTP/1\.1 400 .*"),
+            (b"CONNECT a:0 HTTP/1.1\r\n\r\n", rb"HTTP/1\.1 400 .*"),
+            (b"CONNECT a:65536 HTTP/1.1\r\n\r\n", rb"HTTP/1\.1 400 .*"),
+            (b"GET http://example.org/ HTTP/1.1\r\nHost: example.org\r\n\r\n", rb"HTTP/1\.1 501 .*socks5h://.*"),
+            (b"POST / HTTP/1.1\r\n\r\n", rb"HTTP/1\.1 501 .*"),
+            (b"\x16\3\1\0\5\1\0\0\1\0", rb""),
+        ]:
+            got = proxy.answer(given)
+            must(re.fullmatch(wanted, got, re.S), f"{given!r}: {got!r}")
+
+
+def check_failures():
+    """Where nothing connects, the code says why; HTTP has the reason as a text."""
+    refused = unused_port()
+    with Proxy("--set", "limit=400") as proxy, serving(greet) as port, silent(DEAD_SIX, refused):
+        for host, at, code, status, reason in [
+            ("four.test", refused, 5, 502, rb"refused"), ("dead.test", port, 4, 504, rb"in time"),
+            ("no.such.name.test", port, 4, 502, rb"no address|name"), ("-bad-.test", port, 4, 502, rb"."),
+        ]:
+            found, _ = proxy.ask(host, at)
+            answer = proxy.answer(b"CONNECT %s:%d HTTP/1.1\r\n\r\n" % (host.encode(), at))
+            is_right = found == code and answer.startswith(b"HTTP/1.1 %d " % status)
+            must(is_right, f"{host}: {found}, {answer!r}, {proxy.said()!r}")
+            must(re.search(reason, answer.split(b"\r\n\r\n", 1)[1]), f"{host}: no reason in {answer!r}")
+
+
+def check_leaves():
+    """A client that goes away ends its race, and nothing is left open."""
+    with Proxy() as proxy, serving(greet) as port:
+        held = proxy.descriptors()
+        for ask in (socks, tunnel):
+            with proxy.connect(0.2) as client:
+                with contextlib.suppress(TimeoutError):
+                    ask(client, "dead.test", port)
+                must(proxy.descriptors() > held, f"no race runs: {proxy.said()!r}")
+            must_close(proxy, held)
+
+
+def check_server_resets():
+    """A server that resets ends its client's connection."""
+    def reset(connection):
+        connection.sendall(b"hello\n")
+        connection.recv(1)
+        set_to_reset(connection)
+
+    with Proxy() as proxy, serving(reset) as port:
+        held = proxy.descriptors()
+        with proxy.connect(SOON) as client:
+            socks(client, FOUR, port)
+            get(client, 6)
+            client.sendall(b"x")
+            with contextlib.suppress(ConnectionResetError):
+                must(not client.recv(1), "more came")
+            must_close(proxy, held)
+
+
+# What is asked for, what is sent, and what the line of the session has behind both.
+LOGGED = [("four.test", b"five5", rf"winner={re.escape(FOUR)} ms=\d+ lost=\d+ sent=5 received=5 end=closed"),
+          ("no.such.name.test", b"", r"fault=no-host sent=0 received=0 end=\S+")]
+
+
+def check_log():
+    """A session has one line, with what it asked for, who won, and its bytes; with --log-json an object."""
+    for words in ((), ("--log-json",), ("-q",)):
+        with serving(echo) as port, Proxy(*words) as proxy:
+            def told(is_begun=False):
+                return [line for line in proxy.said().splitlines() if line.startswith("he: ") == is_begun]
+
+            wanted = []
+            for host, sent, end in LOGGED:
+                with proxy.connect() as client:
+                    asked = "client={}:{}".format(*client.getsockname()) + f" host={host} port={port} "
+                    wanted.append(f"time=({INSTANT}) {re.escape(asked)}{end}")
+                    socks(client, host, port)
+                    client.sendall(sent)
+                    get(client, len(sent))
+                comes(lambda: len(told()) == len(wanted), 0.3 if "-q" in words else SOON)
+            begun, lines = told(True), told()
+        must(begun == ([] if words else [f"he: listening at {FOUR}:{proxy.port}"]), words, begun)
+        if "-q" in words:
+            must(not lines, words, lines)
+            continue
+        must(len(lines) == len(wanted), words, lines)
+        for line, form in zip(lines, wanted):
+            if words:
+                line = " ".join(f"{name}={value}" for name, value in json.loads(line, object_pairs_hook=list))
+            found = re.fullmatch(form, line)
+            must(found, words, line, "not", form)
+            when = datetime.datetime.fromisoformat(found[1].replace("Z", "+00:00"))
+            must(abs(time.time() - when.timestamp()) < 60, words, line)
+
+
+def check_starts():
+    """An address that is taken, or that is not loopback without --allow, is refused at the start, with the reason."""
+    with support.listener_at(FOUR) as taken:
+        port = taken.getsockname()[1]
+        for words, status, wanted in [
+            (["--listen", f"{FOUR}:{port}"], 1, rf"he: .*{re.escape(FOUR)}:{port}.*\n"),
+            (["--listen", f"{WIDE_FOUR}:{unused_port()}"], 1, r"he: .*--allow.*\n"),
+            (["--listen", f"{FOUR}:0"], 2, r"error: .*"), (["--listen", FOUR], 2, r"error: .*"),
+            (["--allow", "192.0.2.1/24"], 2, r"error: .*"), (["--most", "0"], 2, r"error: .*"),
+            (["--record", "/proc/no"], 1, r"he: .*/proc/no.*\n"),
+        ]:
+            listen = [] if "--listen" in words else ["--listen", f"{FOUR}:{unused_port()}"]
+            done = support.run(HE, "proxy", *listen, *words, timeout=SOON)
+            is_right = done.returncode == status and re.fullmatch(wanted, done.stderr, re.S)
+            must(is_right, f"{words}: status {done.returncode}, {done.stderr!r}")
+
+
+def check_allow():
+    """A client of another network is served where --allow has it, and reaches private addresses by --allow-private."""
+    for allow, private, code in [(f"{WIDE_FOUR}/32", [], 2), (f"{WIDE_FOUR}/32", ["--allow-private"], 0),
+                                 ("192.0.2.0/24", ["--allow-private"], None)]:
+        found = None
+        with serving(greet) as port, Proxy("--allow", allow, *private, at=WIDE_FOUR) as proxy:
+            at = (WIDE_FOUR, proxy.port)
+            with socket.create_connection(at, TIMEOUT, source_address=(WIDE_FOUR, 0)) as client:
+                with contextlib.suppress(OSError):
+                    found = socks(client, FOUR, port)
+        # (a client of an address of this machine is one of this machine)
+        must(found in (code, 0), allow, *private, f"{found}, not {code}")
+
+
+def check_most():
+    """As many sessions as --most says run at once; the next one is served when one ends."""
+    with Proxy("--most", 3) as proxy, serving(echo) as port, contextlib.ExitStack() as held:
+        clients = [held.enter_context(proxy.connect()) for _ in range(3)]
+        codes = [socks(client, FOUR, port) for client in clients]
+        late = held.enter_context(proxy.connect(0.4))
+        late.sendall(b"\5\1\0")
+        with contextlib.suppress(TimeoutError):
+            got = late.recv(2)
+            must(False, f"{codes}, and a fourth has {got!r}")
+        late.settimeout(SOON)
+        clients[0].close()
+        must(get(late, 2) == b"\5\0", "the fourth is not served")
+
+
+def check_few_descriptors():
+    """Without a descriptor left no processor time is burnt, and once there are some again clients are served."""
+    with Proxy(limits=support.limit("NOFILE", 32)) as proxy, serving(echo) as port:
+        with contextlib.ExitStack() as held:
+            for _ in range(60):
+                held.enter_context(proxy.connect())
+            time.sleep(0.5)
+            before = proxy.seconds_used()
+            time.sleep(1.5)
+            used = proxy.seconds_used() - before
+        must(used <= 0.3, f"{used:.1f} s of processor time in 1.5 s: {proxy.said()[-300:]!r}")
+
+        def is_served():
+            with contextlib.suppress(OSError):
+                return proxy.ask(FOUR, port, seconds=SOON)[0] == 0
+            return False
+
+        must(comes(is_served), f"not served again: {proxy.said()[-300:]!r}")
+
+
+@timed
+def check_late_request():
+    """A client that says nothing is let go after ten seconds."""
+    with Proxy() as proxy, proxy.connect() as client:
+        client.sendall(b"\5\1")
+        got, seconds = end_of(client)
+    must(got == b"" and 9 < seconds < 13, f"{got!r} after {seconds:.1f} s")
+
+
+@timed
+def check_idle():
+    """With --idle a tunnel on which nothing comes is closed, and one on which something comes is not."""
+    with Proxy("--idle", 1) as proxy, serving(echo) as port, proxy.connect(SOON) as client:
+        socks(client, FOUR, port)
+        for _ in range(6):
+            time.sleep(0.4)
+            client.sendall(b"x")
+            must(client.recv(1) == b"x", "closed while bytes came")
+        got, seconds = end_of(client)
+    must(got == b"" and 0.8 < seconds < 3, f"{got!r} after {seconds:.1f} s")
+
+
+def check_signals():
+    """SIGTERM and SIGINT end it at once, and what was raced is recorded."""
+    for number in (signal.SIGTERM, signal.SIGINT):
+        with Proxy() as proxy, serving(echo) as port, proxy.connect() as client:
+            code = socks(client, FOUR, port)
+            proxy.running.send_signal(number)
+            proxy.running.wait(SOON)
+            must(code == 0 and len(proxy.files()) == 1, f"signal {number}: {code}, records {proxy.files()}")
+
+
+def check_record_most():
+    """Of the records so many are kept, and the oldest days go first."""
+    earlier = [f"{day}/00-00-0{n}.000-a-1.timeline" for day in ("2001-01-01", "2001-01-02") for n in range(4)]
+    with Proxy("--record-most", 10, earlier=earlier) as proxy, serving(greet) as port:
+        for _ in range(8):
+            proxy.ask(FOUR, port, ALL)
+        is_kept = comes(lambda: sum(path.parent.name[:4] != "2001" for path in proxy.files()) == 8, SOON)
+        must(is_kept and not (proxy.records / "2001-01-01").exists(), proxy.files())
+
+
+def check_pages():
+    """The configuration for browsers, and the page of the last races, are there for this machine under the proxy's own
+    name alone."""
+    with Proxy() as proxy, serving(greet) as port:
+        proxy.ask("four.test", port, ALL)
+        own = f"{FOUR}:{proxy.port}"
+        for path, host, status, wanted in [
+            ("/proxy.pac", own, 200, [f"SOCKS5 {own}"]), ("/", own, 200, ["four.test", "class='won'"]),
+            ("/", "evil.example", 501, []),
+        ]:
+            got = proxy.answer(f"GET {path} HTTP/1.1\r\nHost: {host}\r\n\r\n".encode())
+            is_right = got.startswith(b"HTTP/1.1 %d " % status) and all(text.encode() in got for text in wanted)
+            must(is_right, f"{path} of {host}: {got[:300]!r}")

@@ -1,0 +1,114 @@
+"""Connects through a built program's `he proxy` by names, and looks at what it keeps: answers of name servers, by the
+queries that these see, and what is known of addresses.
+"""
+import contextlib
+import pathlib
+import re
+import tempfile
+import threading
+import time
+from concurrent.futures import ThreadPoolExecutor
+
+import support
+from parts.proxy import HE, SOON, Proxy, destination, socks
+from support import FOUR, SIX, Zone, comes, greet, must, serving, unused_port
+
+SETUP = support.NETWORK
+
+
+def check_kept_answers():
+    """Answers of name servers serve later races for their TTL; that there is no such name does so for 5 seconds."""
+    with Zone() as zone, Proxy("--resolver", zone.at) as proxy, serving(greet) as port:
+        def reach(name, wanted, queries):
+            code, _ = proxy.ask(f"{name}.test.", port, seconds=SOON)
+            must(code == wanted, f"{name}: {code}, not {wanted}: {proxy.said()!r}")
+            # (that there is no such name is known by the first of both answers)
+            if queries is not None:
+                comes(lambda: zone.asked(name) >= queries, SOON)
+                must(zone.asked(name) == queries, f"{name}: {zone.asked(name)} queries, not {queries}")
+
+        for name, wanted, queries in (("minute", 0, 2), ("none", 0, 6), ("lacks", 4, 2)):
+            for so_far in (None, None, queries):
+                reach(name, wanted, so_far)
+        last = proxy.files()[-1].read_text()
+        time.sleep(5.5)
+        reach("lacks", 4, 4)
+    must("exhausted" in support.run(HE, "replay", input=last).stdout, f"a record: {last!r}")
+
+
+class Slow(Zone):
+    """A zone that is told after 300 ms; `half` has no answer for IPv4."""
+
+    def replies(self, query, stream):
+        is_told = support.labels_of(query)[0] != "half" or support.kind_of(query) == support.AAAA
+        return [(0.3, reply) for _, reply in super().replies(query, stream) if is_told]
+
+
+def check_shared_look_ups():
+    """Races that begin while another one asks for their host wait for its answers: name servers see two queries. Where
+    that one goes away, or is told what isn't kept, the others ask themselves, all at once."""
+    with Slow() as zone, Proxy("--resolver", zone.at) as proxy, serving(greet) as port, serving(greet, SIX) as six:
+        def reach(name, port=port):
+            began = time.monotonic()
+            must(proxy.ask(f"{name}.test.", port, seconds=SOON)[0] == 0, f"{name} is not reached")
+            return time.monotonic() - began
+
+        def reach_at_once(name):
+            with ThreadPoolExecutor(20) as pool:
+                return list(pool.map(reach, [name] * 20))
+
+        reach_at_once("minute")
+        must(zone.asked("minute") == 2, f"{zone.asked('minute')} queries of 20 races at once, not 2")
+        took = reach_at_once("none")
+        must(max(took) < 2, f"an answer that isn't kept: {took}")
+        with proxy.connect(SOON) as first:
+            first.sendall(b"\5\1\0\5\1\0" + destination("hour.test.", port))
+            time.sleep(0.1)
+            threading.Timer(0.1, first.close).start()
+            took = reach("hour")
+        must(took < 2, f"the race that asked went away: {took}")
+        with proxy.connect(SOON) as first:
+            code, took = socks(first, "half.test.", six), reach("half", six)
+        must(code == 0 and took < 2, f"a race after one that was won without IPv4: {code}, {took}")
+
+
+TWO = ["127.0.0.2", "127.0.0.3"]  # of this machine, which its kernel reaches from 127.0.0.1
+
+
+def check_history():
+    """Of addresses that the rules leave alike the one that is known goes first, where that counts, and its record says
+    so. The file has what was seen; a wrong line of it is passed over, and a file of something else is left alone."""
+    with tempfile.TemporaryDirectory() as folder, Zone(*TWO, ttl=0) as zone, contextlib.ExitStack() as servers:
+        path, port, now = pathlib.Path(folder, "known"), unused_port(), int(time.time())
+
+        def race(proxy):
+            """The address that won, and the record."""
+            must(proxy.ask("two.test.", port, seconds=SOON)[0] == 0, "two.test is not reached")
+            record = proxy.files()[-1].read_text()
+            return re.search(r" (\S+) won", support.run(HE, "replay", input=record).stdout)[1], record
+
+        def proxy_of(text):
+            path.write_text(text)
+            return Proxy("--resolver", zone.at, "--history", path)
+
+        for ip in TWO:
+            servers.enter_context(server := support.listener_at(ip, port))
+        for text, wanted in [("", TWO[0]), (f"{TWO[1]} {FOUR} 7 {now}\n", TWO[1]),
+                             (f"{TWO[1]} 127.0.0.8 7 {now}\n", TWO[0]),
+                             (f"{TWO[1]} {FOUR} 7 {now - 90_000}\n", TWO[0])]:
+            with proxy_of(text) as proxy:
+                won, record = race(proxy)
+                must(won == wanted, f"{text!r}: {won} won, not {wanted}")
+                must((f"rtt {TWO[1]} 7\n" in record) == (wanted == TWO[1]), f"{text!r}: {record!r}")
+                must(re.match(rf"{wanted} {FOUR} \d+ \d+\n", path.read_text()), f"{text!r}: {path.read_text()!r}")
+        with proxy_of(f"{TWO[1]} {FOUR} 7 {now}\n{TWO[0]} {FOUR}\n") as proxy:
+            must(support.comes(lambda: "line 2 " in proxy.said()), f"a wrong line: {proxy.said()!r}")
+            must(path.read_text() == f"{TWO[1]} {FOUR} 7 {now}\n", f"a wrong line: {path.read_text()!r}")
+            server.close()
+            must(race(proxy)[0] == TWO[0], "a refused address won")
+            must(re.fullmatch(rf"{TWO[0]} {FOUR} \d+ \d+\n", path.read_text()), f"a refused one: {path.read_text()!r}")
+        path.write_text("export PATH=/bin\n")
+        done = support.run(HE, "proxy", "--listen", f"{FOUR}:{unused_port()}", "--history", path, timeout=SOON)
+    must(done.returncode == 1 and str(path) in done.stderr, f"a file of something else: {done.stderr!r}")
+
+
