@@ -62,7 +62,7 @@ impl<A: Allocator> Board<A> {
 
     /// Tries to take the job. Of all calls on one job, whatever passes make them, exactly one answers true.
     ///
-    /// False tells that somebody has taken it before, and not that its work is done. One atomic step.
+    /// False means that somebody has taken it before, not that its work is done. One atomic step.
     pub fn take(&self, pass: &mut Pass, job: usize) -> bool
         requires own { IsPassOf self.now pass.old }
         requires job { job < jobs_of self.now }

@@ -39,7 +39,7 @@
 //! - Who has all parts knows the winner: `winner` is the least of all offers, and each job that the pass knows to be
 //!   taken it has taken itself, by one of the passes that were rejoined into it.
 //!
-//! What no call tells: whether a job that somebody took is done, or will be; that a thread makes progress; what a pass
+//! What no call says: whether a job that somebody took is done, or will be; that a thread makes progress; what a pass
 //! did that was not rejoined, beyond the words that it left; and in which order two passes stepped that never met,
 //! unless a value shows it (a winner word only falls). A pass that is dropped takes its parts along: the board stays
 //! lawful, and nobody can ask for the `winner` any more.

@@ -10,7 +10,7 @@ pub enum NameFault {
     /// A name of more than 255 octets in a message (RFC 1035 section 2.3.4).
     #[error("name too long")]
     LongName,
-    /// Nothing stands before, between or behind the dots.
+    /// Nothing stands before, between or after the dots.
     #[error("empty label")]
     EmptyLabel,
     /// More than 63 bytes between two dots.

@@ -18,7 +18,7 @@
 //! - the TTL of an answer is the least of those of the aliases that were followed and of the addresses
 //! (`specs/Ttls.antt`).
 //!
-//! [`read_refusal`] and [`is_lame`] tell what a message says of the server that sent it (`specs/Header.antt`).
+//! [`read_refusal`] and [`is_lame`] report what a message says of the server that sent it (`specs/Header.antt`).
 //!
 //! `specs/Reading.antt` mirrors the code, for the proofs.
 //!

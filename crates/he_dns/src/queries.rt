@@ -21,7 +21,7 @@ fn append_word<A: Allocator>(word: u16, out: &mut Vec<u8, A>) -> Result<(), Memo
 }
 
 /// A query for the addresses of one family of a host (RFC 1035 section 4.1; RFC 3596 for IPv6): a header with this id
-/// and RD set, one question with the name, the type and class IN, and, where a room is offered, a record that tells
+/// and RD set, one question with the name, the type and class IN, and, where a room is offered, a record that says
 /// the server that a datagram of its answer may have so many bytes (RFC 6891 section 6.1).
 pub fn write_query<A: Allocator + Copy, B: Allocator>(
     alloc: A,

@@ -5,7 +5,7 @@
 //! one, also where a disk is full or the program is killed.
 //!
 //! Proved is that it is safe and ends; what the system does is in no contract, and tested by scripts/hostile and
-//! scripts/connect.
+//! scripts/network.
 #![tactic(auto)]
 
 pub mod new_file;

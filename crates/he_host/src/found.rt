@@ -10,7 +10,7 @@ pub struct Metered {
     pub metric: u64,
     /// An IPv4 route with no gateway: the addresses of its prefix are on the link.
     pub connected: bool,
-    /// The interface has a carrier: else the route is of no use, and only tells where an address is.
+    /// The interface has a carrier: else the route is of no use, and only says where an address is.
     pub carrier: bool,
 }
 

@@ -69,7 +69,7 @@ fn judge_new_source(kept: &[Source], source: Source) -> Result<Source, Why>
     Ok(source)
 }
 
-/// A source to be kept behind these, or why not.
+/// A source to be kept after these, or why not.
 ///
 /// # Errors
 ///
@@ -114,7 +114,7 @@ fn judge_new_route(kept: &[Route], carrier: bool, route: Route) -> Result<Route,
     Ok(route)
 }
 
-/// A route to be kept behind these, or why not.
+/// A route to be kept after these, or why not.
 ///
 /// # Errors
 ///
@@ -129,7 +129,7 @@ pub fn judge_route(kept: &[Route], read: Result<Metered, Why>) -> Result<Route, 
     }
 }
 
-/// Keeps sources behind those that are kept already, and tells which lines are left out.
+/// Keeps sources after those that are kept already, and reports which lines are left out.
 ///
 /// # Errors
 ///
@@ -155,7 +155,7 @@ pub fn keep_sources<A: Allocator + Copy>(
     Ok(())
 }
 
-/// Keeps routes behind those that are kept already, and tells which lines are left out.
+/// Keeps routes after those that are kept already, and reports which lines are left out.
 ///
 /// # Errors
 ///

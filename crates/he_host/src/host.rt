@@ -18,7 +18,7 @@ use he_addr::{Memory, Prefix};
 use he_select::{Host, Route, Source};
 use std::alloc::Allocator;
 
-/// The IPv4 addresses that are kept before the IPv6 ones. The others come behind these, so that of many addresses of
+/// The IPv4 addresses that are kept before the IPv6 ones. The others come after these, so that of many addresses of
 /// one family there is place for some of the other.
 pub const FIRST: usize = 32;
 
@@ -86,7 +86,7 @@ fn read_routes<A: Allocator + Copy>(
     Ok(found)
 }
 
-/// The routes that the files tell, by rank.
+/// The routes that the files have, by rank.
 ///
 /// # Errors
 ///

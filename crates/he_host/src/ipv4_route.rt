@@ -19,7 +19,7 @@ const REJECT: u128 = 0x0200;
 pub struct V4Line {
     pub destination: u32,
     pub gateway: u32,
-    /// The route leads nowhere, as its flag for a refusal or the interface `*` tells.
+    /// The route leads nowhere, as its flag for a refusal or the interface `*` says.
     pub nowhere: bool,
     pub metric: u64,
     pub mask: u32,

@@ -15,7 +15,7 @@ use std::alloc::Allocator;
 /// The length of the prefix of the loopback addresses, 127.0.0.0/8.
 pub const LOOPBACK_LEN: u8 = 8;
 
-/// The interface of an address as the kernel told it; 0 for none.
+/// The interface of an address as the kernel gave it; 0 for none.
 #[derive(Clone, Copy, Debug, PartialEq, Eq)]
 pub struct InterfaceAnswer {
     pub ip: Ip,
@@ -29,7 +29,7 @@ pub struct Place {
     pub interface: u16,
 }
 
-/// What tells where addresses are.
+/// What says where addresses are.
 #[derive(Clone, Copy, Debug)]
 pub struct Around<'i, 'n, 't> {
     pub interfaces: &'i [Interface<'n>],
@@ -130,7 +130,7 @@ fn on_loopback(link: Option<Link>) -> Result<Place, Why>
 ///
 /// # Errors
 ///
-/// [`Why::Down`]: no loopback interface is up. [`Why::Unconnected`]: nothing tells.
+/// [`Why::Down`]: no loopback interface is up. [`Why::Unconnected`]: nothing says.
 #[tactic(auto, unfolding(crate::specs::Placing::place_of))]
 pub fn find_place(around: Around<'_, '_, '_>, ip: Ip) -> Result<Place, Why>
     ensures { result ≡ place_of around.entry.interfaces.now around.entry.routes.now around.entry.asked.now ip }

@@ -176,7 +176,7 @@ fn is_to_network(metered: Metered, source: Source) -> bool {
         && route.interface != source.interface
 }
 
-/// Whether the network of an IPv4 address is on another interface too, so that no file tells where the address is.
+/// Whether the network of an IPv4 address is on another interface too, so that no file says where the address is.
 pub fn is_elsewhere(routes: &[FoundRoute], source: Source) -> bool {
     for found in routes {
         if let Ok(metered) = found.read {
@@ -260,7 +260,7 @@ fn table_of(line: &[u8]) -> Option<u64> {
 }
 
 /// Appends a line for each table of IPv4 routes beside `main` and `local`, which rules of policy routing may use:
-/// Linux tells its routes in no file.
+/// Linux lists its routes in no file.
 ///
 /// # Errors
 ///

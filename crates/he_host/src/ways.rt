@@ -105,7 +105,7 @@ fn find_ways<A: Allocator + Copy>(
 ///
 /// Where each source has an interface of its own, so that rule 5 of RFC 6724 section 5 prefers it to each other one,
 /// the rules take the kernel's source for each destination, unless one of rules 1 to 3 prefers another one.
-/// [`find_unsaid`] tells which these are.
+/// [`find_unsaid`] returns these.
 ///
 /// # Errors
 ///

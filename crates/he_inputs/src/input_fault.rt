@@ -2,7 +2,7 @@
 
 use he_words::TextFault;
 
-/// What is wrong with an input behind its whole races.
+/// What is wrong with an input after its whole races.
 #[derive(Clone, Copy, Debug, PartialEq, Eq)]
 pub enum InputFault {
     /// The text is wrong. Its lines are counted over the whole input, from 1.

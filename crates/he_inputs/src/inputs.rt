@@ -35,7 +35,7 @@ pub enum NotOneRace {
     Memory,
 }
 
-/// The race of an input that has one race and nothing else. `is_broken` tells that the input broke off after these
+/// The race of an input that has one race and nothing else. `is_broken` says that the input broke off after these
 /// bytes.
 ///
 /// # Errors

@@ -3,7 +3,7 @@
 //! [`RaceReader`] passes the races of an input; [`read_one_race`] reads an input that is to have one race.
 //! [`StreamFault`] is why work on a stream of timelines stopped.
 //!
-//! Proved: the reader tells the races and the first fault of the input (`specs/Inputs`), and of bytes that may go on
+//! Proved: the reader returns the races and the first fault of the input (`specs/Inputs`), and of bytes that may go on
 //! what every input has that begins with them (`specs/RaceReading`). A fault of a text is that of each longer text
 //! too, unless what follows may mend it (`specs/Beginnings`): then some longer text has not this fault. It is that of
 //! the first check that fails on the first faulty line (`specs/FirstFault`).

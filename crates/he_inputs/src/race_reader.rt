@@ -25,7 +25,7 @@ pub enum Ending {
 }
 
 impl Ending {
-    /// The ending of an input of which all bytes are there, by whether it broke off behind them.
+    /// The ending of an input of which all bytes are there, by whether it broke off after them.
     pub fn of(is_broken: bool) -> Ending
         ensures { result ≡ ending_of is_broken }
     {
@@ -46,10 +46,10 @@ pub enum RaceReaderFault {
     Memory,
 }
 
-/// How far a reader of the bytes of an input has come. It may begin behind bytes that are there no more.
+/// How far a reader of the bytes of an input has come. It may begin after bytes that are there no more.
 #[derive(Clone, Copy, Debug, PartialEq, Eq)]
 pub struct RaceReader {
-    /// The place in the bytes behind the last race that was passed.
+    /// The place in the bytes after the last race that was passed.
     pub end: usize,
     /// How many races of the input stand before it.
     pub races: usize,
@@ -74,7 +74,7 @@ impl RaceReader {
     /// - `Input(Text)` with the fault of the text that follows, its line counted over the whole input from 1. Behind
     /// as many races as a text may have (`he_words::limits::MOST_RACES`) that is `TooMany` at the next line, whatever
     /// it is. Where the bytes may go on, every input that begins with them has this fault.
-    /// - `Input(Read)` where the input broke off behind a whole race, or within one that had no fault by then.
+    /// - `Input(Read)` where the input broke off after a whole race, or within one that had no fault by then.
     /// - `Memory` where an allocation was refused.
     ///
     /// The reader stays where it was then, as with None.

@@ -11,7 +11,7 @@ use he_words::TextFault;
 use std::alloc::AllocError;
 use thiserror::Error;
 
-/// Why work stopped that reads timelines from an input and writes what it tells of them to an output.
+/// Why work stopped that reads timelines from an input and writes what it reports of them to an output.
 #[derive(Clone, Copy, Debug, PartialEq, Eq, Error)]
 pub enum StreamFault {
     /// The input is no timeline text.

@@ -1,4 +1,4 @@
-//! What is told of a name: a family's addresses, and the line of a timeline that tells them.
+//! The answers for a name: a family's addresses, and the line of a timeline that states them.
 
 ghost use Rattle.std.specs.Prelude.{◌≡◌, ◌++◌, ◌∷◌, IfOk, OnOk, filter, take};
 ghost use Rattle.std.specs.List.{flat_map, list_any};

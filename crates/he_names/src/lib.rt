@@ -8,7 +8,7 @@
 //! list and the numbers of a file of settings, with their defaults and bounds (`specs/Conf`).
 //! - [`names_to_ask`]: which names are asked for a host, and in which order (`specs/Order`).
 //! - [`clean_of`]: a family's addresses, none of them twice, at most 256; [`Found`]: both families' answers, of which
-//! one has an address, and the two lines of a timeline that tell them (`specs/Answers`).
+//! one has an address, and the two lines of a timeline that state them (`specs/Answers`).
 //!
 //! Only tested: that a call succeeds where memory is granted.
 #![tactic(auto)]

@@ -10,7 +10,7 @@ use std::alloc::Allocator;
 const DOT: u8 = b'.';
 
 /// The names that are asked for a host, in their order (resolver(5)): one that a dot ends as it is alone; any other
-/// also in each domain of the search list, before that where it has at least so many dots, else behind it.
+/// also in each domain of the search list, before that where it has at least so many dots, else after it.
 ///
 /// # Errors
 ///

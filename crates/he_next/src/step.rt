@@ -42,11 +42,11 @@ pub struct Step {
 
 /// What is due at the tick `now` in the race of the record so far, of which `started` attempts were started. The
 /// record is a race's text up to what has happened, without its `end`. A tick past the race's limit counts as the one
-/// behind it.
+/// after it.
 ///
 /// # Errors
 ///
-/// - `Record` with the fault of the record and a line `end` behind it; also where the pause that it must have cannot
+/// - `Record` with the fault of the record and a line `end` after it; also where the pause that it must have cannot
 ///   be its last line, since a pause of its own ends later, or it has as many as a race may have.
 /// - `NotOne` where that has more than one race.
 /// - `Memory` where an allocation was refused.

@@ -20,8 +20,8 @@
 //! Proved, against the definitions of `specs/`: each call of the builder answers the new race or the first fault, and
 //! a refused one leaves it as it was; `plan` answers the one list of attempts (`Attempts`), whatever the pauses;
 //! `Timeline::seen` the least tick that no pause covers; `interlace` the interlaced list (`Interlacing`); and the
-//! transcript is the race's (`Transcript`), also where attempts that start after a success are told as skipped, and
-//! where no more is known of the attempts than what became of them by the race's end. `laws` has what follows from
+//! transcript is the race's (`Transcript`), also where attempts that start after a success are reported as skipped,
+//! and where no more is known of the attempts than what became of them by the race's end. `laws` has what follows from
 //! the definitions alone, as that a race has one transcript; `due` what a race that is being run may start, and when;
 //! `agreement` what stays when a race grows. Addresses are tried in the order of RFC 6724 section 6, which
 //! `he_select` defines and computes by what is known of them (RFC 8305 section 4), interlaced.

@@ -90,7 +90,7 @@ impl<A: Allocator> Transcript<A> {
 }
 
 /// The transcript of the timeline's race, from its plan, one fate of each attempt and the winner of these fates: the
-/// least finish and place of a success. An attempt that starts at or after some success's finish may be told as
+/// least finish and place of a success. An attempt that starts at or after some success's finish may be reported as
 /// Skipped.
 pub fn transcript_of_fates<A: Allocator, B: Allocator, C: Allocator>(
     alloc: A,

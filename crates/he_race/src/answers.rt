@@ -45,7 +45,7 @@ impl Answer {
 ///
 /// A poll that is pending owes one of two: it has registered in `cx` at each source that it waits for (`needs`), so
 /// that the task is polled again once something happened, and registered or yielded there where it states none; or no
-/// later poll for this family tells anything. A poll for one family leaves the other one registered too, for all that
+/// later poll for this family has an answer. A poll for one family leaves the other one registered too, for all that
 /// the source then waits for to answer for it.
 pub trait AnswerSource: Drop {
     // Holds of each source that it waits for, to answer for the family.
@@ -58,7 +58,7 @@ pub trait AnswerSource: Drop {
     /// it isn't polled again.
     ///
     /// Of what it answers the race takes the addresses of the family, each once, and the first `MAX_ADDRESSES` of
-    /// them; and of each of these what is told where it stands first. A round trip time of 0 ms counts as 1, and one
+    /// them; and of each of these what stands with it first. A round trip time of 0 ms counts as 1, and one
     /// above 3,600,000 as 3,600,000.
     ///
     /// The race's host has the answer's lines after its own: the sound sources of the family whose address it doesn't

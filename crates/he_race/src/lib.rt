@@ -1,17 +1,17 @@
 //! A race of connection attempts (RFC 8305 section 5) as futures, apart from sockets and clocks: what connects and
-//! what tells time are traits, so that the same machine runs over real sockets and over recorded races. A tick is a
+//! what gives time are traits, so that the same machine runs over real sockets and over recorded races. A tick is a
 //! millisecond since the race's start.
 //!
 //! # The parts
 //!
 //! - [`Connector`] begins the connection of an attempt, [`Trial`] is that connection while it is being made, and
-//!   [`Ticker`] tells the tick and wakes at one.
+//!   [`Ticker`] gives the tick and wakes at one.
 //! - [`AttemptFuture`] is one attempt: it sleeps until its start, then begins, and from the next tick on polls its
 //!   trial.
 //! - [`RaceFuture`] is a race of attempts over a connector and a ticker: a future that gives [`Raced`], the
 //!   transcript of the race, its record as a timeline, and the winner's connection.
 //! - [`ResolvingRace`] is a race whose answers come while it runs, from an [`AnswerSource`]: each turn polls it once
-//!   for each family that has no answer, and what it tells counts as come at the turn's tick.
+//!   for each family that has no answer, and what it answers counts as come at the turn's tick.
 //! - [`Scripted`] and [`WheelTicker`] are the connector and the ticker of a recorded race, [`race_one`] runs a race
 //!   over them to its transcript, and [`run_attempt`] drives one attempt to its fate.
 //!
@@ -54,7 +54,7 @@
 //! failed by then: those that fail in this turn count.
 //!
 //! A `ResolvingRace` takes the same turns, and in each of them, after the pause and before the attempts, polls its
-//! source for each family that has no answer, IPv6 first. Of what the source tells, the family's addresses, each
+//! source for each family that has no answer, IPv6 first. Of what the source answers, the family's addresses, each
 //! once and at most `MAX_ADDRESSES` of them, count as an answer that came at the turn's tick. What the client knows of
 //! these from earlier connections comes with them (RFC 8305 section 4), and so do sources and routes of this machine
 //! by which they are reached (RFC 6724 sections 4 and 5): the race chooses by both from then on. Lines of one family
@@ -80,7 +80,7 @@
 //!   every later poll is pending.
 //! - `Connector`: a trial that may be polled, or a fault, which is the attempt's failure.
 //! - `AnswerSource`: a poll that is pending has registered in `cx` at each source that it `needs` for the family, or
-//!   no later poll for its family tells anything.
+//!   no later poll for its family has an answer.
 //! - `Ticker`: a `wake_at` that answers Ok has registered in `cx` or yielded, so that the task is polled again.
 //!
 //! What each of them does to its own state is a relation that the implementation states (`polls`, `begins`, `tells`,
@@ -100,7 +100,7 @@
 //!   change (`specs/Waiting.antt`).
 //! - A race that is pending after a turn has done so in the context of its own poll: each unfinished attempt has
 //!   registered in it for all that it needs, or waits for its tick, and the source of a `ResolvingRace` has for each
-//!   family without an answer, or tells nothing more of it. A poll that takes no turn polls nobody: the ticker wakes
+//!   family without an answer, or has nothing more of it. A poll that takes no turn polls nobody: the ticker wakes
 //!   the task for the next turn (`RaceListens` and `RaceHears` in `specs/Listening.antt`).
 //! - What a `RaceFuture` gives replays, for every connector and ticker: its transcript is the one that the rules of
 //!   a race make of its record; the record has the given settings, policy, host and answers; and there is a winner's
@@ -109,8 +109,8 @@
 //!   says of where connections go (`reaches`; `WinnerGoes` in `specs/Winner.antt`).
 //! - What a `ResolvingRace` gives replays likewise, for every source too: the record has the given settings and
 //!   policy and each given answer; its history and its host begin with the given ones (`ReplaysGiven` in
-//!   `specs/Resolving.antt`). All else of it, but for outcomes and pauses, is what the source told in polls that its
-//!   own relation allows, one after the other from its first state on: of each family without an answer the
+//!   `specs/Resolving.antt`). All else of it, but for outcomes and pauses, is what the source answered in polls that
+//!   its own relation allows, one after the other from its first state on: of each family without an answer the
 //!   addresses, at the tick of the poll, what is known of these and of no other, and the family's lines (`IsOfSource`
 //!   in `specs/OfSource.antt`, `with_told` in `specs/Heard.antt`). In each turn each family that has no answer is
 //!   polled once, and no other (`HeardAt` in `specs/Resolving.antt`). One more answer, with history and lines,
@@ -136,9 +136,9 @@
 //! - `run_attempt` answers the fate that `he_plan` defines (`Finish`).
 //!
 //! Tested only: that calls succeed where memory is granted, since no contract can say that a growth was refused; a
-//! connector, tickers and a source of a user's own; and that over a source that tells a recorded timeline's answers at
+//! connector, tickers and a source of a user's own; and that over a source that gives a recorded timeline's answers at
 //! their ticks, with what is known of their addresses, the race is the one that `RaceFuture::new` runs. That is so
-//! where no pause covers the tick of the A answer: the Resolution Delay runs from where an answer is told.
+//! where no pause covers the tick of the A answer: the Resolution Delay runs from where an answer is given.
 #![tactic(auto)]
 
 mod alone;

@@ -26,7 +26,7 @@ use he_timeline::Timeline;
 use std::alloc::{Allocator, Global};
 
 /// A race whose answers come while it runs (RFC 8305 section 3): each turn polls its source for each family that has
-/// no answer yet, and what the source tells counts as come at the turn's tick. In all else it is a [`RaceFuture`].
+/// no answer yet, and what the source answers counts as come at the turn's tick. In all else it is a [`RaceFuture`].
 #[derive(Drop)]
 pub struct ResolvingRace<C: Connector, S: AnswerSource, T: Ticker> {
     source: S,

@@ -9,7 +9,7 @@ use crate::faults::TickFault;
 use crate::limits::MAX_POLL_TICK;
 use futures::task::Context;
 
-/// What tells the tick, in milliseconds since the race's start, and wakes the race's task at a tick that was asked
+/// What gives the tick, in milliseconds since the race's start, and wakes the race's task at a tick that was asked
 /// for.
 pub trait Ticker: Drop {
     // What `now` may tell, and the state that it leaves.

@@ -171,7 +171,7 @@ fn read_whole<A: Allocator + Copy>(alloc: A, lines: &mut Lines) -> Result<Timeli
     }
 }
 
-/// The race with which the text begins, how many bytes stand behind it, and how many lines it has. The fault is
+/// The race with which the text begins, how many bytes stand after it, and how many lines it has. The fault is
 /// that of [`read_race`] at the text's front; a text that is empty is `Unfinished` at line 1.
 #[inline(always)]
 pub fn read_first<A: Allocator + Copy>(
@@ -194,7 +194,7 @@ pub fn read_first<A: Allocator + Copy>(
     }
 }
 
-/// The race that begins at `from`, and the place behind it; None exactly where the text ends at `from`. A race is
+/// The race that begins at `from`, and the place after it; None exactly where the text ends at `from`. A race is
 /// `race 1` or `race 2`, then lines in the order of their groups, and `end`, each with a line end. Where the text from
 /// there on begins with no race, the fault is that of its least faulty line, counted from 1 at `from`, and on it of
 /// the first check that fails; or memory was refused at a line before which nothing is wrong: that fault is `Memory`.

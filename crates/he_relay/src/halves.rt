@@ -24,7 +24,7 @@ const MILLISECOND: i32 = 1;
 
 const BROKEN: i16 = POLLHUP | POLLERR | POLLNVAL;
 
-/// How long standard input is waited for behind the remote's end where nothing else is asked for, in milliseconds.
+/// How long standard input is waited for after the remote's end where nothing else is asked for, in milliseconds.
 pub const DEFAULT_WAIT: u32 = 500;
 
 /// A connection over a socket that waits, to which standard input goes.
@@ -113,7 +113,7 @@ impl<'s> SocketConnection<'s> {
         self.sends.is_terminal
     }
 
-    /// Whether the remote reset it behind the end of both ways, so that bytes that this machine's system took to send
+    /// Whether the remote reset it after the end of both ways, so that bytes that this machine's system took to send
     /// did not arrive. The end of what was sent is waited for, for as long as standard input is.
     pub fn was_reset(&self) -> bool {
         if self.sending.sent == 0 {

@@ -26,14 +26,14 @@
 //! # What is proved
 //!
 //! - For every input and every output of `he_stream` (`specs/Pumps`): what a pump put is what it took, in order, none
-//!   twice and none left out; at `Ok` the input's last step told its end, and all that it gave was put and flushed;
-//!   after `Input` all that was taken before the step that failed was put and flushed, and after `Cut` all that was
-//!   taken; after `Output` what was put is a first part of what was taken.
+//!   twice and none left out; at `Ok` the input's last step reported its end, and all that it gave was put and
+//!   flushed; after `Input` all that was taken before the step that failed was put and flushed, and after `Cut` all
+//!   that was taken; after `Output` what was put is a first part of what was taken.
 //! - For every input, output and connection in halves, [`relay`] says that of both ways, or that it took and put
 //!   nothing (`RelaysBoth` in `specs/Relays`).
 //! - [`relay_standard`] says what was taken from the input, what was put into the output, and that each way that
-//!   failed is told, the output's first: it answers `Ok` only where the remote ended its way and the input ended, or
-//!   was left at a terminal (`IsEnd`).
+//!   failed is reported, the output's first: it answers `Ok` only where the remote ended its way and the input ended,
+//!   or was left at a terminal (`IsEnd`).
 //!
 //! - For every two connections of tokio's traits, a [`Way`] of a polled [`Tunnel`] writes what it held from the start
 //!   and then what it reads, in order, none twice and none left out but what it still holds; it counts what it wrote,
@@ -41,7 +41,7 @@
 //!   `MovesBoth` in `specs/Tunnels`). A tunnel that waits has asked to be woken.
 //!
 //! Only tested: which connection of a tunnel broke off, when a relay ends, what it does to the connection, that the
-//! bytes are those of the connection, how many are told, and how it broke off.
+//! bytes are those of the connection, how many are counted, and how it broke off.
 #![tactic(auto)]
 
 pub mod fault;

@@ -8,8 +8,8 @@ use std::io::{Error, ErrorKind, Read, Result, Write};
 const FOREVER: i32 = -1;
 
 /// A reader of standard input or a writer of standard output, of which another program may have made the descriptor
-/// one that does not wait (`O_NONBLOCK`, which all that share a pipe share). A step that would have to wait is told as
-/// `Interrupted`, to be tried again, once poll(2) says that it need not.
+/// one that does not wait (`O_NONBLOCK`, which all that share a pipe share). A step that would have to wait is
+/// reported as `Interrupted`, to be tried again, once poll(2) says that it need not.
 #[derive(Drop)]
 pub struct Waiting<S> {
     stream: S,

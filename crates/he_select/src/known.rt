@@ -40,7 +40,7 @@ impl Known {
     }
 }
 
-/// The list, or an empty one where it tells nothing, in which nothing need be looked up.
+/// The list, or an empty one where it says nothing, in which nothing need be looked up.
 pub(crate) fn told(known: &[Known]) -> &[Known]
     ensures { result.now ≡ told_of known.now }
 {
@@ -53,7 +53,7 @@ fn is_any_known(known: &[Known]) -> bool
     known.iter().any(|one| one.tells())
 }
 
-/// What is known of the address: the first that is told of it.
+/// What is known of the address: the first entry for it.
 pub(crate) fn find_known(known: &[Known], ip: Ip) -> Option<Known>
     ensures { result ≡ known_of known.now ip }
 {

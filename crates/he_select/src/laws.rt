@@ -33,7 +33,7 @@ pub fn every_address_has_row()
     ensures { EveryAddressHasRow }
 {}
 
-/// Whether a list repeats a member can be told one by one: with one more member it has the repeat that it had, or
+/// Whether a list repeats a member can be decided one by one: with one more member it has the repeat that it had, or
 /// else one at its end, where [`crate::Row::repeats`], [`crate::Source::repeats`] or [`crate::Route::repeats`] tells
 /// so.
 pub fn repeats_by_one_more()

@@ -3,7 +3,7 @@
 //!
 //! A [`Policy`] is an admitted policy table, a [`Host`] a list of sources and one of routes. [`order`] sorts
 //! destinations, [`order_known`] by what is [`Known`] of them as well (RFC 8305 section 4),
-//! [`order_known_with_attributes`] tells all that the rules look at, and [`DestinationRule::between`] which of them
+//! [`order_known_with_attributes`] returns all that the rules look at, and [`DestinationRule::between`] which of them
 //! puts one before another; [`Host::source`] finds the source of one destination.
 //!
 //! Proved, for every input: the standard table is that of RFC 6724 section 2.1; rows are a table, and lists a host's,

@@ -46,7 +46,7 @@ pub fn order<A: Allocator + Copy, P: Allocator, H: Allocator>(
 }
 
 /// The addresses in the order in which they are to be tried by what is known of them as well (RFC 8305 section 4).
-/// Each address is usable. Where one stands more than once, what is told of it first counts.
+/// Each address is usable. Where one stands more than once, its first entry counts.
 pub fn order_known<A: Allocator + Copy, P: Allocator, H: Allocator>(
     alloc: A,
     policy: &Policy<P>,
@@ -180,7 +180,7 @@ fn label_sources<A: Allocator + Copy>(
         .collect(alloc)
 }
 
-/// What the rules look at of each destination, by the labels of the sources and what is told of them.
+/// What the rules look at of each destination, by the labels of the sources and what is known of them.
 fn all_attributes_by<A: Allocator + Copy>(
     alloc: A,
     table: Table<'_>,

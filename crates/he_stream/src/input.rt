@@ -46,7 +46,7 @@ pub fn read_input<S: InputStream, A: Allocator>(
 pub struct WholeInput<A: Allocator = Global> {
     /// All of its bytes.
     pub bytes: Vec<u8, A>,
-    /// Whether it broke off behind them.
+    /// Whether it broke off after them.
     pub is_broken: bool,
 }
 
@@ -105,11 +105,11 @@ fn fill<S: InputStream, A: Allocator>(
     (filled, Err(ReadFault::Bound))
 }
 
-/// One step of the input, into the room behind the first `filled` bytes of the vector, which stay.
+/// One step of the input, into the room after the first `filled` bytes of the vector, which stay.
 ///
 /// So many bytes of room are made before the step, so that a refused allocation loses no byte of the input: 1 to
 /// [`READ_SIZE`](crate::limits::READ_SIZE). After `Bytes(count)` the next `count` bytes of the vector are those that
-/// were taken; what stands behind them is room that the next step uses again.
+/// were taken; what stands after them is room that the next step uses again.
 ///
 /// # Errors
 ///

@@ -1,13 +1,13 @@
 //! Reading an input whole and writing an output, step by step, over any reader and any writer.
 //!
 //! [`FromReader`] makes an [`InputStream`] of any reader and [`ToWriter`] an [`OutputStream`] of any writer. A step of
-//! these tells what was given or taken, the end, an interruption, or that it failed. Each call returns: it makes a
+//! these reports what was given or taken, the end, an interruption, or that it failed. Each call returns: it makes a
 //! bounded number of steps. A step that was interrupted is tried again and counts towards that bound. [`take_piece`]
 //! is one such step, for callers that use what was taken before they take more.
 //!
 //! Proved for every such stream: a fault is answered only after a step that failed, a step that took no byte, or at
 //! the bound of steps, and `Ok` only at the input's end, after the whole text, or after a flush that was done
-//! (`specs/Runs`, `specs/Input`, `specs/Output`). Where a stream tells the bytes that it has left, or holds: what a
+//! (`specs/Runs`, `specs/Input`, `specs/Output`). Where a stream states the bytes that it has left, or holds: what a
 //! call added to the vector is what it took from the input, also after a fault; at `Ok` the input is at its end. What
 //! a call wrote is the text at `Ok`, and a first part of it after a fault. A flush writes nothing of its own.
 //!

@@ -1,4 +1,4 @@
-//! Streams that tell why a step gave or took nothing.
+//! Streams that report why a step gave or took nothing.
 ghost use Rattle.std.specs.Prelude.{ℕ, List, Option, ⊤, None};
 ghost use Rattle.std.specs.Io.KnownBytes.{Keeps};
 ghost use Rattle.he_stream.specs.Steps.{Takes, Puts};

@@ -1,7 +1,7 @@
 //! Words, numbers and faults of timeline texts: what reading and writing them have in common.
 //!
-//! A line behind the first one of a race begins with a [`Word`]; `set` is followed by the [`Name`] of a setting; the
-//! first line tells the [`Version`]. [`TextFault`] is a line of a text, counted from 1, with what is wrong there.
+//! Each line of a race after the first one begins with a [`Word`]; `set` is followed by the [`Name`] of a setting; the
+//! first line has the [`Version`]. [`TextFault`] is a line of a text, counted from 1, with what is wrong there.
 //!
 //! Proved: words are read and spelled as `specs/Words` says, and the constants of `limits` are the numbers of
 //! `specs/Ranges` (`laws::ranges`).

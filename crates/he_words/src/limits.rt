@@ -30,7 +30,7 @@ pub const ROUTE_MARKS: usize = 1;
 /// The most lines with the answer of one family.
 pub const MAX_ANSWERS: usize = 1;
 
-/// The least first tick behind a pause.
+/// The least first tick after a pause.
 pub const MIN_PAUSE_END: u64 = 1;
 
 /// The most races of a text.

@@ -19,7 +19,7 @@ pub enum Version {
 }
 
 impl Version {
-    /// The version that the first line of a race tells.
+    /// The version in the first line of a race.
     pub fn read(line: &[u8]) -> Result<Version, TextKind>
         ensures { result ≡ header_in line.now }
     {
@@ -43,7 +43,7 @@ impl Version {
     }
 }
 
-/// The words that begin a line behind the first one, in the order in which the lines of a race stand.
+/// The words that begin a line after the first one, in the order in which the lines of a race stand.
 #[derive(Clone, Copy, Debug, PartialEq, Eq)]
 pub enum Word {
     Set,
