@@ -44,13 +44,14 @@ PARTS = {
 
 
 COUNTS = collections.Counter()  # how many checks passed (True) and failed (False)
+WRONG = "FAILED: "  # how the line of a check begins that failed
 
 
 def tell(is_right, *told):
     """Counts a check, and tells what is wrong."""
     COUNTS[bool(is_right)] += 1
     if not is_right:
-        print(*told)
+        print(WRONG + " ".join(map(str, told)))
 
 
 def end():
@@ -88,7 +89,7 @@ def run_check(name, check, is_last=False):
         print(f"{name}: not tried ({error})")
     except (ValueError, OSError, subprocess.TimeoutExpired) as error:
         if is_last or not hasattr(check, "is_timed"):
-            return tell(False, f"{name}: FAILED: {error}")
+            return tell(False, f"{name}: {error}")
         print(f"{name}: {error}: tried again: machine busy")
         run_check(name, check, is_last=True)
 
@@ -120,10 +121,10 @@ def checks_of(name, part):
     return {word: check for word, check in checks.items() if word.startswith(tuple(OPTIONS.part or [""]))}
 
 
-def run_part(name, part):
-    """Runs a part in a process of its own, and tells how many checks passed and failed. Where it has a SETUP, lines of
-    sh, that is in network and mount namespaces which they set up; where these can't be made, it is tried without them
-    if it has ANYWHERE."""
+def run_part(name, part, wrong):
+    """Runs a part in a process of its own, tells how many checks passed and failed, and adds the lines of those that
+    failed. Where it has a SETUP, lines of sh, that is in network and mount namespaces which they set up; where these
+    can't be made, it is tried without them if it has ANYWHERE."""
     words, counts = [sys.executable, "-u", *sys.argv, "--run", name], None
     if hasattr(part, "SETUP"):
         inside = ["unshare", "-n", "-m", "sh", "-ec", f'{part.SETUP}\nexec "$0" "$@"']
@@ -136,14 +137,15 @@ def run_part(name, part):
         for line in running.stdout:
             counts = re.fullmatch(r"(\d+) passed, (\d+) failed\n", line)
             print("" if counts else line, end="", flush=True)
+            wrong += [line] * line.startswith(WRONG)
     if not counts:
-        print(f"{name}: breaks off, status {running.returncode}")
+        wrong.append(f"{WRONG}{name} breaks off, status {running.returncode}\n")
     return map(int, counts.groups() if counts else (0, 1))
 
 
 def run_harness(doc, *harnesses):
-    """Runs the parts of harnesses, or what the command line names of them, and tells of each its time and its counts.
-    The last line counts all."""
+    """Runs the parts of harnesses, or what the command line names of them, and tells of each its time and its counts,
+    and at the end what failed. The last line counts all."""
     read_options(doc)
     parts = {name: importlib.import_module(f"parts.{name}") for each in harnesses for name in PARTS[each].split()}
     checks = {name: checks_of(name, part) for name, part in parts.items()}
@@ -157,11 +159,13 @@ def run_harness(doc, *harnesses):
                 run_check(*each)
         end()
     COUNTS.update(dict(zip((True, False), map(int, re.findall(r"\d+", OPTIONS.before)))))
+    wrong = []
     for name in filter(checks.get, parts):
         began = time.monotonic()
-        passed, failed = run_part(name, parts[name])
+        passed, failed = run_part(name, parts[name], wrong)
         print(f"{name}, {time.monotonic() - began:.0f} s: {passed} passed, {failed} failed", flush=True)
         COUNTS.update({True: passed, False: failed})
+    print("".join(wrong), end="")
     end()
 
 

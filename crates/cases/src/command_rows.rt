@@ -27,9 +27,9 @@ pub const WRITE_LINE: &[u8] = b"he: cannot write the output\n";
 /// How the streams of a run behave.
 #[derive(Clone, Copy)]
 pub enum Streams {
-    /// The input ends behind its bytes, and the output takes all.
+    /// The input ends after its bytes, and the output takes all.
     Whole,
-    /// The input breaks behind its bytes.
+    /// The input breaks off after its bytes.
     BreaksOff,
     /// The output takes so many bytes.
     Room(usize),

@@ -1,10 +1,10 @@
-//! Runs the worked examples of the folder in which it is started, and tells which of them come out otherwise.
+//! Runs the worked examples of the folder in which it is started, and reports which of them come out otherwise.
 //!
 //! An example is a text of timelines, `NAME.timeline`. Beside it stand what `replay` writes for it, `NAME.transcript`,
 //! `NAME.order`, `NAME.story`, `NAME.picture` (in 80 columns), and as JSON `NAME.transcript-json`,
 //! `NAME.order-json`, `NAME.explanation-json`: one of these or more. `NAME.fault` is there where the text is faulty:
-//! the line that the program prints after each of them; `check` tells the same fault, and `NAME.check` is all that the
-//! program prints of it then, with the line, its mark and the sentence; beside a text without a fault it has what
+//! the line that the program prints after each of them; `check` reports the same fault, and `NAME.check` is all that
+//! the program prints of it then, with the line, its mark and the sentence; beside a text without a fault it has what
 //! `check` warns of; `NAME.check-all` is the same of a check for all faults, and `NAME.check-json` and
 //! `NAME.check-all-json` are what a check writes as JSON. Each example is run in pieces of 1 byte, of 7 bytes and
 //! whole, a short one in every cut into two pieces too, and `replay` with 1, 2, 7 and 64 workers; each of its races is

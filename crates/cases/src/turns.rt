@@ -21,7 +21,7 @@ const DIFFERS: &[u8] = b"an attempt differs\n";
 const UNHEARD: &[u8] = b"the race whose answers come differs\n";
 
 /// The transcripts of the text's races up to its first fault, each by `race_one`. Where an attempt that is run alone
-/// comes to something else than its line tells, or the race where its answers come while it runs, a line behind the
+/// comes to something else than its line says, or the race where its answers come while it runs, a line after the
 /// transcript says so.
 ///
 /// # Errors

@@ -1,7 +1,7 @@
 //! What the kernel answered for destinations, as a recording has it, and the lines that come of it.
 //!
 //! A recording of answers is `NAME.ways`: lines `own ADDRESS/LENGTH INTERFACE` with the marks `deprecated` and
-//! `tunnel`, and behind them lines `way DESTINATION SOURCE`, or `way DESTINATION none`.
+//! `tunnel`, and after them lines `way DESTINATION SOURCE`, or `way DESTINATION none`.
 
 use he_addr::{read_ip, read_number, read_source, write_ip};
 use he_host::lines::read_lines;

@@ -7,7 +7,7 @@ ghost use Rattle.he_c.specs.declared.codes.TheConstants.{NO_MEMORY};
 use crate::codes::{DONE, FAULT, NO_ROOM, fault_kind, fault_line};
 use he_inputs::InputFault;
 
-/// What is told of a call, besides its answer: `struct he_told` of `he.h`.
+/// What is reported of a call, besides its answer: `struct he_told` of `he.h`.
 #[repr(C)]
 #[derive(Clone, Copy)]
 pub struct CallDetails {

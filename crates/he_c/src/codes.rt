@@ -10,10 +10,10 @@ use he_words::TextKind;
 /// All was done.
 pub const DONE: u32 = 0;
 
-/// The text has a fault, whose line and kind are told.
+/// The text has a fault, whose line and kind are reported.
 pub const FAULT: u32 = 1;
 
-/// The room is too small: how much is wanted is told.
+/// The room is too small: how much is wanted is reported.
 pub const NO_ROOM: u32 = 2;
 
 /// An allocation was refused.

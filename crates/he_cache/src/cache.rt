@@ -76,7 +76,7 @@ impl<V: Drop> AnswerCache<V> {
         }
     }
 
-    /// Keeps what was told of this family of the host, from this second on, in place of what was kept of it before:
+    /// Keeps what was found of this family of the host, from this second on, in place of what was kept of it before:
     /// for as many seconds as its TTL says, at most [`MOST_SECONDS`]; where it has none, as why there are no
     /// addresses, [`SECONDS_WITHOUT_TTL`]. Where as many hosts are kept as may be, the one that was kept longest ago
     /// is forgotten.

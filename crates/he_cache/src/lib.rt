@@ -1,6 +1,6 @@
 //! What is kept for later races: the answers of look-ups, and what was seen of addresses.
 //!
-//! [`AnswerCache::keep`] takes what a look-up told of a family of a host, with its TTL, and [`AnswerCache::answer`]
+//! [`AnswerCache::keep`] takes what a look-up found of a family of a host, with its TTL, and [`AnswerCache::answer`]
 //! hands it out until that time is over. What is kept may be of any type: an answer with its addresses, or why there
 //! are none. Hosts differ only if they do so without regard to the case of ASCII letters (RFC 4343).
 //!

@@ -38,7 +38,7 @@ use std::alloc::Allocator;
 /// - `Memory` where an allocation was refused.
 ///
 /// After `Text`, `Read` and `Memory` nothing was written to the output, after `Write` a first part of the text. What
-/// stands behind what `explanation` held then:
+/// stands after what `explanation` held then:
 ///
 /// - Where nothing is wrong, after `Write` too, a line for each [`Warning`](crate::Warning), as `he: line 1: warning:
 ///   ..`.

@@ -16,9 +16,9 @@ use crate::showing::show_line;
 use he_words::TextFault;
 use std::alloc::{AllocError, Allocator};
 
-/// Appends what is said of a fault of the text `input`: its line, printed behind two spaces with a mark `^` below the
+/// Appends what is said of a fault of the text `input`: its line, printed after two spaces with a mark `^` below the
 /// part that is wrong, and a sentence of what was expected there, each with a line end. Where a word of the line, or
-/// the first bytes of the input, tell what was meant (a comment, a host name, a compressed file), the sentence ends in
+/// the first bytes of the input, show what was meant (a comment, a host name, a compressed file), the sentence ends in
 /// a clause of it. Of a long line what stands around the mark is shown, with `..` for the rest. Tab, CR, `\` and bytes
 /// that cannot be printed are shown as `\t`, `\r`, `\\` and `\xNN`. An empty line is not shown. Of a fault that is not
 /// the first one of the text, what is said may be wrong.

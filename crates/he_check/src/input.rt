@@ -19,7 +19,7 @@ pub struct Checked {
 }
 
 /// Reads the races of an input one by one, counts them and the input's lines, and warns of each slip of a race, in the
-/// order of the races, and where the input has none. `is_broken` tells that the input broke off after these bytes.
+/// order of the races, and where the input has none. `is_broken` says that the input broke off after these bytes.
 ///
 /// # Errors
 ///

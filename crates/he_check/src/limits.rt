@@ -6,7 +6,7 @@ pub const MOST_SHOWN: usize = 72;
 /// How many bytes before the mark are shown of a line that is cut.
 pub const SHOWN_BEFORE: usize = 24;
 
-/// The first bytes of an input that tell what else than a text it is.
+/// The first bytes of an input that show what else than a text it is.
 pub const FIRST_BYTES: usize = 6;
 
 /// The room for a step of an input, in bytes. The reader looks at all that is there for what may mend a fault, so a

@@ -7,7 +7,7 @@
 //! all other commands are tasks of `he_tasks`.
 //!
 //! Proved (`run_line`): each does with the input, the output and the files what its crate says, as `he live` what
-//! `he_live` does, and the status tells how that ended (`specs/Run`, `specs/Live`).
+//! `he_live` does, and the status reports how that ended (`specs/Run`, `specs/Live`).
 //!
 //! - A connection is raced for with what the line asks for, at the number of its port, which a file of services gives
 //!   the name of a service; its record is kept, as JSON the object of that is written, and what it won is relayed

@@ -17,7 +17,7 @@ where
     R: TaskSystem + Env + Net + SystemResolver + Wait + Clock + Copy + Send + 'static,
 {}
 
-/// The columns of a terminal, as the environment tells: 40 to 1,000, and 80 where it does not.
+/// The columns of a terminal, as the environment says: 40 to 1,000, and 80 where it does not.
 pub fn columns_of<R: System>(rt: &R) -> u16 {
     let Ok(text) = env::var(rt, "COLUMNS") else {
         return DEFAULT_WIDTH;

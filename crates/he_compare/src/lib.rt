@@ -21,9 +21,9 @@
 //!
 //! Proved, whatever the races: what the cells of a row say is counted of the races that are kept for it (`specs/Rows`,
 //! `specs/Verdicts`), and what the line of a race says is of that race (`specs/Lines`). Each race is in one group, and
-//! what is told of a group is counted of all its races; the groups ascend, each with the label that its races' file
-//! names or winners give it, byte by byte (`specs/Groups`, `specs/Hours`). With no changes the transcript of a race is
-//! the race's own ([`laws`]). The words between are free.
+//! what is reported of a group is counted of all its races; the groups ascend, each with the label that its races'
+//! file names or winners give it, byte by byte (`specs/Groups`, `specs/Hours`). With no changes the transcript of a
+//! race is the race's own ([`laws`]). The words between are free.
 //!
 //! Not proved: that a call succeeds where memory is granted.
 #![tactic(auto)]

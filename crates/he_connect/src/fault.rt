@@ -35,7 +35,7 @@ pub enum ConnectFault {
 }
 
 impl ConnectFault {
-    /// Whether the host is what the fault is about, so that a line that tells the fault is to name it.
+    /// Whether the host is what the fault is about, so that a line that reports the fault is to name it.
     pub fn is_of_host(self) -> bool {
         match self {
             ConnectFault::Name(fault) => fault.is_of_host(),

@@ -16,13 +16,13 @@
 //!   link-local one over the interface that stands with the host (`IsRun` in `specs/Races`).
 //! - Where name servers are asked, each answer of that record that the race did not begin with has the addresses of
 //!   the family that a message answers for a name that is to be asked for the host, or none (`specs/Answers`).
-//! - The race is told what the look-up tells for a family; where the lines of this machine are to come, with the
+//! - The race gets what the look-up answers for a family; where the lines of this machine are to come, with the
 //!   machine of what the kernel answers for the first 32 of its addresses (`HearsLookup` in `specs/Answers`).
 //!
 //! Both promise this if they return: they wait for the system.
 //!
 //! Only tested: which addresses are found, that anything connects, and when; which lines are read, and for which
-//! families this machine has a way; what the line that tells what was tried says, and each step; which source the
+//! families this machine has a way; what the line that reports what was tried says, and each step; which source the
 //! kernel takes, and what is said of it.
 #![tactic(auto)]
 

@@ -45,8 +45,8 @@ pub struct FinishedRace {
     pub connection: Option<Dialed>,
 }
 
-/// Finds the addresses of the host while it races them, as RFC 8305 says. Each step is told to `faults` as it happens,
-/// where that is asked for; what cannot be written there is passed over.
+/// Finds the addresses of the host while it races them, as RFC 8305 says. Each step is reported to `faults` as it
+/// happens, where that is asked for; what cannot be written there is passed over.
 ///
 /// # Errors
 ///

@@ -49,7 +49,7 @@ pub struct ConnectRequest<'a> {
     pub resolver: Choice,
     /// Whether the race is explained.
     pub explains: bool,
-    /// Whether each step is told as it happens.
+    /// Whether each step is reported as it happens.
     pub tells_steps: bool,
 }
 

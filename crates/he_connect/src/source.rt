@@ -19,7 +19,7 @@ use std::rc::Rc;
 use std::rt::Files;
 use std::time::Clock;
 
-/// Why each family has no address, for the look-up of one race and for whoever tells its end.
+/// Why each family has no address, for the look-up of one race and for whoever reports its end.
 #[derive(Drop)]
 pub struct LookupFaults {
     shared: Rc<FaultCells>,
@@ -82,7 +82,7 @@ pub struct FamilyFaults {
 }
 
 impl FamilyFaults {
-    /// Why the family has no address; None where it has some, or was not told in time.
+    /// Why the family has no address; None where it has some, or was not answered in time.
     pub fn of(self, family: Family) -> Option<NamesFault> {
         match family {
             Family::V6 => self.six,
@@ -102,7 +102,7 @@ impl FamilyFaults {
     }
 }
 
-/// The answers of a look-up, which are polled while a race runs. A family that has none is told without addresses.
+/// The answers of a look-up, which are polled while a race runs. A family that has none is answered without addresses.
 #[derive(Drop)]
 pub struct HostAnswers<'h, R, W: LookupWatcher> {
     alloc: Global,
@@ -145,7 +145,7 @@ where
         })
     }
 
-    /// The seconds for which the addresses that were told for the family may be kept ([`Lookup::ttl`]).
+    /// The seconds for which the addresses of the family may be kept ([`Lookup::ttl`]).
     pub fn ttl(&self, family: Family) -> Option<u32>
         ensures { result ≡ ttl_in self.now.lookup.source family }
     {

@@ -1,4 +1,4 @@
-//! The steps of a race and of its look-up, told as they happen.
+//! The steps of a race and of its look-up, reported as they happen.
 
 use crate::request::ConnectRequest;
 use crate::tried::write_reason;

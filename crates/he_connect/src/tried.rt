@@ -1,4 +1,4 @@
-//! The line that tells what was tried where nothing connected.
+//! The line that reports what was tried where nothing connected.
 
 use crate::request::{ConnectRequest, Families};
 use crate::source::FamilyFaults;

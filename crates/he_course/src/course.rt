@@ -28,7 +28,7 @@ pub struct Seen {
     pub usable: usize,
 }
 
-/// A race with all that is told of it. Stories, pictures and JSON texts are made of this value alone.
+/// A race with all that is reported of it. Stories, pictures and JSON texts are made of this value alone.
 #[derive(Drop)]
 pub struct Course<A: Allocator> {
     /// The number of the race in its input, counted from 1.

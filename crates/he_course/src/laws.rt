@@ -16,7 +16,7 @@ pub fn causes_stand()
     ensures floors { FloorsStand }
 {}
 
-/// An attempt's address stands at the place that is told of it, and all before it in that list were tried.
+/// An attempt's address stands at the place that is reported of it, and all before it in that list were tried.
 pub fn places_stand()
     ensures { PlacesStand }
 {}
@@ -26,7 +26,7 @@ pub fn course_stands()
     ensures { CourseStands }
 {}
 
-/// The starts of a course are those of the race's attempts, each with its cause behind the attempts before it.
+/// The starts of a course are those of the race's attempts, each with its cause after the attempts before it.
 pub fn starts_stand()
     ensures { StartsStand }
 {}

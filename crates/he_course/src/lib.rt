@@ -1,4 +1,4 @@
-//! The course of a race: all that is told of it, made once.
+//! The course of a race: all that is reported of it, made once.
 //!
 //! [`Course::of`] makes a [`Course`] of a timeline. It has the race's number and line, its answers as the client sees
 //! them, its addresses in order of preference, each with the rule that puts it after the one before (RFC 6724 section

@@ -1,4 +1,4 @@
-//! The attempts of a live race that failed, and what is told of them.
+//! The attempts of a live race that failed, and what is reported of them.
 ghost use Rattle.std.specs.Prelude.{◌≡◌, ◌++◌, ◌∷◌, [], IfOk, OnOk};
 ghost use Rattle.he_live.specs.Reasons.{AreFailed, at_text, failure_line, failure_lines, fault_text, first_local, has_failed, place_text, reason_text, start_text, why_text};
 

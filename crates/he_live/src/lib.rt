@@ -26,9 +26,9 @@
 //! reads, and [`failed_attempts`] says why attempts failed.
 //!
 //! [`live_race`] makes and ends an event loop of its own, [`live_race_on`] takes one of the crate `tokio`. Where
-//! answers come while the race runs, as from a resolver, [`resolving_race_on`] asks a source for them, and tells a
-//! [`Watcher`] each step. Its [`Endpoint`] has the interface of link-local addresses of IPv6 too, of which a timeline
-//! says nothing.
+//! answers come while the race runs, as from a resolver, [`resolving_race_on`] asks a source for them, and reports
+//! each step to a [`Watcher`]. Its [`Endpoint`] has the interface of link-local addresses of IPv6 too, of which a
+//! timeline says nothing.
 //!
 //! A race that is one task of many in an event loop takes its parts: [`LiveTicker`], [`socket_of`] and [`Steps`], with
 //! a connector of its own.
@@ -44,19 +44,19 @@
 //! - The winner's connection was asked for at the address of the transcript's line that won and the given port, over
 //!   the given interface where that is a link-local address of IPv6, and over none else (`goes_to` in `specs/Dials`).
 //! - What [`resolving_race_on`] gives replays likewise, for every source: its record has the given settings, policy
-//!   and answers, begins with the given host and history, and has of the other families what the source told
+//!   and answers, begins with the given host and history, and has of the other families what the source answered
 //!   (`ReplaysGiven` and `IsOfSource` of `he_race`).
 //! - [`live`] writes the transcript's text and then the record's, of the input's one race with the given changes of
 //!   its settings, and hands out the record's text; it makes all of it before it writes the first byte, and after any
 //!   fault but `Write` nothing was written. `Text`, `Read` and `OneRace` come only where the input has this fault
-//!   (`specs/Live`). It tells each attempt of the transcript that failed, and no other, by place and address.
-//! - Which reason an error of the system is, which reasons are of this machine alone, and the lines that tell failed
+//!   (`specs/Live`). It reports each attempt of the transcript that failed, and no other, by place and address.
+//! - Which reason an error of the system is, which reasons are of this machine alone, and the lines that report failed
 //!   attempts ([`Reason::of`], [`Reason::is_local`], [`write_failures`]; `specs/Reasons`).
 //!
 //! All promise this if they return: they wait for the system.
 //!
 //! Tested only, on loopback: that anything connects, and when; that a wake comes when it was asked for; that `Runtime`
-//! comes only where the event loop or the clock failed; that the steps and reasons told of an attempt are its own;
+//! comes only where the event loop or the clock failed; that the steps and reasons reported of an attempt are its own;
 //! that the winner's stream is connected and waits; and that no socket of a race is left but the winner's.
 #![tactic(auto)]
 

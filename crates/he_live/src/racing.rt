@@ -126,9 +126,10 @@ pub struct ResolvingRequest<'t, A: Allocator, S> {
 }
 
 /// As [`live_race_on`], where answers come while the race runs (RFC 8305 section 3): a family that has no answer in
-/// the timeline is the source's to answer. What the source tells counts as come at the tick of the turn in which it
+/// the timeline is the source's to answer. What the source answers counts as come at the tick of the turn in which it
 /// does, and stands so in the record. A source that waits for sockets or timers has those of this event loop. A
-/// link-local address of IPv6 is connected to over the interface that is asked for. The watcher is told each step.
+/// link-local address of IPv6 is connected to over the interface that is asked for. Each step is reported to the
+/// watcher.
 ///
 /// # Errors
 ///

@@ -1,10 +1,10 @@
-//! Why attempts of a live race failed, as the system tells it.
+//! Why attempts of a live race failed, as the system says.
 ghost use Rattle.std.specs.Prelude.{◌≡◌};
 ghost use Rattle.he_live.specs.Reasons.{is_local, reason_of, reason_of_number, words_of};
 
 use std::io;
 
-/// Why an attempt failed, as the system tells it.
+/// Why an attempt failed, as the system says.
 #[derive(Clone, Copy, Debug, PartialEq, Eq)]
 pub enum Reason {
     Refused,

@@ -27,7 +27,7 @@ use std::time::Clock;
 /// What a live race leaves beside its output.
 #[derive(Drop)]
 pub struct LiveReport {
-    /// The record: a timeline text that replays to the transcript. It is what the output has behind the transcript,
+    /// The record: a timeline text that replays to the transcript. It is what the output has after the transcript,
     /// and empty where no race was run.
     pub record: Vec<u8>,
     /// The attempts that failed, by place, with why.

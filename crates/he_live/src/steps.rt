@@ -1,4 +1,4 @@
-//! What happens to the attempts of a live race, told while it runs.
+//! What happens to the attempts of a live race, reported while it runs.
 
 use crate::reason::Reason;
 use he_addr::Ip;
@@ -27,7 +27,7 @@ pub struct Step {
     pub what: StepKind,
 }
 
-/// Who is told the steps of a live race, in order: those of a turn at the turn's end, those of the last turn before
+/// Who gets the steps of a live race, in order: those of a turn at the turn's end, those of the last turn before
 /// the race's call returns.
 pub trait Watcher {
     fn tell(&self, step: Step);

@@ -25,7 +25,7 @@ use std::thread::Threads;
 ///
 /// A race has one job for each usable address of its answers; jobs are numbered by race, then by place. Each worker
 /// tries every job once. It makes the race's plan with the first job that it takes of a race, skips an attempt that
-/// starts at or after the tick of the best offer so far, and else offers its success. The gate is told of all but the
+/// starts at or after the tick of the best offer so far, and else offers its success. The gate hears of all but the
 /// offer.
 ///
 /// The board is new, and has at least as many races and jobs as the batch. The pass is the one that came with it, and

@@ -1,6 +1,6 @@
-//! What is told of a batch while its workers run.
+//! What is reported of a batch while its workers run.
 
-/// Is told what each worker of a batch does. The workers, counted from 0, share it.
+/// Hears what each worker of a batch does. The workers, counted from 0, share it.
 pub trait Gate {
     /// The worker has taken the job, and has not begun to plan or run it.
     fn before(&self, worker: usize, job: usize);

@@ -1,8 +1,8 @@
 //! A pool of workers, who share the attempts of many races.
 //!
-//! [`replay_batch`] tells what happens in each race of a batch. The jobs of the batch, one for each address that a
+//! [`replay_batch`] reports what happens in each race of a batch. The jobs of the batch, one for each address that a
 //! race may try ([`batch_jobs`]), stand on a board (`he_board`), from which workers take them, each in a thread of its
-//! own. No job is dealt out before, and no worker waits for another. A [`Gate`] is told of each job before its work
+//! own. No job is dealt out before, and no worker waits for another. A [`Gate`] hears of each job before its work
 //! begins, of each plan that a worker makes and of each job that it skips; [`NoGate`] does nothing then.
 //!
 //! Proved, for every number of workers and every order of their steps (`specs/Batch`): the pass comes back with all
@@ -26,7 +26,7 @@
 //!
 //! Only tested, in the crate `he_replay_tests`: that as many workers as are asked for run at the same time, that none
 //! has its jobs dealt out before, that none stops where another was refused memory, that no race is planned before a
-//! job of it is taken, and that the gate is told of each job once, of each plan and of each skip. Neither proved nor
+//! job of it is taken, and that the gate hears of each job once, of each plan and of each skip. Neither proved nor
 //! tested: any speed.
 #![tactic(auto)]
 

@@ -11,7 +11,7 @@ use std::mem::drop;
 use std::time::{Clock, Instant};
 use tokio::sync::Notify;
 
-/// The addresses that name servers told, each answer kept for its time.
+/// The addresses that name servers answered, each answer kept for its time.
 #[derive(Drop)]
 pub struct KeptAnswers {
     alloc: Global,
@@ -95,7 +95,7 @@ impl KeptAnswers {
         self.known(rt, host, Some(family))
     }
 
-    /// Keeps what was told of a family of the host; where memory is refused it is not kept.
+    /// Keeps what was answered for a family of the host; where memory is refused it is not kept.
     pub fn keep<R: Clock>(
         &self,
         rt: &R,

@@ -34,7 +34,7 @@ pub trait Service {
     /// Whether no client is taken now, since as many sessions begin as may.
     fn is_full(&self) -> bool;
 
-    /// Is told that this machine could make no socket for a client, the first time since one was accepted.
+    /// Hears that this machine could make no socket for a client, the first time since one was accepted.
     fn tell_rest(&self, why: Reason);
 }
 

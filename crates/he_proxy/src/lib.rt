@@ -5,7 +5,7 @@
 //! session's race is the one that `he connect` runs: it begins as `he_connect` sets it up, takes its ticks from
 //! `he_live`, and its turns are those of `he_race`. Its record is a file of its own in the directory that is asked
 //! for, which `he replay` reads. What name servers answer serves other races to the host, those that begin while they
-//! are asked and those within its TTL, and what was seen of an address is told to later ones for a day (`he_cache`).
+//! are asked and those within its TTL, and what was seen of an address counts for later ones for a day (`he_cache`).
 //! Each session is a line on standard error; `GET /` has the last hundred races as a page, and `GET /proxy.pac` the
 //! auto-config text of the proxy.
 //!
@@ -29,7 +29,7 @@
 //!   to the address of the line that won, which the client's races reach (`IsWonBy`).
 //! - The addresses that a look-up begins with from kept answers are those that `he_cache` answers for each family that
 //!   is tried (`specs/Kept`).
-//! - While a race runs it is told what its look-up tells, or, where another race asks for the host, addresses with the
+//! - While a race runs it gets what its look-up answers, or, where another race asks for the host, addresses with the
 //!   lines that the look-up would give them; what is known of addresses changes neither them nor the lines
 //!   (`specs/Sources`).
 //! - A race, and the stream of clients, that is pending has registered for what it waits for, or asked to be polled
@@ -37,10 +37,10 @@
 //!
 //! All promise this if they return: they wait for the system.
 //!
-//! Only tested: that anything connects, and when; that answers are kept of the race's host, and told to the races that
-//! wait for them; what is known of which address, and its file; that the record of a race is written to its file, and
-//! the files' names; which records go; the log's lines; the page; that as many sessions run as may, and that it waits
-//! where no descriptor is left.
+//! Only tested: that anything connects, and when; that answers are kept of the race's host, and given to the races
+//! that wait for them; what is known of which address, and its file; that the record of a race is written to its file,
+//! and the files' names; which records go; the log's lines; the page; that as many sessions run as may, and that it
+//! waits where no descriptor is left.
 #![tactic(auto)]
 
 pub mod access;

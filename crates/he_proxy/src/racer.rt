@@ -25,7 +25,7 @@ use std::random::RandomSource;
 use std::rt::Files;
 use std::time::Clock;
 
-/// What races for the sessions, and tells of them.
+/// What races for the sessions, and reports on them.
 #[derive(Drop)]
 pub struct LoopRacer<'h, R, F: Drop> {
     pub shared: SharedLoop<'h, R>,

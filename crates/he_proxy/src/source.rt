@@ -65,8 +65,8 @@ enum Turn<'h> {
     Waits(Notified<'h>),
 }
 
-/// The answers of a race. Where another race asks for the host, what that one is told is waited for; where it goes
-/// away first, or is told what isn't kept, the look-up of this one asks itself. What name servers tell is kept, and
+/// The answers of a race. Where another race asks for the host, what that one gets is waited for; where it goes
+/// away first, or gets what isn't kept, the look-up of this one asks itself. What name servers answer is kept, and
 /// each address comes with what is known of it.
 #[derive(Drop)]
 pub struct RaceSource<'h, R> {

@@ -10,23 +10,23 @@
 //! after a step of the input that failed, or the bound of steps, of the races before it; after a step of the output or
 //! a flush that failed, a first part of that of some first races; after want of memory, that of some first races. No
 //! other step leads to such a fault. An input has one list of races and one fault, and one output where it is of
-//! transcripts or orders; and a fault of the text is told only where the input ended, where nothing that follows could
-//! change it, in which case the input may not be read further, or of a policy table in which the input broke off
+//! transcripts or orders; and a fault of the text is reported only where the input ended, where nothing that follows
+//! could change it, in which case the input may not be read further, or of a policy table in which the input broke off
 //! (`laws`).
 //!
-//! Where races come faster than they are told, and more than one worker may be taken, `replay` cuts the bytes of a
+//! Where races come faster than they are written, and more than one worker may be taken, `replay` cuts the bytes of a
 //! step into pieces after the ends of races. Each worker takes pieces from a board (`he_board`), reads them and writes
 //! the texts of their races, in a thread of its own. Proved, for every number of workers and every order of their
-//! steps: the clauses of `replay`; and where no growth is refused each piece is told exactly once, by the worker that
-//! took it, up to its end or to what is no whole race, and none is left that goes on where the joined ones end
+//! steps: the clauses of `replay`; and where no growth is refused each piece is written exactly once, by the worker
+//! that took it, up to its end or to what is no whole race, and none is left that goes on where the joined ones end
 //! (`specs/Pieces`).
 //!
 //! `replay_batch` (`he_pool`), which shares the attempts of races that are in memory, is offered here too; `replay`
 //! does not go through it.
 //!
-//! Only tested: that `replay` tells want of memory only where a growth was refused, that it writes what is asked for
+//! Only tested: that `replay` reports want of memory only where a growth was refused, that it writes what is asked for
 //! of a race before it reads on, and that it reads nothing after a failed write. Neither proved nor tested: that
-//! pieces are told at the same time, and any speed.
+//! pieces are written at the same time, and any speed.
 #![tactic(auto)]
 
 pub mod laws;

@@ -15,7 +15,7 @@ pub const PIECES_OF_A_WORKER: usize = 2;
 /// The bytes that end a race: its last line, with the line end before it.
 pub const RACE_END: &[u8] = b"\nend\n";
 
-/// The room for the first read, in bytes, where one worker tells all races. A read that fills its room is followed by
+/// The room for the first read, in bytes, where one worker writes all races. A read that fills its room is followed by
 /// one with four times as much: a short input takes little memory, and a long one is read in few steps.
 pub const FIRST_ROOM: usize = 65_536;
 
@@ -25,7 +25,7 @@ pub const SHARED_ROOM: usize = 262_144;
 /// The most room for a read, in bytes: more takes memory, and no less time.
 pub const MOST_ROOM: usize = 1_048_576;
 
-/// The bytes that the arena has at first in which a race is kept while it is told: the calling thread has one, and
+/// The bytes that the arena has at first in which a race is kept while it is written: the calling thread has one, and
 /// each worker. Races of a few addresses need less, so they take no memory anew.
 pub const ARENA_BYTES: usize = 65_536;
 
@@ -33,6 +33,6 @@ pub const ARENA_BYTES: usize = 65_536;
 /// mostly needs no more.
 pub const TEXT_ROOM: usize = 128;
 
-/// The bytes behind the last whole race that are held before they are looked at for a fault, where more are ready to
+/// The bytes after the last whole race that are held before they are looked at for a fault, where more are ready to
 /// be taken. Most races are shorter, so that their bytes are read once.
 pub const TRIED_BYTES: usize = 32_768;

@@ -1,8 +1,8 @@
-//! The first races of some bytes, told by workers. The bytes are cut into pieces after the ends of races. Each worker
-//! takes pieces from a board that all share, reads them and writes what is asked for of their races, in a thread of
-//! its own; and these are put together in the order of the races.
+//! The first races of some bytes, written by workers. The bytes are cut into pieces after the ends of races. Each
+//! worker takes pieces from a board that all share, reads them and writes what is asked for of their races, in a
+//! thread of its own; and these are put together in the order of the races.
 //!
-//! Where no growth is refused each piece is told exactly once, by the worker that took it: the pass that comes back
+//! Where no growth is refused each piece is written exactly once, by the worker that took it: the pass that comes back
 //! has all parts, so what it knows to be taken was taken by these workers, each piece by one.
 ghost use Rattle.std.specs.Prelude.{◌≡◌, ◌≤◌, ◌<◌, ◌+◌, ◌-◌, [], true, false, IfOk, drop, length, slice_range};
 ghost use denote.Param.Send.{Frees, IsSend, IsSync};

@@ -31,7 +31,7 @@ pub enum Content {
     Course(Printer),
 }
 
-/// What prints the course of a race, each behind its number in the input and the line at which it begins.
+/// What prints the course of a race, each after its number in the input and the line at which it begins.
 #[derive(Clone, Copy, Debug, PartialEq, Eq)]
 pub enum Printer {
     /// A story, for a person to read ([`write_story`]).

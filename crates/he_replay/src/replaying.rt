@@ -26,7 +26,7 @@ use std::thread::Threads;
 /// race and one step, and what is asked for of the races that one step completes.
 ///
 /// One worker, the calling thread, reads each race and follows it to its end before the next. More share the bytes of
-/// one step: these are cut into pieces behind races (`limits::PIECE_BYTES` each, or more), each worker takes pieces
+/// one step: these are cut into pieces after races (`limits::PIECE_BYTES` each, or more), each worker takes pieces
 /// until none is left, reads them and writes what is asked for of their races, in a thread of its own, and all are put
 /// together in the order of the races. No more workers are taken than have `limits::PIECES_OF_A_WORKER` pieces each,
 /// and one alone where what is asked for has the race's place in the input ([`Content::has_place`]).

@@ -1,4 +1,4 @@
-//! Rounds: the races that stand ready in the bytes that are held are told, each before the next is read, and their
+//! Rounds: the races that stand ready in the bytes that are held are written, each before the next is read, and their
 //! texts put into the output.
 ghost use Rattle.std.specs.Prelude.{◌≡◌, ◌+◌, ◌-◌, ◌≤◌, ◌^◌, false, IfOk, OnOk, drop, take, vec_len};
 ghost use Rattle.he_inputs.specs.declared.race_reader.Ending.TheVariants as endings;

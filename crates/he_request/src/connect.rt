@@ -111,7 +111,7 @@ pub struct Connection<'a> {
     pub resolver: Resolver,
     /// Whether the race is explained.
     pub explains: bool,
-    /// Whether each step is told as it happens.
+    /// Whether each step is reported as it happens.
     pub tells_steps: bool,
     /// The file of the record; `-` is standard output, of a connection that is only tried.
     pub record: Option<&'a str>,

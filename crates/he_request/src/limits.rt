@@ -26,7 +26,7 @@ pub const MOST_WAIT: u32 = 3_600_000;
 /// The most files of a line: more than any system takes.
 pub const MOST_FILES: usize = 4_294_967_296;
 
-/// The fewest and the most columns of a picture, and those of one where nothing tells a terminal's.
+/// The fewest and the most columns of a picture, and those of one where a terminal's aren't known.
 pub const LEAST_WIDTH: u16 = 40;
 
 pub const MOST_WIDTH: u16 = 1_000;

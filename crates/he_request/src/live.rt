@@ -89,9 +89,9 @@ pub struct Live<'a> {
     pub changes: Changes,
     /// The file of the record, beside standard output.
     pub record: Option<&'a str>,
-    /// Whether the status tells that no connection was made.
+    /// Whether the status says that no connection was made.
     pub must_connect: bool,
-    /// Whether each attempt that failed is told.
+    /// Whether each attempt that failed is reported.
     pub verbose: bool,
 }
 

@@ -59,7 +59,7 @@ pub struct Names<'a> {
     pub resolver: Resolver,
     /// Whether the answers are written as JSON.
     pub is_json: bool,
-    /// Whether what happened is told.
+    /// Whether what happened is reported.
     pub tells_steps: bool,
 }
 

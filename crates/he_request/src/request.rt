@@ -70,8 +70,8 @@ fn commands<'a>(alloc: Global) -> Result<Vec<Command<'a>>, AllocError> {
     Ok(commands)
 }
 
-/// Reads the words of a command line, of which the first is the program's name; the version is what `--version` tells,
-/// and a terminal has so many columns.
+/// Reads the words of a command line, of which the first is the program's name; the version is what `--version`
+/// prints, and a terminal has so many columns.
 ///
 /// # Errors
 ///

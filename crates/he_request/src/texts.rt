@@ -94,7 +94,7 @@ pub struct Texts<'a> {
 }
 
 impl Task {
-    /// Whether what it tells of a text has each fault.
+    /// Whether what it reports of a text has each fault.
     pub fn tells_faults(self) -> bool
         ensures { result ≡ tells_faults self }
     {

@@ -5,7 +5,7 @@ use std::fmt;
 use std::net::SocketAddr;
 use thiserror::Error;
 
-/// How a name server failed to tell anything of a name.
+/// How a name server failed to answer for a name.
 #[derive(Clone, Copy, Debug, PartialEq, Eq, Error)]
 pub enum Failure {
     /// RCODE 1: it could not read the query.
@@ -23,7 +23,7 @@ pub enum Failure {
     /// Another RCODE than 0 to 5.
     #[error("response code {0}")]
     Code(u8),
-    /// It told no address, is no authority for the name, and asks no other server.
+    /// It answered no address, is no authority for the name, and asks no other server.
     #[error("knows no more than other servers")]
     Lame,
     /// What it answered can't be read.

@@ -36,7 +36,7 @@ pub enum NamesFault {
     /// No name server answered in its time.
     #[error("no name server answers")]
     NoAnswer,
-    /// No name server told anything of the name, and this is the first of those that failed.
+    /// No name server answered for the name, and this is the first of those that failed.
     #[error("name server {0}")]
     Server(ServerFault),
     /// The family is not asked for.
@@ -57,7 +57,7 @@ pub enum NamesFault {
 }
 
 impl NamesFault {
-    /// Whether the host is what the fault is about, so that a line that tells the fault is to name it.
+    /// Whether the host is what the fault is about, so that a line that reports the fault is to name it.
     pub fn is_of_host(self) -> bool
         ensures { result ≡ is_of_host self }
     {
@@ -151,7 +151,7 @@ pub enum TellFault {
 }
 
 impl TellFault {
-    /// Whether the host is what the fault is about, so that a line that tells the fault is to name it.
+    /// Whether the host is what the fault is about, so that a line that reports the fault is to name it.
     pub fn is_of_host(self) -> bool {
         match self {
             TellFault::Names(fault) => fault.is_of_host(),
@@ -176,7 +176,7 @@ impl From<WriteFault> for TellFault {
     }
 }
 
-/// Which fault is told where neither family has an address, of that of IPv6 and that of IPv4: want of memory or of
+/// Which fault is reported where neither family has an address, of that of IPv6 and that of IPv4: want of memory or of
 /// files first; that there is no such name, which holds for both families; then that no server answered, that one
 /// failed, and that there is no address.
 pub fn first_fault(v6: NamesFault, v4: NamesFault) -> NamesFault

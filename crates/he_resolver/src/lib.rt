@@ -1,8 +1,8 @@
 //! A stub resolver: the addresses of a host, from the files of the system and from name servers.
 //!
-//! [`Lookup`] asks name servers for both families of a host at once (RFC 1035, RFC 3596), and is polled: it tells each
-//! family's addresses as soon as they are known. [`write_names`] finds a host's addresses and writes them as the two
-//! answers of a timeline: `he names` is this call. What the files of the system say is `he_names`, the messages
+//! [`Lookup`] asks name servers for both families of a host at once (RFC 1035, RFC 3596), and is polled: it returns
+//! each family's addresses as soon as they are known. [`write_names`] finds a host's addresses and writes them as the
+//! two answers of a timeline: `he names` is this call. What the files of the system say is `he_names`, the messages
 //! `he_dns`.
 //!
 //! # What is asked
@@ -11,9 +11,9 @@
 //! asked for as resolver(5) has it: the names in the order that `search` and `ndots` give, each until one has an
 //! address of either family; that there is no such name is said of both (RFC 8020). A name server that has not
 //! answered for 250 milliseconds is not waited for alone: the next one is asked beside it, at once where a server
-//! fails, and the first that tells counts, whichever it is. To each the query is sent once a second, `timeout` times
+//! fails, and the first that answers counts, whichever it is. To each the query is sent once a second, `timeout` times
 //! `attempts` times; none answers only where each had that time. A server fails that can't be reached, whose code is
-//! neither 0 nor 3, whose answer can't be read, or that is lame: it tells no address, is no authority, and asks no
+//! neither 0 nor 3, whose answer can't be read, or that is lame: it has no address, is no authority, and asks no
 //! other. Not read are the environment, the machine's own name, scopes of addresses, and other modules than files and
 //! DNS: for those there is the system's resolver ([`system`]).
 //!
@@ -23,16 +23,16 @@
 //! asked again without it.
 //!
 //! What the contracts say: a look-up begins with what is known of the host, or with the names and the servers that are
-//! to be asked, for both families or one (`specs/Begins`, `Known`, `Plans`); a family is told its own addresses, none
+//! to be asked, for both families or one (`specs/Begins`, `Known`, `Plans`); a family gets its own addresses, none
 //! twice, at most 256, of all that a message answers to the question for one of these names, or of what is known, and
 //! the TTL is that of this message (`specs/Heard`); where a poll is pending, it has registered at every socket and
-//! timer that the family waits for, and where it settles what the other family is told, the task is polled again
+//! timer that the family waits for, and where it settles what the other family gets, the task is polled again
 //! (`specs/Needs`); [`write_names`] writes the two lines, and nothing after any fault but `Write` (`specs/Told`);
 //! which interface a zone names (`specs/Scopes`). And, of functions inside: what a message comes to (`specs/Replies`),
 //! that answers are taken of the id that was sent, when the next server is asked (`specs/Asking`), after which faults,
-//! and which fault is told (`specs/Faults`), and which event an answer is (`specs/Events`). What a log holds is in no
-//! clause, since it is shared. Only tested, on loopback: that queries leave, when, to whom, and that it is a server's
-//! message that is read.
+//! and which fault is reported (`specs/Faults`), and which event an answer is (`specs/Events`). What a log holds is in
+//! no clause, since it is shared. Only tested, on loopback: that queries leave, when, to whom, and that it is a
+//! server's message that is read.
 #![tactic(auto)]
 
 pub mod choice;

@@ -9,8 +9,8 @@ pub const ALONE: u64 = 250;
 /// After how many milliseconds without an answer a query is sent again.
 pub const AGAIN: u64 = 1_000;
 
-/// The bytes that a server is told a datagram may have (RFC 6891 section 6.2.3): one of so many is not cut up on any
-/// link that carries IPv6.
+/// The bytes that a datagram may have, as a server is told (RFC 6891 section 6.2.3): one of so many is not cut up on
+/// any link that carries IPv6.
 pub const OFFERED_ROOM: u16 = 1_232;
 
 /// The bytes of a datagram that are read: more than are offered, for a server that sends more.

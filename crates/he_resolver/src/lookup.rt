@@ -39,7 +39,7 @@ pub struct Wanted<'a> {
     pub choice: Choice,
 }
 
-/// Finds the addresses of a host, and tells each family's as soon as they are known: a resolver for a race that runs
+/// Finds the addresses of a host, and returns each family's as soon as they are known: a resolver for a race that runs
 /// (RFC 8305 section 3).
 #[derive(Drop)]
 pub struct Lookup<'h, R> {
@@ -154,7 +154,7 @@ impl<'h, R: Net + RandomSource + Clock> Lookup<'h, R> {
         }
     }
 
-    /// A look-up of a host whose addresses are known from an earlier one: it tells these; nothing is read or asked.
+    /// A look-up of a host whose addresses are known from an earlier one: it returns these; nothing is read or asked.
     ///
     /// # Errors
     ///
@@ -193,15 +193,15 @@ impl<'h, R: Net + RandomSource + Clock> Lookup<'h, R> {
     }
 
     /// The addresses of the family, each once and at most 256, or why it has none. Each family is to be polled until
-    /// it is told, and not after that.
+    /// it is returned, and not after that.
     ///
     /// Both families are asked for at the first poll, that of IPv6 first. The name servers are asked beside one
-    /// another, each [`ALONE`](crate::limits::ALONE) milliseconds behind the one before it or as soon as that has
-    /// failed, and the first that tells counts. To each the query is sent once a second, `timeout` times `attempts`
-    /// times by the file of resolver settings. The system's resolver has its own time, and tells both families at
+    /// another, each [`ALONE`](crate::limits::ALONE) milliseconds after the one before it or as soon as that has
+    /// failed, and the first that answers counts. To each the query is sent once a second, `timeout` times `attempts`
+    /// times by the file of resolver settings. The system's resolver has its own time, and returns both families at
     /// once.
     ///
-    /// A poll may settle what the other family is told: then it has the task polled again.
+    /// A poll may settle what the other family gets: then it has the task polled again.
     ///
     /// # Errors
     ///
@@ -243,7 +243,7 @@ impl<'h, R: Net + RandomSource + Clock> Lookup<'h, R> {
     }
 
     /// The seconds for which the addresses of the family may be kept, once [`poll_answer`](Lookup::poll_answer) has
-    /// told them: the TTL of the name server's answer, at most 2^31 - 1. None where they are of no name server, or
+    /// had them: the TTL of the name server's answer, at most 2^31 - 1. None where they are of no name server, or
     /// there are none.
     pub fn ttl(&self, family: Family) -> Option<u32>
         ensures { result ≡ ttl_in self.now.source family }

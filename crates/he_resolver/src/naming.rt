@@ -1,4 +1,4 @@
-//! What a name has, found and told.
+//! What a name has, found and returned.
 
 ghost use Rattle.std.specs.Prelude.{◌≡◌, IfOk};
 ghost use Rattle.he_stream.specs.Output.{PutsPart, PutsWhole};

@@ -1,4 +1,4 @@
-//! What is told of races, figure by figure.
+//! What is reported of races, figure by figure.
 ghost use Rattle.std.specs.Prelude.{◌≡◌, ◌++◌, ◌<◌, [], ◌∷◌, OnOk};
 ghost use Rattle.std.specs.List.{flat_map};
 ghost use Rattle.he_print.specs.Parts.{fact_of};
@@ -15,7 +15,7 @@ use he_addr::{Family, Ip, Memory};
 use he_print::{Part, push_parts};
 use std::alloc::Allocator;
 
-/// The form in which races are told.
+/// The form in which races are reported.
 #[derive(Clone, Copy, Debug, PartialEq, Eq)]
 pub enum Form {
     /// A few lines.
@@ -45,7 +45,7 @@ pub enum Said {
     Attempts,
 }
 
-/// A number, and of how many it is told which share it is; of none where that is 0.
+/// A number, and of how many it is the share that is written; of none where that is 0.
 #[derive(Clone, Copy, Debug, PartialEq, Eq)]
 pub struct Figure {
     pub said: Said,

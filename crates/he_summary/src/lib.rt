@@ -2,7 +2,7 @@
 //!
 //! [`Races`] reads inputs of timelines, one after the other, and keeps a small record of each race ([`Kept`]) for
 //! each row of settings ([`Changes`](he_timeline::Changes)): a summary has one row, a comparison (he_compare) several.
-//! What is told is counted over these records ([`Totals`]), in few lines, in one JSON object or as metrics:
+//! What is reported is counted over these records ([`Totals`]), in few lines, in one JSON object or as metrics:
 //!
 //! ```text
 //! 2000 races: 1890 won (94.5 %), 1500 by IPv6 (75.0 %), 390 by IPv4 (19.5 %), 90 exhausted (4.5 %), 20 at the ..

@@ -243,7 +243,7 @@ fn slow_words(form: Form) -> [&'static [u8]; 4] {
     }
 }
 
-/// Where a race stands, behind the name of its file: at which line it begins, and its number.
+/// Where a race stands, after the name of its file: at which line it begins, and its number.
 pub fn place_parts<S: Copy>(form: Form, place: Place) -> [Part<S>; 4]
     ensures { flat_map fact_of result ≡ place_facts form place }
 {

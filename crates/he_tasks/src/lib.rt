@@ -6,7 +6,7 @@
 //! Proved (`run_texts`):
 //!
 //! - Each text is replayed, checked or summed up as the crate of that says, with the settings of the line,
-//!   and the status tells how it ended (`specs/Texts`, `specs/Status`).
+//!   and the status reports how it ended (`specs/Texts`, `specs/Status`).
 //! - Files are read one after the other, `-` among them the input, up to the first that can't be opened or has a
 //!   fault, or all of them by --keep-going and `check --all`; the status is that of the first fault. Where there are
 //!   several, what `explain` and `draw` write of each stands below its heading, whose name has no character that

@@ -1,4 +1,4 @@
-//! What is written of one text of races, or told of it.
+//! What is written of one text of races, or reported of it.
 ghost use Rattle.std.specs.Prelude.{◌≡◌, IfOk, OnErr, OnOk, true};
 ghost use Rattle.he_draw.specs.Page.{HasName};
 ghost use Rattle.he_json.specs.Documents.{name_of};
