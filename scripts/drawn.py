@@ -190,7 +190,7 @@ class Drawer(random.Random):
         def outcome(address):
             end, ticks = "fail" if self.random() < failing else "ok", self.ticks(1, plain.MOST_TICK)
             if self.has_small_floor and self.randrange(4):
-                # Before the floor, on it, behind it and behind the attempt delay.
+                # Before the floor, on it, after it and after the attempt delay.
                 ticks = self.choice([1, 5, 10, 20, 50, 99, 100, 101, 150, 250, 300])
             return f"connect {self.spelled(address)} {end} {ticks}"
 
@@ -353,7 +353,7 @@ class Drawer(random.Random):
         return lines
 
     def broken_floor(self, lines):
-        """Sets a floor behind a race's first line, which then may have two, one above its delay, or a version without
+        """Sets a floor after a race's first line, which then may have two, one above its delay, or a version without
         floors; at times with a further `set` line, right, wrong or too long."""
         headers = [place for place, line in enumerate(lines) if HEADER.match(line)]
         if headers:

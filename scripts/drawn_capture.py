@@ -56,7 +56,7 @@ def record(name, kind, payload):
 
 
 def dns(ident, name, version, records=None, flags=0x8180, others=()):
-    """A query, or an answer with its records and others behind them that answer nothing."""
+    """A query, or an answer with its records and others after them that answer nothing."""
     question = wire(name) + struct.pack("!HH", KINDS[version], 1)
     if records is None:
         return struct.pack("!HHHHHH", ident, 0x0100, 1, 0, 0, 0) + question

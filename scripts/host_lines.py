@@ -26,7 +26,7 @@ def is_in_use(info):
 
 
 def addresses_of(interfaces):
-    """Each address of an interface that is up, behind that."""
+    """Each address of an interface that is up, after that."""
     return [(interface, info) for interface in interfaces if "UP" in interface["flags"]
             for info in interface.get("addr_info", []) if "local" in info]
 

@@ -342,8 +342,8 @@ class Race:
         finishes = [self.finish(start, address) for start, address in made]
         return all(end is not None and end[0] == "fail" and end[1] <= tick for end in finishes)
 
-    def ticks_behind(self, made):
-        """The ticks behind the last start at which something may change: all, where the race is short."""
+    def ticks_after(self, made):
+        """The ticks after the last start at which something may change: all, where the race is short."""
         limit, least = self.setting("limit"), made[-1][0] + 1 if made else 0
         if limit <= PLAIN_LIMIT:
             return range(least, limit)
@@ -362,7 +362,7 @@ class Race:
             return may_start and not set(self.received(tick)) <= set(tried)
 
         while len(tried) < len(self.usable("aaaa") + self.usable("a")):
-            tick = next(filter(is_start, self.ticks_behind(made)), None)
+            tick = next(filter(is_start, self.ticks_after(made)), None)
             if tick is None:
                 break
             tried.append(next(address for address in self.listed(tick) if address not in tried))
@@ -605,15 +605,15 @@ def read_text(text):
 
 def read_on(text):
     """The first fault of each part of a text: a part begins with the text, or with the next line `race 1` or `race 2`
-    behind the first line of a faulty race. They are pairs of a line and a kind."""
+    after the first line of a faulty race. They are pairs of a line and a kind."""
     lines, faults, start = whole_lines(text), [], 0
     while start is not None:
         _, found = read_text("\n".join(line for line, _ in lines[start:]))
         if found is None:
             break
         faults.append((start + found.line, found.kind))
-        behind = range(start + found.begin, len(lines))
-        start = next((place for place in behind if lines[place][1] and lines[place][0] in HEADERS), None)
+        after = range(start + found.begin, len(lines))
+        start = next((place for place in after if lines[place][1] and lines[place][0] in HEADERS), None)
     return faults
 
 

@@ -294,7 +294,7 @@ TAKEN = [(FOUR, "four.test", FOUR), (SIX, "six.test", SIX), (FOUR, FOUR, FOUR), 
 
 
 def file_of_etc(name, text):
-    """A line of sh behind those of NETWORK that sets a text in as /etc/NAME; the file itself is /run/he/NAME."""
+    """A line of sh after those of NETWORK that sets a text in as /etc/NAME; the file itself is /run/he/NAME."""
     return (f"[ ! -e /etc/{name} ] || {{ printf %s {shlex.quote(text)} > /run/he/{name};"
             f" mount --bind /run/he/{name} /etc/{name}; }}\n")
 
@@ -413,7 +413,7 @@ def is_reached(address, port):
 
 @contextlib.contextmanager
 def sshd(address, folder, port=None, inside=(), settings=()):
-    """sshd at an address, behind words that run it elsewhere, its files in the folder; gives its port, and the words of
+    """sshd at an address, after words that run it elsewhere, its files in the folder; gives its port, and the words of
     a client that may log in."""
     needs("sshd", "ssh", "ssh-keygen")
     for name in ("host", "key"):
@@ -480,7 +480,7 @@ def message(query, records=(), code=NOERROR, truncated=False, count=None, questi
 
 class NameServer:
     """A name server at an address, over UDP and TCP, and the queries that it was sent. `replies` tells what it sends
-    for one: messages, each behind a wait in seconds."""
+    for one: messages, each after a wait in seconds."""
 
     def __init__(self, address, port=0):
         self.seen = []

@@ -66,7 +66,7 @@ static void append(struct text *text, const char *format, ...)
     text->length += (size_t)wanted;
 }
 
-/* All parts of the record, and behind them `end`. */
+/* All parts of the record, and after them `end`. */
 static void join(const struct race *race, const char *end, struct text *whole)
 {
     whole->length = 0;
@@ -87,7 +87,7 @@ static uint64_t ticks_since(const struct timespec *begun)
     return (uint64_t)((now.tv_sec - begun->tv_sec) * 1000 + (now.tv_nsec - begun->tv_nsec) / 1000000);
 }
 
-/* The tick of a new turn, which lies behind that of the one before. */
+/* The tick of a new turn, which lies after that of the one before. */
 static uint64_t next_turn(struct race *race)
 {
     uint64_t now;

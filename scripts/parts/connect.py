@@ -75,7 +75,7 @@ def check_takes():
 
 @timed
 def check_times():
-    """Behind a silent address the next starts at the attempt delay, behind one that is refused at the floor."""
+    """After a silent address the next starts at the attempt delay, after one that is refused at the floor."""
     with serving(greet) as port:
         for words, wanted in [(["dead6.test"], 250), (["both.test"], 10), (["--set", "attempt=100", "dead6.test"], 100),
                               (["--set", "floor=250", "both.test"], 250)]:
@@ -378,7 +378,7 @@ def check_record_file():
         record.write_text("old\n")
         record.chmod(0o600)
         failed = connect(record, "-z", "--host", "/no/such/file")
-        must(failed.returncode == 1 and record.read_text() == "old\n", "behind a fault:", failed, record.read_text())
+        must(failed.returncode == 1 and record.read_text() == "old\n", "after a fault:", failed, record.read_text())
         must(connect(record, "-z").returncode == 0 and record.read_text().startswith("race 2\n"), record.read_text())
         must(os.listdir(folder) == ["record"], os.listdir(folder))
         output = connect("-", "-z").stdout

@@ -1,7 +1,7 @@
 """Runs the command lines that stand in README.md, docs/ and the manual page, and compares what they print with what is
-written below them. A file that one page makes is there for the pages behind it, of which README.md is the last.
+written below them. A file that one page makes is there for the pages after it, of which README.md is the last.
 
-A line that begins with `$ ` is run by a shell, with the built program as `he`; the lines behind it, up to the next
+A line that begins with `$ ` is run by a shell, with the built program as `he`; the lines after it, up to the next
 one or the block's end, are what standard output and standard error must hold. A `$ cat FILE` whose file isn't there
 yet makes the file. An image `docs/NAME.svg` must be what `he draw --svg NAME.timeline` draws then. Where `he live`
 runs, a server listens at port 8080 of 127.0.0.1, and ticks may differ by 100, at a second try at the latest (a busy
@@ -48,7 +48,7 @@ def commands_of(block):
 
 
 def is_alike(printed, written, has_raced):
-    """Whether both are the same; behind a race their ticks may be a little apart."""
+    """Whether both are the same; after a race their ticks may be a little apart."""
     one, other = printed.split(), written.split()
     return printed == written or has_raced and len(one) == len(other) and all(map(are_near, one, other))
 

@@ -132,7 +132,7 @@ def compare(name, text, wanted, fault):
     answer, told, room = library().text(name, text)
     where = f"he_{name}: answer {answer}, line {told.line}, kind {told.kind}, {told.length} bytes"
     tell(room[:told.length] == wanted and answer == (FAULT if fault else DONE), where)
-    tell(set(room[told.length:told.length + 64]) <= set(FILLER), f"{where}: wrote behind its text")
+    tell(set(room[told.length:told.length + 64]) <= set(FILLER), f"{where}: wrote past its text")
     tell(is_told(told, fault), f"{where}, and not {fault}")
     size = len(wanted)
     answer, told, room = library().text(name, text, size)
@@ -144,7 +144,7 @@ def compare(name, text, wanted, fault):
 
 
 def compare_check(timeline, text, fault):
-    """he_check: the program's words, on its standard output or behind `he: ` on standard error."""
+    """he_check: the program's words, on its standard output or after `he: ` on standard error."""
     answer, told, room = library().text("check", text)
     said, ran = room[:told.length], run(OPTIONS.program, "check", input=text)
     tell(b"he: " + said == (ran.stderr if fault else b"he: " + ran.stdout), f"{timeline.name}: he_check says {said}")
@@ -297,7 +297,7 @@ def check_times():
     large = f"{large}aaaa 20 {v6}\na 25 {v4}\n{outcomes}{pauses}".encode()
     records = ("10 addresses", small), ("the largest race", large)
     for (name, record), most in zip(records, MOST_MICROSECONDS):
-        # the next attempt behind all pauses, to which the client comes a tick late: the record is read twice
+        # the next attempt after all pauses, to which the client comes a tick late: the record is read twice
         transcript = library().text("replay", record + b"end\n")[2]
         ticks = [int(tick) for tick in re.findall(rb"^attempt \d+ (\d+) ", transcript, re.M)]
         started = next(place for place, tick in enumerate(ticks) if tick > 4300 or len(ticks) == 10 and place > 1)

@@ -187,6 +187,7 @@ def check_told():
         run.must(run.told == told, *words)
 
 
+@timed
 def check_waiting():
     """A race that waits for two seconds, for answers or for a connection, takes next to no processor time."""
     one = race_text(f"set limit 2000\n{LOOPBACK}aaaa 0 none\na 0 127.0.0.1\n")

@@ -89,7 +89,7 @@ def read_quiet(terminal, quiet, most):
 
 
 def complete(start, setup, home, line, quiet):
-    """What a line has become in a shell in a terminal, once a tab was typed behind it and another word: the shell is
+    """What a line has become in a shell in a terminal, once a tab was typed after it and another word: the shell is
     asked to write the line as it stands. It is waited for until it is quiet for so many seconds."""
     environment = {"HOME": home, "PATH": os.environ["PATH"], "TERM": "dumb", "HISTFILE": "/dev/null", "LANG": "C.UTF-8"}
     pid, terminal = pty.fork()

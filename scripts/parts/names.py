@@ -121,13 +121,18 @@ def finds(host, v6, v4, *words, ticks=lambda v6, v4: max(v6, v4) < NOISE, what="
 
 
 def lacks(host, fault, *words, status=1, millis=0, what=""):
-    """The host has no address, for this reason, which is told with the host's name, after so many milliseconds."""
-    before = time.monotonic()
-    done = look_up(host, *words)
-    took = 1_000 * (time.monotonic() - before)
+    """The host has no address, for this reason, which is told with the host's name, after so many milliseconds, at a
+    second try at the latest."""
+    for is_last in (False, True):
+        before = time.monotonic()
+        done = look_up(host, *words)
+        took = 1_000 * (time.monotonic() - before)
+        on_time = millis <= took < millis + 3 * NOISE
+        if is_last or on_time:
+            break
+        print(f"{host} {what}: {took:.0f} ms: tried again: machine busy")
     told = fault.replace("\n", f": {re.escape(host)}\n") if status == 1 else fault
     right = done.returncode == status and not done.stdout and re.fullmatch(told, done.stderr, re.DOTALL)
-    on_time = millis <= took < millis + 3 * NOISE
     tell(right and on_time, f"{host} {what}{words}", (done.returncode, done.stdout, done.stderr, took))
 
 
@@ -258,7 +263,7 @@ def read_plainly(parser, data, query):
 
 
 class Mutant(Server):
-    """Answers one type with a drawn message, and a right one right behind it; the other type has no address. Names
+    """Answers one type with a drawn message, and a right one right after it; the other type has no address. Names
     that begin with `t` are cut off over UDP and answered so over TCP."""
 
     def send(self, query, put, stream):

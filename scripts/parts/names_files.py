@@ -10,7 +10,7 @@ import sys
 
 import support
 from parts.names import NOISE, SLOW, V4, V6, Server, finds, lacks, look_up
-from support import AAAA, OPTIONS, file_of_etc, kind_of, run, tell
+from support import AAAA, OPTIONS, file_of_etc, kind_of, must, run, tell, timed
 
 HOSTS_FILE = (f"# a comment\n{V4} one.example One-Alias # two.example\n::5\ttwo.example\n192.0.2.2 two.example\n"
               "192.0.2.2 TWO.example\nnonsense three.example\n")
@@ -174,6 +174,7 @@ def check_servers():
         lacks("both.test", f"he: {re.escape(told)}\n", what=f"{kinds} ", millis=millis)
 
 
+@timed
 def check_close_answers():
     """Both answers come at once, the one while the program looks at the other: no look-up waits for a timer."""
     serve(99, "close")
@@ -182,4 +183,4 @@ def check_close_answers():
         ticks = [int(line.split()[1]) for line in look_up("both.test").stdout.splitlines()]
         if len(ticks) != 2 or max(ticks) >= LONGEST:
             late.append(ticks)
-    tell(not late, "answers that come close together", late)
+    must(not late, "answers that come close together:", late)

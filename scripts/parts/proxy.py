@@ -83,7 +83,7 @@ class Proxy:
         return client
 
     def ask(self, host, port, count=0, seconds=TIMEOUT):
-        """The code of the reply to a SOCKS request, and so many bytes, or all, of what comes behind it."""
+        """The code of the reply to a SOCKS request, and so many bytes, or all, of what comes after it."""
         with self.connect(seconds) as client:
             return socks(client, host, port), get(client, count)
 
@@ -303,7 +303,7 @@ def check_server_resets():
             must_close(proxy, held)
 
 
-# What is asked for, what is sent, and what the line of the session has behind both.
+# What is asked for, what is sent, and what the line of the session has after both.
 LOGGED = [("four.test", b"five5", rf"winner={re.escape(FOUR)} ms=\d+ lost=\d+ sent=5 received=5 end=closed"),
           ("no.such.name.test", b"", r"fault=no-host sent=0 received=0 end=\S+")]
 

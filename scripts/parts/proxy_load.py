@@ -95,10 +95,12 @@ def check_busy():
     """The same beside many streams, which curl fetches and the system sends, the proxy on a processor of its own."""
     needs("curl")
     first, *others = processors = os.sched_getaffinity(0)
+    if len(others) < 3:
+        raise FileNotFoundError("four processors are needed: for the proxy, what sends, what fetches, and what measures")
     file, sender, pinned = OPTIONS.folder / "file", unused_port(), lambda: os.sched_setaffinity(0, {first})
     file.write_bytes(bytes(1 << 26))
     with contextlib.ExitStack() as end, Proxy("-q", limits=pinned) as proxy, serving(greet) as port:
-        os.sched_setaffinity(0, others or {first})
+        os.sched_setaffinity(0, others)
         end.callback(os.sched_setaffinity, 0, processors)
         for _ in range(2):
             end.enter_context(support.server_at(sender, sys.executable, "-c", SENDER, sender, file))

@@ -16,7 +16,7 @@ use std::io;
 use std::mem::drop;
 use stream_fakes::{FakeReader, FakeWriter};
 
-// A reader of the text that breaks behind it where the streams do.
+// A reader of the text that breaks after it where the streams do.
 fn reader_of(text: &[u8], streams: Streams) -> FakeReader<'_> {
     let reader = FakeReader::new(text, 7);
     match streams {

@@ -65,7 +65,7 @@ struct Example<'a> {
     fault: &'a [u8],
 }
 
-// How a text comes: the bytes before the cut and those behind it apart, so many in one read at most.
+// How a text comes: the bytes before the cut and those after it apart, so many in one read at most.
 #[derive(Clone, Copy)]
 struct Pieces {
     cut: usize,
@@ -305,7 +305,7 @@ fn run_check_json(
     Ok(())
 }
 
-// Whether this is said of a fault behind its line, or of the text's slips: what stands in the file, or, where there is
+// Whether this is said of a fault after its line, or of the text's slips: what stands in the file, or, where there is
 // none, something where there is a fault.
 fn explains(explanation: &[u8], fault: &[u8], told: Option<&Vec<u8>>) -> bool {
     match told {

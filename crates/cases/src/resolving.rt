@@ -316,7 +316,7 @@ fn unanswered(alloc: Global, timeline: &Timeline) -> Result<Timeline, Memory> {
     }
 }
 
-// What the future gives, polled at most once for each tick up to the one behind the limit.
+// What the future gives, polled at most once for each tick up to the one after the limit.
 fn drive<F: Future>(solo: &Solo, mut future: F, limit: u64) -> Option<F::Output>
     requires { F.can_poll future }
 {

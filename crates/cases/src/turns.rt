@@ -14,7 +14,7 @@ use std::alloc::{AllocError, Global};
 use std::io;
 use std::mem::drop;
 
-// What stands behind a transcript where an attempt that is run alone does not come to what its line tells.
+// What stands after a transcript where an attempt that is run alone does not come to what its line tells.
 const DIFFERS: &[u8] = b"an attempt differs\n";
 
 // And where the race comes to something else when its answers come while it runs.
@@ -41,7 +41,7 @@ pub fn run_turns(rt: &HostRuntime, text: &[u8], heard: &mut Heard) -> io::Result
     Ok(written)
 }
 
-// Appends the transcript of the first race, and answers what stands behind it; None where no race stands there.
+// Appends the transcript of the first race, and answers what stands after it; None where no race stands there.
 fn run_first<'a>(
     alloc: Global,
     solo: &Solo,

@@ -20,7 +20,7 @@ abbrev pub family_of : Ip → ℕ
 family_of (families.V4 bits) = 4
 family_of (families.V6 bits) = 6
 
--- the bytes of an address, the first first; of an IPv4 address 12 zeros stand behind them
+-- the bytes of an address, the first first; of an IPv4 address 12 zeros stand after them
 abbrev pub bytes_of : Ip → List ℕ
 bytes_of (families.V4 bits) = to_be_bytes w32 bits ++ replicate 12 0
 bytes_of (families.V6 bits) = to_be_bytes w128 bits

@@ -32,7 +32,7 @@ pub(crate) fn check_of(alloc: Global, input: &[u8]) -> Result<Output, Memory>
     }
 }
 
-// The fault's line and kind, and behind them what is said of it.
+// The fault's line and kind, and after them what is said of it.
 fn words_of(alloc: Global, input: &[u8], fault: TextFault) -> Result<Vec<u8>, Memory> {
     let mut text = format!(in alloc; "{fault}\n")?.into_bytes();
     explain_fault(alloc, input, fault, &mut text)?;

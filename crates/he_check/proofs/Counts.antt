@@ -33,7 +33,7 @@ use Rattle.he_check.proofs.Hints.{FirstFaults, hint_there, words_behind}
 use Rattle.he_check.proofs.NextRaces.{after_more}
 use Rattle.he_check.proofs.WholeLines.{whole_append, whole_race}
 
--- the bytes up to a place and those behind it
+-- the bytes up to a place and those after it
 pub parts_of : (before bytes : List ℕ) (end : ℕ) → (before ++ take end bytes) ++ drop end bytes ≡ before ++ bytes
 parts_of before bytes end = append_assoc before (take end bytes) (drop end bytes) ∙ ap (λ (b : List ℕ). before ++ b) (take-append-drop end bytes)
 
@@ -41,7 +41,7 @@ some_as : {X : Type 0} (o : Option X) (P Q : X → Type 0) → ((x : X) → P x 
 some_as None P Q each is = tt
 some_as (Some x) P Q each is = each x is
 
--- one race more behind the others, with its warnings behind theirs
+-- one race more after the others, with its warnings after theirs
 warned_on : (lines : ℕ) (races : List Race) (text : List ℕ) (warnings : List Warning) → AreWarned lines races text warnings
     → (race : Race) (last : List ℕ) → IsRaceText last race → (line : ℕ) → line ≡ lines + line_count text + 1
     → AreWarned lines (races ++ race ∷ []) (text ++ last) (warnings ++ warnings_of line race)
@@ -102,7 +102,7 @@ pub never_none : (o : Option TextFault) (fault : TextFault) → option_or o (Som
 never_none None fault is = cc
 never_none (Some one) fault is = cc
 
--- the line of a fault of its words is one behind which another stands
+-- the line of a fault of its words is one after which another stands
 words_left : FirstFaults → (races lines : ℕ) (text : List ℕ) (fault : TextFault) → IsFaultBehind false races lines text (Some (Text fault)) → is_of_words fault.kind ≡ true
     → fault.line - lines < length (lines_of text)
 words_left first races lines [] fault is words = cc
@@ -468,7 +468,7 @@ module _ {A : Type 0} (ending : Ending) (before bytes : List ℕ) (old new : Cou
             after_more is_broken old.reader.lines (left ++ more) n others (omega arith) (none more)
             (subst₂ (λ (m : ℕ) (t : List ℕ). AreFaultsAfter is_broken m t others) (counted more) (behind more) are)))
 
-        -- the next race begins behind them
+        -- the next race begins after them
         pub found_at : reader.races ≡ 0 → AreWhole (front ++ take n left) → ((more : List ℕ) → IsNextRace (left ++ more) n) → IsAt ending before bytes (record old { reader = reader; is_seeking = false })
         found_at races whole next =
             sought_at false (λ _. subst AreWhole (sym further) whole)

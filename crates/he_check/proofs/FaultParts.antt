@@ -19,12 +19,12 @@ abbrev fault_over : ℕ → InputFault → InputFault
 fault_over lines Read = Read
 fault_over lines (Text fault) = Text (behind lines fault)
 
--- the line of a fault stands behind so many lines
+-- the line of a fault stands after so many lines
 abbrev StandsBehind : ℕ → InputFault → Type 0
 StandsBehind lines Read = Unit {0}
 StandsBehind lines (Text fault) = lines + 1 ≤ fault.line
 
--- a fault behind lines of a part and those before it
+-- a fault after lines of a part and those before it
 abbrev Over : Bool → ℕ → ℕ → ℕ × TextKind → Type 0
 Over is_broken lines more found =
     (fault_behind is_broken (lines + more) found ≡ fault_over lines (fault_behind is_broken more found))
@@ -50,7 +50,7 @@ over is_broken lines more line kind some = by_kind is_broken kind
     by_kind true (kinds.Policy fault) = (same (kinds.Policy fault), omega arith)
     by_kind true kinds.Memory = (same kinds.Memory, omega arith)
 
--- a fault behind so many lines of an input, as that of the part
+-- a fault after so many lines of an input, as that of the part
 record IsOver (is_broken : Bool) (count lines more : ℕ) (rest : List ℕ) (fault : InputFault) : Type 0 where
   found : InputFault
   is : IsFaultBehind is_broken count more rest (Some found)
@@ -83,7 +83,7 @@ is_over first is_broken count lines more (byte ∷ rest) fault (inr (few, (line,
       stands = subst (StandsBehind (lines + more)) (sym here) all.1;
     }
 
--- the line of a fault stands behind those before it
+-- the line of a fault stands after those before it
 pub fault_stands : FirstFaults → (is_broken : Bool) (races lines : ℕ) (text : List ℕ) (fault : TextFault) → IsFaultBehind is_broken races lines text (Some (Text fault)) → lines + 1 ≤ fault.line
 fault_stands first is_broken races lines text fault is =
     let none : lines ≡ 0 + lines = omega arith in

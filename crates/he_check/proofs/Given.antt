@@ -42,7 +42,7 @@ module _ {S : Type 0} (remaining : S → Option (List ℕ)) (takes : S → Taken
       told = inr (record { steps = steps; all = all; before = before });
     }
 
--- a step gave more bytes, behind others that are there no more
+-- a step gave more bytes, after others that are there no more
 pub piece_taken : (a b c : Option (List ℕ)) (first old new : List ℕ) (filled count size : ℕ) → take filled new ≡ take filled old → count ≤ size → Consumes a b (first ++ take filled old)
     → Consumes b c (take count (take size (drop filled new))) → Consumes a c (first ++ take (filled + count) new)
 piece_taken a b c first old new filled count size same small before took =

@@ -64,7 +64,7 @@ unfolding line_fault
 last_wrong [] line kind is = ends_wrong (nat_lt most_line_bytes (length line)) _ kind is
 last_wrong (first ∷ before) line kind is = ends_wrong (nat_lt most_line_bytes (length line)) _ kind is
 
--- behind the line of a fault of its words stands another
+-- after the line of a fault of its words stands another
 pub words_behind : FirstFaults → (text : List ℕ) (line : ℕ) (kind : TextKind) → fault_of text ≡ Some (line, kind) → is_of_words kind ≡ true → line < length (lines_of text)
 words_behind first text line kind at words = by_after is.before is.line is.after is.parts is.number is.fails
   where

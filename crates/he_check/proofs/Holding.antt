@@ -18,7 +18,7 @@ use Rattle.he_check.specs.declared.taking.Held.{Held}
 use Rattle.he_check.proofs.Checks.{ended}
 use Rattle.he_check.proofs.Counts.{ending_at, front_at, more_at, parts_of}
 
--- the bytes behind a place, moved to the front
+-- the bytes after a place, moved to the front
 pub moved : (bytes : List ℕ) (end filled : ℕ) → end ≤ filled → filled ≤ length bytes → take (filled - end) (paste bytes 0 (drop end bytes) (filled - end)) ≡ drop end (take filled bytes)
 moved bytes end filled place within =
     let left = filled - end in
@@ -58,7 +58,7 @@ holds_on {A} old new next filled ready tried within inside front place gone coun
     ∙ sym (drop-take end (ready - end) (take filled items)) ∙ ap (λ (n : ℕ). drop end (take n (take filled items))) sum ∙ ap (drop end) (take-take ready filled items within) in
     (before ++ take end (take ready items), all, subst₂ (λ (t : List ℕ) (c : Counted A). IsAt endings.Open (before ++ take end (take ready items)) t c) (sym looked) (sym counted) passed)
 
--- a step made room behind the bytes, and left them
+-- a step made room after the bytes, and left them
 pub tried_same : {A : Type 0} (counted : Counted A) (before old new : List ℕ) (tried filled : ℕ) → tried ≤ filled → take filled new ≡ take filled old → IsAt endings.Open before (take tried old) counted
     → IsAt endings.Open before (take tried new) counted
 tried_same counted before old new tried filled less same at =

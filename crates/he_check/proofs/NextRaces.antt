@@ -100,7 +100,7 @@ too_short text short at (front, version, more, split, place) =
     header_size One = refl
     header_size Two = refl
 
--- the line end at this place of a text, and what stands behind it
+-- the line end at this place of a text, and what stands after it
 pub record IsLine (text : List ℕ) (at : ℕ) (next : List ℕ) : Type 0 where
   pub none : HasNoEnd text at
   pub inside : at + 1 ≤ length text
@@ -138,7 +138,7 @@ module _ (text more next : List ℕ) (at : ℕ) (line : IsLine text at next) (lo
     behind : drop (at + 1) (text ++ more) ≡ next ++ more
     behind = drop-append-le (at + 1) text more line.inside ∙ ap (λ (t : List ℕ). t ++ more) line.left
 
-    -- no race begins behind the line end
+    -- no race begins after the line end
     pub no_race_there : begins_race next ≡ false → (other : ℕ) → BeginsRace (text ++ more) other → at + 1 + 1 ≤ other
     no_race_there other_line other is =
         let inside = line.inside in
@@ -165,7 +165,7 @@ module _ (text more next : List ℕ) (at : ℕ) (line : IsLine text at next) (lo
         let size : length front ≡ at = length-take-le at text (omega arith) in
         record { begins = (front, start.0, rest, split, ap (λ n. n + 1) (sym size)); first = λ other is. no_race text more at other (omega arith) line.none is }
 
--- the faults from the next race on are those behind bytes in which none begins
+-- the faults from the next race on are those after bytes in which none begins
 pub after_more : (is_broken : Bool) (lines : ℕ) (text : List ℕ) (n : ℕ) (faults : List TextFault) → n ≤ length text → ((other : ℕ) → BeginsRace text other → n + 1 ≤ other)
     → AreFaultsAfter is_broken (lines + line_count (take n text)) (drop n text) faults → AreFaultsAfter is_broken lines text faults
 after_more is_broken lines text n faults inside none after = elim after [

@@ -11,7 +11,7 @@ use Rattle.he_check.specs.declared.input.Checked.{Checked}
 use Rattle.he_check.specs.declared.meant.Meant.{Meant}
 use Rattle.he_check.specs.declared.slips.Warning.{Warning}
 
--- what was likely meant and a line end stand behind a sentence
+-- what was likely meant and a line end stand after a sentence
 pub ends_behind : (before said : List ℕ) (meant hint : Option Meant) (text new : List ℕ) → meant ≡ hint → text ≡ before ++ (said ++ meant_text meant) → new ≡ text ++ 10 ∷ [] → new ≡ (before ++ said) ++ clause_text hint
 ends_behind before said meant hint text new same is longer =
     longer ∙ ap (λ (t : List ℕ). t ++ 10 ∷ []) is ∙ append_assoc before (said ++ meant_text meant) (10 ∷ [])

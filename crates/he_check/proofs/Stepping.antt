@@ -182,7 +182,7 @@ module _ {A : Type 0} (ending : Ending) (bytes : List ℕ) (old new : Counted A)
           };
         }
 
-        -- the next race begins behind them
+        -- the next race begins after them
         pub found_stepped : reader.races ≡ 0 → line_count (take n left) ≡ 1 → 1 ≤ n → ((before : List ℕ) → AreWhole (before ++ take n left)) → ((more : List ℕ) → IsNextRace (left ++ more) n)
             → HasStepped ending bytes old (record old { reader = reader; is_seeking = false }) true
         found_stepped none one some whole next = record {

@@ -1,4 +1,4 @@
--- Whole lines at the front of a text: the texts of races are such, and each line behind them is one of the rest.
+-- Whole lines at the front of a text: the texts of races are such, and each line after them is one of the rest.
 use Rattle.std.proofs.Common.{ℕ, zero, suc, ◌≡◌, ◌+◌, ◌-◌, ◌<◌, ◌≤◌, Bool, true, false, cond, eqb, List, [], ◌∷◌, ◌++◌, length, get_or, refl, sym, subst, ◌∙◌, ap, append_assoc, append-nil, get_or-append-add, arith, codes, inl, inr}
 use Rattle.std.specs.List.{join_with_byte, onto_first}
 use Rattle.std.proofs.lemmas.List.Splits.{join_with_byte-slice_split, length-slice_split, slice_split-cons_yes}
@@ -33,7 +33,7 @@ whole_races [] text none = inl none
 whole_races (race ∷ races) text (first, more, split, is, are) =
     subst AreWhole (sym split) (whole_append first more (whole_race first race is) (whole_races races more are))
 
--- the parts of a text before a mark, and those behind it
+-- the parts of a text before a mark, and those after it
 split_on : (front rest : List ℕ) → lines_of (front ++ (10 ∷ rest)) ≡ lines_of front ++ lines_of rest
 split_on [] rest = slice_split-cons_yes (λ b. eqb b 10) 10 rest refl
 split_on (byte ∷ front) rest =
@@ -46,7 +46,7 @@ split_on (byte ∷ front) rest =
     step false [] some = absurd (omega arith)
     step false (part ∷ parts) some = refl
 
--- the lines of a text behind whole ones
+-- the lines of a text after whole ones
 lines_behind : (before rest : List ℕ) → AreWhole before
     → (lines : List (List ℕ)) × (lines_of (before ++ rest) ≡ lines ++ lines_of rest) × (length lines ≡ line_count before)
 lines_behind before rest (inl none) = ([], ap (λ (b : List ℕ). lines_of (b ++ rest)) none, ap line_count (sym none))
@@ -57,7 +57,7 @@ lines_behind before rest (inr (front, is)) =
       counted ∙ sym (ap line_count is ∙ line_count-append front (10 ∷ [])),
     )
 
--- a line of what stands behind whole lines is one of all
+-- a line of what stands after whole lines is one of all
 pub line_there : (before rest : List ℕ) (line : ℕ) → AreWhole before → line_count before + 1 ≤ line → line_at (line - line_count before) rest ≡ line_at line (before ++ rest)
 line_there before rest line whole behind =
     let lines = lines_behind before rest whole in
@@ -70,7 +70,7 @@ line_there before rest line whole behind =
     ∙ ap (λ (l : List (List ℕ)). get_or l (line - 1) []) (sym lines.1)
     ∙ sym (unwrap_or-slice_get (lines_of (before ++ rest)) (line - 1) [])
 
--- a line behind which another one stands stays, whatever follows the text
+-- a line after which another one stands stays, whatever follows the text
 pub line_stays : (text more : List ℕ) (at : ℕ) → at + 1 < length (lines_of text) → get_or (lines_of (text ++ more)) at [] ≡ get_or (lines_of text) at []
 line_stays [] more at short = let one : length (lines_of []) ≡ 1 = refl in absurd (omega arith)
 line_stays (byte ∷ text) more at short =

@@ -23,7 +23,7 @@ BeginsRace text at =
     (front : List ℕ) × (version : Version) × (more : List ℕ)
     × (text ≡ front ++ (line_end ∷ (header_of version ++ (line_end ∷ more)))) × (at ≡ length front + 1)
 
--- The next race behind the one with which the text begins. Where that one has no `end`, its first faulty line is the
+-- The next race after the one with which the text begins. Where that one has no `end`, its first faulty line is the
 -- first line of the next race, since `race` is the word of no other line: the next race begins on the faulty line.
 pub record IsNextRace (text : List ℕ) (at : ℕ) : Type 0 where
   pub begins : BeginsRace text at
@@ -36,7 +36,7 @@ IsLastRace text = (at : ℕ) → BeginsRace text at → ⊥
 abbrev pub behind : ℕ → TextFault → TextFault
 behind lines fault = record { line = lines + fault.line; kind = fault.kind }
 
--- the faults of the parts of a text that stands behind so many lines of an input
+-- the faults of the parts of a text that stands after so many lines of an input
 abbrev pub AreFaultsBehind : Bool → ℕ → List ℕ → List TextFault → Type 0
 AreFaultsBehind is_broken lines text [] = (races : List Race) × HasRaces text is_broken races (fault_at_end is_broken)
 AreFaultsBehind is_broken lines text (fault ∷ faults) =
@@ -79,7 +79,7 @@ abbrev pub end_text : Bool → List ℕ
 end_text true = codes "he: cannot read the input" ++ 10 ∷ []
 end_text false = []
 
--- behind these words for the first faults, how many more there are, and last that the input broke off
+-- after these words for the first faults, how many more there are, and last that the input broke off
 abbrev pub whole_text : Form → List ℕ → ℕ → Bool → List ℕ
 whole_text Lines first more is_broken = first ++ (more_text more ++ end_text is_broken)
 whole_text Json first more is_broken = faults_member first more is_broken

@@ -1,4 +1,4 @@
--- Which fault has a clause behind its sentence, and which line it is of.
+-- Which fault has a clause after its sentence, and which line it is of.
 use Rattle.std.specs.Prelude.{ℕ, ◌≡◌, ◌==◌, ◌-◌, ◌++◌, Bool, true, false, List, [], if◌then◌else◌, Option, None}
 use Rattle.std.specs.List.{filter_map, slice_get}
 use Rattle.std.specs.Option.{option_or, unwrap_or}
@@ -33,6 +33,6 @@ hint_of input fault =
     option_or (if fault.line == 1 then input_meant input else None)
     (if is_of_words fault.kind then line_meant (line_at fault.line input) else None)
 
--- what is said of the fault of the input stands behind the old text, and ends in its clause
+-- what is said of the fault of the input stands after the old text, and ends in its clause
 abbrev pub EndsInClause : List ℕ → TextFault → List ℕ → List ℕ → Type 0
 EndsInClause input fault old new = (said : List ℕ) × (new ≡ old ++ (said ++ clause_text (hint_of input fault)))

@@ -13,11 +13,11 @@ abbrev pub file_text : Option (List ℕ) → List ℕ
 file_text None = codes "null"
 file_text (Some name) = string_text name
 
--- the object has the name and these members behind it
+-- the object has the name and these members after it
 abbrev pub object_text : Option (List ℕ) → List ℕ → List ℕ
 object_text file members = codes "{\"file\":" ++ (file_text file ++ (members ++ codes "}\n"))
 
--- the entry of a fault or a warning, behind a comma: its line, its kind, and what is said of it
+-- the entry of a fault or a warning, after a comma: its line, its kind, and what is said of it
 abbrev pub entry_text : ℕ → List ℕ → List ℕ → List ℕ
 entry_text line kind said =
     codes ",{\"line\":" ++ (decimal line ++ (codes ",\"kind\":" ++ (string_text kind

@@ -1,4 +1,4 @@
--- What is said of a slip: what it comes to, and what to do; and behind the sentence of a fault: what was likely meant.
+-- What is said of a slip: what it comes to, and what to do; and after the sentence of a fault: what was likely meant.
 use Rattle.std.specs.Prelude.{ℕ, ◌++◌, List, [], ◌∷◌, codes, decimal, Option, Some, None}
 use Rattle.he_addr.specs.declared.ip.Family.TheVariants as families
 use Rattle.he_check.specs.declared.meant.Meant.{Meant}

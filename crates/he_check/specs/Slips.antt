@@ -90,7 +90,7 @@ warning_at line slip = record { line = line; slip = slip }
 abbrev pub warnings_of : ℕ → Race → List Warning
 warnings_of line race = map (warning_at line) (slips_of race)
 
--- the text is, behind so many lines, one after the other a text of each of the races, and these are their warnings
+-- the text is, after so many lines, one after the other a text of each of the races, and these are their warnings
 abbrev pub AreWarned : ℕ → List Race → List ℕ → List Warning → Type 0
 AreWarned lines [] text warnings = (text ≡ []) × (warnings ≡ [])
 AreWarned lines (race ∷ races) text warnings =

@@ -1,4 +1,4 @@
--- Mirrors the code: how far a check has come in an input of which it holds the bytes behind the last race that it
+-- Mirrors the code: how far a check has come in an input of which it holds the bytes after the last race that it
 -- passed. What a check tells stands in `Checked`, `Slips` and `AllFaults`.
 use Rattle.std.specs.Prelude.{ℕ, ◌≡◌, ◌⊎◌, ◌<◌, ◌≤◌, ◌+◌, ◌-◌, ◌*◌, ◌==◌, Bool, true, false, List, [], ◌∷◌, ◌++◌, ◌||◌, length, map, take, drop, codes, if◌then◌else◌, Option, Some, None, IfSome, Result, Ok, Err}
 use Rattle.std.specs.List.{flat_map, slice_get}
@@ -46,7 +46,7 @@ AreWhole lines = (lines ≡ []) ⊎ ((front : List ℕ) × (lines ≡ front ++ l
 abbrev pub begins_race : List ℕ → Bool
 begins_race text = begins (codes "race 1" ++ 10 ∷ []) text || begins (codes "race 2" ++ 10 ∷ []) text
 
--- what was meant by a fault whose line stands in this rest of an input, behind so many lines
+-- what was meant by a fault whose line stands in this rest of an input, after so many lines
 abbrev pub hint_in : ℕ → List ℕ → TextFault → Option Meant
 hint_in lines rest fault =
     option_or (if fault.line == 1 then input_meant rest else None)
@@ -64,13 +64,13 @@ pub record IsClean (front : List ℕ) (reader : RaceReader) (warnings : List War
   pub counted : reader.races ≡ length races
   pub warned : AreWarned 0 races front warnings
 
--- the faults of a text that stands behind so many races of its part and so many lines of its input
+-- the faults of a text that stands after so many races of its part and so many lines of its input
 abbrev pub AreFaultsPast : Bool → ℕ → ℕ → List ℕ → List TextFault → Type 0
 AreFaultsPast is_broken races lines text faults =
     (passed : List Race) (front : List ℕ) (start : ℕ) → AreRaceTexts passed front → length passed ≡ races
     → lines ≡ start + line_count front → AreFaultsBehind is_broken start (front ++ text) faults
 
--- the faults of a text that stands behind so many lines, from the next race on
+-- the faults of a text that stands after so many lines, from the next race on
 abbrev pub AreFaultsAfter : Bool → ℕ → List ℕ → List TextFault → Type 0
 AreFaultsAfter is_broken lines text faults =
     (IsLastRace text × (faults ≡ []))
@@ -93,7 +93,7 @@ pub record HasTold {A : Type 0} (ending : Ending) (input left : List ℕ) (count
   pub said : (more : List ℕ) (is_broken : Bool) → MayFollow ending more is_broken
       → AreSaid counted.told.form (input ++ more) (take MOST_TOLD faults) counted.told.text.items
 
--- how far a check has come in an input of these bytes, which may go on, behind others that are there no more
+-- how far a check has come in an input of these bytes, which may go on, after others that are there no more
 pub record IsAt {A : Type 0} (ending : Ending) (before bytes : List ℕ) (counted : Counted A) : Type 0 where
   pub lined : counted.reader.lines ≡ line_count (before ++ take counted.reader.end bytes)
   pub whole : counted.is_seeking ≡ false → AreWhole (before ++ take counted.reader.end bytes)
@@ -104,7 +104,7 @@ pub record IsAt {A : Type 0} (ending : Ending) (before bytes : List ℕ) (counte
       → IfSome counted.told.first (λ fault. counted.reader.lines + 1 ≤ fault.line)
   pub told : counted.told.is_all ≡ true → HasTold ending (before ++ bytes) (drop counted.reader.end bytes) counted
 
--- the numbers of a check: each fault has a line of its own, and the next race is sought behind a fault
+-- the numbers of a check: each fault has a line of its own, and the next race is sought after a fault
 pub record IsSound {A : Type 0} (counted : Counted A) : Type 0 where
   pub few : counted.reader.races ≤ most_races
   pub count : counted.told.is_all ≡ true

@@ -59,7 +59,7 @@ Checks Given Taken Whole Part Kept (Err Write) =
     (checked : Checked) × FindsRight Given checked × Part (report_text checked)
 Checks Given Taken Whole Part Kept (Err Memory) = Kept
 
--- the input was given, whole or up to where it broke off, and its warnings are told behind what stood there
+-- the input was given, whole or up to where it broke off, and its warnings are told after what stood there
 pub record TellsWarnings (Given : List ℕ → Bool → Type 0) (old new : List ℕ) : Type 0 where
   pub input : List ℕ
   pub is_broken : Bool
@@ -77,7 +77,7 @@ pub record TellsFault (form : Form) (Given : List ℕ → Bool → Type 0) (Take
   pub said : List ℕ
   pub told : new ≡ old ++ alone_text form fault said (hint_of input fault)
 
--- the input was given, whole or up to where it broke off, and its faults are told behind what stood there
+-- the input was given, whole or up to where it broke off, and its faults are told after what stood there
 pub record TellsAll (form : Form) (Given : List ℕ → Bool → Type 0) (faults : List TextFault)
     (old new : List ℕ) : Type 0 where
   pub input : List ℕ

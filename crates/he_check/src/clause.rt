@@ -1,4 +1,4 @@
-// What is said behind the sentence of a fault: what was likely meant.
+// What is said after the sentence of a fault: what was likely meant.
 
 ghost use Rattle.std.specs.Prelude.{◌≡◌, ◌++◌, OnOk};
 ghost use Rattle.std.specs.List.{slice_get};

@@ -1,4 +1,4 @@
-// How far a check of an input has come: race by race, and behind a faulty one from the next race on.
+// How far a check of an input has come: race by race, and after a faulty one from the next race on.
 ghost use Rattle.std.specs.Prelude.{◌≡◌, ◌++◌, ◌^◌, ◌≤◌, ◌+◌, length, false, true, IfOk, IsSome, OnOk};
 ghost use Rattle.he_inputs.specs.RaceReading.{IsWithin};
 ghost use Rattle.he_inputs.specs.declared.race_reader.Ending.{Ending};
@@ -23,7 +23,7 @@ use std::mem::drop;
 #[derive(Drop)]
 pub(crate) struct Counted<A: Allocator> {
     pub(crate) reader: RaceReader,
-    // Whether the next race is sought: the reader stands behind the beginning of a faulty one.
+    // Whether the next race is sought: the reader stands after the beginning of a faulty one.
     pub(crate) is_seeking: bool,
     // Those of the races before the first faulty one.
     pub(crate) warnings: Vec<Warning, A>,
@@ -102,7 +102,7 @@ impl<A: Allocator + Copy> Counted<A> {
         }
     }
 
-    // Passes the rest of a line, if it ends in the bytes and enough stands behind it to tell whether a race begins.
+    // Passes the rest of a line, if it ends in the bytes and enough stands after it to tell whether a race begins.
     fn seek(&mut self, bytes: &[u8]) -> bool
         requires within { IsWithin bytes.now self.old.reader }
         requires seeks { self.old.is_seeking ≡ true }

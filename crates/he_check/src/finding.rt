@@ -239,7 +239,7 @@ fn floor_sentence(place: Place<'_>) -> Option<Found> {
 // The number that the race's lines up to this one give the setting, and the number of the line that does.
 fn setting(place: Place<'_>, name: Name) -> Option<(u64, u64)> {
     for (at, earlier) in place.before.split(|byte| *byte == LINE_END).enumerate() {
-        // behind the last line end stands the line itself
+        // after the last line end stands the line itself
         let line = if earlier.is_empty() {
             place.line
         } else {
@@ -362,7 +362,7 @@ fn lines_before_table(place: Place<'_>) -> usize {
         .count()
 }
 
-// The precedence on the line that stands so many lines behind the race's first one.
+// The precedence on the line that stands so many lines after the race's first one.
 fn precedence_of(place: Place<'_>, at: usize) -> Option<u64> {
     let line = place.before.split(|byte| *byte == LINE_END).nth(at)?;
     read_number(token(line, 2))

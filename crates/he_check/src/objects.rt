@@ -10,7 +10,7 @@ use he_addr::{Memory, write_number};
 use he_print::write_string;
 use std::alloc::Allocator;
 
-// The object of an input, from the file of this name or from none, with these members behind that.
+// The object of an input, from the file of this name or from none, with these members after that.
 pub(crate) fn object_of<A: Allocator + Copy>(
     alloc: A,
     file: Option<&str>,
@@ -135,7 +135,7 @@ fn write_end<A: Allocator>(is_broken: bool, text: &mut Vec<u8, A>) -> Result<(),
     Ok(())
 }
 
-// Entries as a list. Each stands behind a comma, and the first comma is left out.
+// Entries as a list. Each stands after a comma, and the first comma is left out.
 fn write_list<A: Allocator>(entries: &[u8], text: &mut Vec<u8, A>) -> Result<(), Memory>
     ensures { OnOk result (text.new.items ≡ text.old.items ++ list_text entries.now) }
 {

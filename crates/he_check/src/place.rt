@@ -74,7 +74,7 @@ pub(crate) fn find_line(part: RestOfInput<'_>, number: u64) -> Place<'_> {
     }
 }
 
-// The bytes up to the first line end, and those behind it.
+// The bytes up to the first line end, and those after it.
 fn cut_line(text: &[u8]) -> (&[u8], &[u8]) {
     match memchr(LINE_END, text) {
         Some(at) => (&text[..at], &text[at + 1..]),
@@ -83,7 +83,7 @@ fn cut_line(text: &[u8]) -> (&[u8], &[u8]) {
 }
 
 impl Place<'_> {
-    // The number of the line that stands so many lines behind the race's first one.
+    // The number of the line that stands so many lines after the race's first one.
     pub(crate) fn number(self, at: usize) -> u64 {
         self.first.saturating_add(at as u64)
     }

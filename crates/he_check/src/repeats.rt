@@ -28,7 +28,7 @@ fn given_above(word: Word) -> &'static str {
     }
 }
 
-// The number of the earlier line of the word whose first token behind it says the same.
+// The number of the earlier line of the word whose first token after it says the same.
 fn find_earlier(place: Place<'_>, word: Word) -> Option<u64> {
     for (at, line) in place.before.split(|byte| *byte == LINE_END).enumerate() {
         if first_word(line) == Some(word) && is_same(word, token(line, 1), token(place.line, 1)) {
@@ -38,7 +38,7 @@ fn find_earlier(place: Place<'_>, word: Word) -> Option<u64> {
     None
 }
 
-// Whether the first tokens behind the word say the same.
+// Whether the first tokens after the word say the same.
 fn is_same(word: Word, one: &[u8], other: &[u8]) -> bool {
     match word {
         Word::Policy | Word::Route => read_prefix(one) == read_prefix(other),

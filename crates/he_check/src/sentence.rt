@@ -30,7 +30,7 @@ pub(crate) enum Sentence {
     Most(&'static str, u64, &'static str),
     // A race may have at most so many lines that begin with the word.
     MostLines(u64, &'static str),
-    // A line with the first word comes behind one with the second.
+    // A line with the first word comes after one with the second.
     Order(&'static str, &'static str),
     // The pause before this one ends only at this tick.
     PauseAbove(u64),

@@ -21,7 +21,7 @@ use he_words::limits::MAX_LINE;
 use memchr::memrchr;
 use std::alloc::Allocator;
 
-// What is held of an input: its bytes behind the last race that was passed. That is no more than the text of one race
+// What is held of an input: its bytes after the last race that was passed. That is no more than the text of one race
 // may have, and as much again before that is looked at once more, and what one step gives.
 #[derive(Drop)]
 struct Held<A: Allocator> {

@@ -87,7 +87,7 @@ EndsWon output only_tries false before after status =
 EndsWon output true true before after status = (status ≡ DONE) × (after ≡ before)
 EndsWon output false true before after status = RelaysTo output before after status
 
--- the same behind the object of the race with this text; where that cannot be shown nothing is relayed
+-- the same after the object of the race with this text; where that cannot be shown nothing is relayed
 abbrev pub EndsShown : {O : Type 0} → outputs.Ghosts O → Bool → List ℕ → Bool → O → O → ℕ → Type 0
 EndsShown {O} output only_tries text won before after status =
     (between : O) × (shown : ℕ) × ShowsRace output text before between shown

@@ -76,7 +76,7 @@ fn end_race<R: System, I: InputStream, O: OutputStream + Send, F: Write>(
     }
 }
 
-// The same behind the object of the race, with which it ends where that cannot be shown.
+// The same after the object of the race, with which it ends where that cannot be shown.
 fn end_shown<R: System, I: InputStream, O: OutputStream + Send, F: Write>(
     session: &mut Session<'_, '_, R, O, F>,
     connection: &Connection<'_>,

@@ -40,7 +40,7 @@ any_kept p q (x ∷ xs) =
 neither : (a b : Bool) → a ≡ false → b ≡ false → (a || b) ≡ false
 neither a b ha hb = cc
 
--- in none of these lists it is, so neither in both, one behind the other
+-- in none of these lists it is, so neither in both, one after the other
 none_in : (p : Event → Bool) (xs ys : List Event) → list_any p xs ≡ false → list_any p ys ≡ false → list_any p (xs ++ ys) ≡ false
 none_in p xs ys left right = list_any-append p xs ys ∙ neither (list_any p xs) (list_any p ys) left right
 

@@ -40,7 +40,7 @@ failed_of : (floor : Option ℕ) (P : ℕ → Type 0) (Q : Type 0) → IsSomeAnd
 failed_of None P Q h = absurd h
 failed_of (Some n) P Q h = h.1
 
--- behind it the floor is of no account
+-- after it the floor is of no account
 module _ (race : Race) (x : Attempt) (never : NeverFails race x) where
   waited : (f g : Option ℕ) (done : List Attempt) (t : ℕ) (last : Attempt) → HasWaited (with_floor race f) (x ∷ done) t last → HasWaited (with_floor race g) (x ∷ done) t last
   unfolding with_floor

@@ -61,7 +61,7 @@ none_later x (y ∷ ys) h =
       | inr without ↦ dropped (same_tick x) y ys without ∙ none_later x ys h.1
     ]
 
--- in front of later events an event stands with those of its tick as behind them
+-- in front of later events an event stands with those of its tick as after them
 in_front : (x event : Event) (later : List Event) → AreAtLeast (suc event.tick) later → filter (same_tick x) (event ∷ later) ≡ filter (same_tick x) (later ++ event ∷ [])
 in_front x event later h =
     elim (cases_Bool (same_tick x event)) [

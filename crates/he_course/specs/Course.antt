@@ -15,7 +15,7 @@ use Rattle.he_course.specs.Addresses.{preferred}
 use Rattle.he_course.specs.Events.{events_by_kind}
 use Rattle.he_course.specs.LeastFloor.{IsSooner, ended_of}
 
--- an event behind those of its tick and of earlier ones
+-- an event after those of its tick and of earlier ones
 abbrev pub put_event : Event → List Event → List Event
 put_event event [] = event ∷ []
 put_event event (first ∷ more) =

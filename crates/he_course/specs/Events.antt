@@ -64,7 +64,7 @@ met_events race =
 abbrev pub attempt_of : Line → Attempt
 attempt_of line = record { place = line.place; tick = line.tick; ip = line.ip }
 
--- the start of an attempt, behind the one before it and the last failure
+-- the start of an attempt, after the one before it and the last failure
 abbrev pub start_event : Race → Option Attempt → Option ℕ → Attempt → Event
 start_event race last failed next =
     let cause = cause_of race last failed next in
@@ -78,7 +78,7 @@ start_event race last failed next =
       listed = listed_at race next.tick next.ip;
     }))
 
--- the starts of attempts one after the other, behind the last one before them and the last failure
+-- the starts of attempts one after the other, after the last one before them and the last failure
 abbrev pub start_events : Race → Option Attempt → Option ℕ → List Line → List Event
 start_events race last failed [] = []
 start_events race last failed (line ∷ lines) =

@@ -21,7 +21,7 @@ abbrev pub is_v6_at : List Ip → ℕ → Bool
 is_v6_at ips place = option_map_or is_v6 (slice_get ips place) false
 
 -- whose turn it is at a place: that of the family that leads, for its first `count` addresses; else that of a family
--- behind an address of the other one; else the other one has run out
+-- after an address of the other one; else the other one has run out
 abbrev pub turn_at : ℕ → List Ip → ℕ → Turn
 turn_at count ips place =
     if nat_lt place count && beq (is_v6_at ips 0) (is_v6_at ips place) then Leads

@@ -45,7 +45,7 @@ source_behind kept source =
     else (if list_any (same_source source) kept then Err whys.Repeated
     else (if nat_le SOURCES (length kept) then Err whys.TooMany else Ok source))
 
--- a source that is kept behind these: it is one that a machine may have, no address is kept twice, and no more than
+-- a source that is kept after these: it is one that a machine may have, no address is kept twice, and no more than
 -- the limit
 unfoldable pub judged_source : List Source → Result Source Why → Result Source Why
 judged_source kept (Err why) = Err why
@@ -58,7 +58,7 @@ route_behind kept carrier route =
     else (if list_any (same_route route) kept then Err whys.Repeated
     else (if nat_le ROUTES (length kept) then Err whys.TooMany else Ok route)))
 
--- a route that is kept behind these: its interface has a carrier and a number, no prefix is kept twice, and no more
+-- a route that is kept after these: its interface has a carrier and a number, no prefix is kept twice, and no more
 -- than the limit
 unfoldable pub judged_route : List Route → Result Metered Why → Result Route Why
 judged_route kept (Err why) = Err why
@@ -74,7 +74,7 @@ abbrev pub told_of : {X : Type 0} → File → ℕ → Result X Why → List Lef
 told_of file line (Ok x) = []
 told_of file line (Err why) = record { file = file; line = line; why = why } ∷ []
 
--- the sources that are kept, behind those that are kept already, and the lines that are left out
+-- the sources that are kept, after those that are kept already, and the lines that are left out
 abbrev pub sources_kept : List Source → List FoundSource → List Source
 sources_kept kept [] = kept
 sources_kept kept (found ∷ more) = sources_kept (with_kept kept (judged_source kept found.read)) more
@@ -85,7 +85,7 @@ sources_left kept (found ∷ more) =
     told_of found.file found.line (judged_source kept found.read)
     ++ sources_left (with_kept kept (judged_source kept found.read)) more
 
--- the routes that are kept, behind those that are kept already, and the lines that are left out
+-- the routes that are kept, after those that are kept already, and the lines that are left out
 abbrev pub routes_kept : List Route → List FoundRoute → List Route
 routes_kept kept [] = kept
 routes_kept kept (found ∷ more) = routes_kept (with_kept kept (judged_route kept found.read)) more

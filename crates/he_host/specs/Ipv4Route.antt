@@ -41,7 +41,7 @@ v4_line line = do
     mask = mask;
   })
 
--- how many ones a mask begins with, behind the 96 bits of the mapped addresses
+-- how many ones a mask begins with, after the 96 bits of the mapped addresses
 abbrev pub mask_len : ℕ → ℕ
 mask_len mask = 96 + common_of (V4 mask) 32 (V4 (2 ^ 32 - 1))
 

@@ -1,5 +1,5 @@
 -- The files of an interface below /sys/class/net: `ifindex`, `carrier` and `type` in decimal, `flags` in hexadecimal
--- behind 0x, each with a line's end.
+-- after 0x, each with a line's end.
 use Rattle.std.specs.Prelude.{ℕ, ◌^◌, ◌==◌, ◌||◌, Bool, List, [], ◌∷◌, drop, length, min, nat_lt, if◌then◌else◌}
 use Rattle.std.specs.Option.{unwrap_or}
 use Rattle.he_addr.specs.Reading.{number_in}

@@ -125,7 +125,7 @@ fn read_interfaces<R: FileSystem + AllocGlobal>(rt: &R) -> Result<Vec<Named>, Ma
     Ok(interfaces)
 }
 
-// An IPv4 address to which the route leads: the first one behind that of the network, where it has more than one.
+// An IPv4 address to which the route leads: the first one after that of the network, where it has more than one.
 fn destination_of(route: Route) -> Option<u32> {
     if !route.prefix.is_v4() {
         return None;
@@ -231,7 +231,7 @@ fn tell_guesses<R: Net>(
     Ok(())
 }
 
-// An address that the prefix contains: that of a root name server, or the first one behind that of the network.
+// An address that the prefix contains: that of a root name server, or the first one after that of the network.
 fn probe_of(prefix: Prefix) -> Option<Ip> {
     for ip in [ROOT_SERVER_V4, ROOT_SERVER_V6] {
         if prefix.contains(ip) {

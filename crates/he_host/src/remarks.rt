@@ -51,7 +51,7 @@ enum Subject {
     Route(u128, u8),
 }
 
-// The line with this number. It is the line at its place, but behind an empty one.
+// The line with this number. It is the line at its place, but after an empty one.
 fn line_at<'t>(lines: &[NumberedLine<'t>], number: u64) -> Option<&'t [u8]> {
     let place = usize::try_from(number).ok()?.checked_sub(1)?;
     let line = lines.get(place)?;

@@ -77,7 +77,7 @@ group_check more fault = cond more None fault
 pub line_mends : (told : List Said) (longer : List (List ℕ)) (s : Said) → is_next (word_said s) longer ≡ true → wrong_group told longer s ≡ None
 line_mends told longer s is = ap (λ b. group_check b (group_fault told s)) is
 
--- what stands behind a line is no whole line yet, and one of the word in the longer text
+-- what stands after a line is no whole line yet, and one of the word in the longer text
 abbrev Becomes : Word → List (List ℕ) → List (List ℕ) → Type 0
 Becomes word after longer = (last : List ℕ) × (after ≡ last ∷ []) × (is_next word longer ≡ true)
 
@@ -122,7 +122,7 @@ same_early v before line (last ∷ []) [] h = absurd h
 same_early v before line (next ∷ other ∷ lines) [] h = absurd h
 same_early v before line (next ∷ lines) (other ∷ more) h = refl
 
--- the line's fault may be mended: what stands behind the line is none yet, and becomes one of the word that the fault
+-- the line's fault may be mended: what stands after the line is none yet, and becomes one of the word that the fault
 -- waits for
 abbrev MayMend : List ℕ → List (List ℕ) → List (List ℕ) → TextKind → Type 0
 MayMend line after longer kind = (word : Word) × (awaited line kind ≡ Some word) × Becomes word after longer
@@ -181,7 +181,7 @@ last_line v before last line more longer = elim (long_or_open (ltb MAX_LINE (len
   | inr rest ↦ inr rest
 ]
 
--- line m is the last of the whole lines from line n on, and what stands behind it becomes one of the word that its
+-- line m is the last of the whole lines from line n on, and what stands after it becomes one of the word that its
 -- fault waits for
 pub record LineFollows (n : ℕ) (lines longer : List (List ℕ)) (m : ℕ) (kind : TextKind) : Type 0 where
   pub front : List (List ℕ)
@@ -423,7 +423,7 @@ last_whole (line ∷ whole) = elim (last_whole whole) [
   | inr last ↦ inr (line ∷ last.0, last.1, ap (λ w. line ∷ w) last.2)
 ]
 
--- the text's last line and what is open behind it are these alone
+-- the text's last line and what is open after it are these alone
 abbrev AreLast : List ℕ → List (List ℕ) → List ℕ → List ℕ → Type 0
 AreLast text before line rest = lines_of text ≡ before ++ line ∷ rest ∷ []
 

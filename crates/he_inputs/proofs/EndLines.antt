@@ -1,4 +1,4 @@
--- The last whole line of a text, and what stands open behind it: where the fault of a group may still be mended.
+-- The last whole line of a text, and what stands open after it: where the fault of a group may still be mended.
 use Rattle.std.proofs.Common.{◌≡◌, ◌↔◌, ℕ, ◌+◌, ◌-◌, ◌≤◌, Bool, List, [], ◌∷◌, ◌++◌, length, take, Some, None, IsTrue, refl, sym, ◌∙◌, ap, subst, inl, inr, arith, append_assoc}
 use Rattle.std.specs.List.{join_with_byte}
 use Rattle.std.proofs.lemmas.List.{length-append}
@@ -18,7 +18,7 @@ joined_last mark (part ∷ next ∷ before) line rest =
     ap (λ (t : List ℕ). part ++ mark ∷ t) (joined_last mark (next ∷ before) line rest)
     ∙ sym (append_assoc part (mark ∷ join_with_byte mark (next ∷ before ++ line ∷ [])) (mark ∷ rest))
 
--- the text up to the last line end, and what stands behind it
+-- the text up to the last line end, and what stands after it
 cut_text : (text : List ℕ) (before : List (List ℕ)) (line rest : List ℕ) → lines_of text ≡ before ++ line ∷ rest ∷ [] → text ≡ join_with_byte 10 (before ++ line ∷ []) ++ 10 ∷ rest
 cut_text text before line rest parts = sym (join_with_byte-slice_split 10 text) ∙ ap (join_with_byte 10) parts ∙ joined_last 10 before line rest
 
@@ -76,7 +76,7 @@ none_awaited text line rest n kind ends none fault =
     let wrong : None ≡ Some fault.word = none ∙ ap (λ (l : List ℕ). awaited l kind) same.1 ∙ fault.waits in
     cc
 
--- the fault is on the last whole line, and behind it stands what is open
+-- the fault is on the last whole line, and after it stands what is open
 pub fault_at_end : (text rest : List ℕ) (n m : ℕ) (kind : TextKind) → EndsIn text m rest → IsGroupFaultAtEnd text n kind → (m ≡ n) × (length rest ≡ length text → ⊥)
 fault_at_end text rest n m kind ends fault =
     let before : List (List ℕ) = fault.ends.0 in

@@ -1,4 +1,4 @@
--- What stands behind the last mark of a text, and which bytes may become a line of a word.
+-- What stands after the last mark of a text, and which bytes may become a line of a word.
 use Rattle.std.proofs.Common.{◌≡◌, ◌↔◌, ℕ, ◌+◌, ◌<◌, ◌≤◌, ◌==◌, ◌&&◌, ◌||◌, Bool, true, false, cond, eqb, leb, List, [], ◌∷◌, ◌++◌, length, take, drop, get_or, None, Ok, Err, refl, sym, ◌∙◌, ap, subst, inl, inr, arith, append_assoc}
 use Rattle.std.specs.Prelude.{◌⊎◌, IsTrue, slice_index}
 use Rattle.std.specs.List.{AllByRecursion, onto_first, join_with_byte, starts_with}
@@ -22,7 +22,7 @@ use Rattle.he_reading.proofs.NextLines.{one_word}
 use Rattle.he_reading.proofs.PartLaws.{Lacks, first_byte, parts_counted, parts_lack, parts_whole}
 use Rattle.he_reading.proofs.SaysLaws.{word_tokens}
 
--- the whole parts of a text, and the open one behind the last mark, which alone goes on in a longer text
+-- the whole parts of a text, and the open one after the last mark, which alone goes on in a longer text
 pub record Open (mark : ℕ) (text : List ℕ) : Type 0 where
   pub whole : List (List ℕ)
   pub rest : List ℕ
@@ -106,7 +106,7 @@ one_in_front (x ∷ xs) (y ∷ ys) more others h =
       | inr longer ↦ inr (longer.0, ap (λ t. x ∷ t) longer.1 ∙ ap (λ b. b ∷ ys ++ longer.0) first)
     ]
 
--- a word and the space behind it
+-- a word and the space after it
 abbrev pub spaced_word : Word → List ℕ
 spaced_word w = spelling_of w ++ 32 ∷ []
 
@@ -153,7 +153,7 @@ becomes_line w rest lacks (inr (more, is, short)) =
       ap (is_next w) lines ∙ ap (λ b. b && begins_with w (word_of (tokens_of rest))) (le-leb (length rest) MAX_LINE short) ∙ word,
     )
 
--- a line of the word is that word, or goes on behind a space
+-- a line of the word is that word, or goes on after a space
 word_line : (w : Word) → (line : List ℕ) → begins_with w (word_of (tokens_of line)) ≡ true → (line ≡ spelling_of w) ⊎ ((more : List ℕ) × (line ≡ spaced_word w ++ more))
 word_line w line h = by_word (word_of (tokens_of line)) refl h
   where
@@ -233,7 +233,7 @@ may_become_or_not w rest lacks = by_test (test_beginning w rest) refl
     by_test true e = inl (becomes_line w rest lacks ((beginning_found w rest _ _ _ refl refl refl).0 e))
     by_test false e = inr (λ may. let wrong : false ≡ true = sym e ∙ (beginning_found w rest _ _ _ refl refl refl).1 (begins_as w rest lacks may) in cc)
 
--- what stands behind the last mark is one part
+-- what stands after the last mark is one part
 pub pieces_behind : (mark byte : ℕ) (front rest : List ℕ) → eqb byte mark ≡ true → pieces_of mark rest ≡ rest ∷ [] → pieces_of mark (front ++ byte ∷ rest) ≡ pieces_of mark front ++ rest ∷ []
 pieces_behind mark byte [] rest is alone = ap (λ b. cond b ([] ∷ pieces_of mark rest) (onto_first byte (pieces_of mark rest))) is ∙ ap (λ ps. [] ∷ ps) alone
 pieces_behind mark byte (x ∷ front) rest is alone =
@@ -250,7 +250,7 @@ none_marks : (mark from : ℕ) (text : List ℕ) → Nowhere (Passes (is_byte ma
 none_marks mark from text never = parts_whole mark (drop from text) (sym (first_byte mark (drop from text) None (λ j low high passes.
     never (from + j) (omega arith) (omega (arith, high, length-drop from text)) (ap (λ b. eqb b mark) (sym (get_or-drop from text j 0)) ∙ passes))))
 
--- the text ends in what stands behind its last line end
+-- the text ends in what stands after its last line end
 pub ends_behind : (text : List ℕ) (at : ℕ) → at < length text → slice_index text at ≡ 10 → Nowhere (Passes (is_byte 10) text) (at + 1) (length text)
     → EndsIn text (line_count text) (drop (at + 1) text) × (lines_of (drop (at + 1) text) ≡ drop (at + 1) text ∷ [])
 ends_behind text at inside is never =
@@ -327,7 +327,7 @@ long_begins w rest long (inl (more, e)) =
     let room = word_short w in
     ([], sym same ∙ sym (append-nil (spaced_word w)), omega arith)
 
--- which the byte behind the word tells, and that the word stands there
+-- which the byte after the word tells, and that the word stands there
 spaced_front : (w : Word) (rest : List ℕ) → length (spelling_of w) < length rest → get_or rest (length (spelling_of w)) 0 ≡ 32 → starts_with (λ a b. a == b) rest (spelling_of w) ≡ true → (more : List ℕ) × (rest ≡ spaced_word w ++ more)
 spaced_front w rest long byte starts =
     let word : List ℕ = spelling_of w in

@@ -90,7 +90,7 @@ passes_on bytes races_before lines_before races old new race before passes =
       lined = omega arith;
     }
 
--- what an input has that goes on so behind the races that are passed
+-- what an input has that goes on so after the races that are passed
 pub has_races : (input more : List ℕ) (is_broken : Bool) (races : List Race) (reader : RaceReader) (fault : Option InputFault)
     → HasPassed input 0 0 races reader → reader.races ≤ most_races
     → IsFaultBehind is_broken reader.races reader.lines (drop reader.end input ++ more) fault → HasRaces (input ++ more) is_broken races fault
@@ -133,7 +133,7 @@ plain_fault true lines line kinds.Memory other = refl
 pub line_small : (rest : List ℕ) (line : ℕ) → IsLineOf rest line → line ≤ length rest + 1
 line_small rest line is = let most = is.1 in omega (arith, length-slice_split (λ b. b == 10) rest, count_by-le-length (λ b. b == 10) rest)
 
--- what is wrong where a reader stops is the fault of an input with these bytes behind it, where that fault stands
+-- what is wrong where a reader stops is the fault of an input with these bytes after it, where that fault stands
 -- there and is told alike
 fault_here : (is_broken breaks : Bool) (races lines : ℕ) (rest more : List ℕ) (fault : TextFault) → IsWrong races rest fault
     → (TellsFault fault.line fault.kind (fault_of rest) → fault_of (rest ++ more) ≡ Some (fault.line, fault.kind))
@@ -169,7 +169,7 @@ fault_stops stand endings.Broken races lines rest fault wrong other stays more i
     fault_here is_broken true races lines rest more fault wrong (λ tells. ap fault_of same ∙ told_fault fault.line fault.kind (fault_of rest) tells other)
     (ap (λ b. fault_behind b lines (fault.line, fault.kind)) (sym broken))
 
--- an input that breaks off behind whole races
+-- an input that breaks off after whole races
 pub input_breaks : (races lines : ℕ) (rest : List ℕ) → rest ≡ [] → (more : List ℕ) (is_broken : Bool) → MayFollow endings.Broken more is_broken
     → IsFaultBehind is_broken races lines (rest ++ more) (Some Read)
 input_breaks races lines rest nothing more is_broken (none, broken) =
@@ -262,7 +262,7 @@ pub err_handed : {A E : Type 0} (r : Result A E) (e : E) (Wrong : E → Type 0) 
 err_handed (Ok x) e Wrong told wrong = tt
 err_handed (Err k) e Wrong told wrong = subst Wrong (sym told.1) wrong
 
--- one more race behind the first one
+-- one more race after the first one
 pub more_behind : (input : List ℕ) (first old new : RaceReader) (race : Race) → HasFirst input first old → IsWithin input new → PassesRace input old new race → HasFirst input first new
 more_behind input first old new race before within passes =
     let some : 1 ≤ old.races = before.some in

@@ -21,11 +21,11 @@ FaultChanges text n kind = (more : List ℕ) × (fault_of (text ++ more) ≢ Som
 abbrev pub MayBecome : Word → List ℕ → Type 0
 MayBecome word rest = (more : List ℕ) × IsTrue (is_next word (lines_of (rest ++ more)))
 
--- the text is so many whole lines, and these bytes behind the last line end
+-- the text is so many whole lines, and these bytes after the last line end
 abbrev pub EndsIn : List ℕ → ℕ → List ℕ → Type 0
 EndsIn text n rest = (lines : List (List ℕ)) × (lines_of text ≡ lines ++ rest ∷ []) × (length lines ≡ n)
 
--- the text's last whole line is this one, its nth, and these bytes stand behind its line end
+-- the text's last whole line is this one, its nth, and these bytes stand after its line end
 abbrev pub EndsBehind : List ℕ → ℕ → List ℕ → List ℕ → Type 0
 EndsBehind text n line rest =
     (before : List (List ℕ)) × (lines_of text ≡ before ++ line ∷ rest ∷ []) × (length before + 1 ≡ n)

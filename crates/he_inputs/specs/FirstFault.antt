@@ -4,7 +4,7 @@ use Rattle.he_words.specs.declared.fault.TextKind.{TextKind}
 use Rattle.he_reading.specs.Faults.{header_fault, version_on, line_fault, ends}
 use Rattle.he_reading.specs.Parts.{lines_of}
 
--- the first check that fails on a line, by the lines before it and the parts behind it
+-- the first check that fails on a line, by the lines before it and the parts after it
 abbrev pub fault_on : List (List ℕ) → List ℕ → List (List ℕ) → Option TextKind
 fault_on [] line after = header_fault line after
 fault_on (first ∷ before) line after = line_fault (version_on first) before line after

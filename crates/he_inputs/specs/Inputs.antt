@@ -1,4 +1,4 @@
--- What an input of races has: races, and what is wrong behind them.
+-- What an input of races has: races, and what is wrong after them.
 use Rattle.std.specs.Prelude.{ℕ, ◌≡◌, ◌≢◌, ◌≤◌, ◌+◌, ◌==◌, ◌++◌, ⊤, Bool, true, false, List, [], ◌∷◌, length, count_by, ◌⊎◌, Option, Some, None}
 use Rattle.he_timeline.specs.Race.{Race}
 use Rattle.he_words.specs.declared.fault.TextKind.{TextKind}
@@ -25,18 +25,18 @@ AreRaceTexts races text = AreTexts IsRaceText races text
 abbrev pub line_count : List ℕ → ℕ
 line_count text = count_by (λ byte. byte == line_end) text
 
--- the fault of an input that ends behind whole races: it broke off there, or there is none
+-- the fault of an input that ends after whole races: it broke off there, or there is none
 abbrev pub fault_at_end : Bool → Option InputFault
 fault_at_end true = Some Read
 fault_at_end false = None
 
--- a fault of the text behind so many lines; where the input broke off, a text that ends inside a race is no fault of
+-- a fault of the text after so many lines; where the input broke off, a text that ends inside a race is no fault of
 -- its own
 abbrev pub fault_behind : Bool → ℕ → ℕ × TextKind → InputFault
 fault_behind true lines (line, kinds.Unfinished) = Read
 fault_behind is_broken lines (line, kind) = Text (record { line = lines + line; kind = kind })
 
--- the fault of what stands behind so many races and lines: nothing may follow the last race that an input may have,
+-- the fault of what stands after so many races and lines: nothing may follow the last race that an input may have,
 -- and what follows other races is no race
 abbrev pub IsFaultBehind : Bool → ℕ → ℕ → List ℕ → Option InputFault → Type 0
 IsFaultBehind is_broken races lines [] fault = fault ≡ fault_at_end is_broken
@@ -46,7 +46,7 @@ IsFaultBehind is_broken races lines (byte ∷ rest) fault =
     × (found : ℕ × TextKind) × (fault_of (byte ∷ rest) ≡ Some found)
     × (fault ≡ Some (fault_behind is_broken lines found)))
 
--- the input has these races up to its first fault, and this fault. It broke off behind its bytes where `is_broken`.
+-- the input has these races up to its first fault, and this fault. It broke off after its bytes where `is_broken`.
 pub record HasRaces (input : List ℕ) (is_broken : Bool) (races : List Race) (fault : Option InputFault) : Type 0 where
   pub before : List ℕ
   pub rest : List ℕ

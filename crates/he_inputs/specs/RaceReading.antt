@@ -11,18 +11,18 @@ use Rattle.he_inputs.specs.Inputs.{AreRaceTexts, IsFaultBehind, line_count}
 use Rattle.he_words.specs.Ranges.{most_races}
 use Rattle.he_reading.specs.Text.{IsRaceText}
 
--- the bytes are all of an input, which broke off behind them or not
+-- the bytes are all of an input, which broke off after them or not
 abbrev pub ending_of : Bool → Ending
 ending_of true = endings.Broken
 ending_of false = endings.Whole
 
--- what may follow the bytes, and whether the input broke off behind that
+-- what may follow the bytes, and whether the input broke off after that
 abbrev pub MayFollow : Ending → List ℕ → Bool → Type 0
 MayFollow endings.Open more is_broken = Unit {0}
 MayFollow endings.Whole more is_broken = (more ≡ []) × (is_broken ≡ false)
 MayFollow endings.Broken more is_broken = (more ≡ []) × (is_broken ≡ true)
 
--- a reader stands within the bytes, behind no more races than an input may have, and their lines can be counted
+-- a reader stands within the bytes, after no more races than an input may have, and their lines can be counted
 pub record IsWithin (bytes : List ℕ) (reader : RaceReader) : Type 0 where
   pub place : reader.end ≤ length bytes
   pub few : reader.races ≤ most_races
@@ -46,14 +46,14 @@ abbrev pub IsNextOf : List ℕ → Ending → RaceReader → RaceReader → Opti
 IsNextOf bytes ending old new (Some race) = PassesRace bytes old new race
 IsNextOf bytes ending old new None = (new ≡ old) × EndsAt ending (drop old.end bytes)
 
--- the fault of every input that has these bytes, and goes on behind them as it may; or memory was refused
+-- the fault of every input that has these bytes, and goes on after them as it may; or memory was refused
 abbrev pub IsReaderFault : List ℕ → Ending → RaceReader → RaceReaderFault → Type 0
 IsReaderFault bytes ending reader (faults.Input fault) =
     (more : List ℕ) (is_broken : Bool) → MayFollow ending more is_broken
     → IsFaultBehind is_broken reader.races reader.lines (drop reader.end bytes ++ more) (Some fault)
 IsReaderFault bytes ending reader faults.Memory = Unit {0}
 
--- of bytes that stand behind so many races and lines, a reader passed these races
+-- of bytes that stand after so many races and lines, a reader passed these races
 pub record HasPassed (bytes : List ℕ) (races_before lines_before : ℕ) (races : List Race)
     (reader : RaceReader) : Type 0 where
   pub within : reader.end ≤ length bytes

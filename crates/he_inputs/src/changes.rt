@@ -49,7 +49,7 @@ fn awaited(line: &[u8], kind: TextKind) -> Option<Word>
     }
 }
 
-// What stands behind the last line end; all, where there is none.
+// What stands after the last line end; all, where there is none.
 fn open_line(text: &[u8]) -> &[u8]
     ensures end { EndsIn text.now (line_count text.now) result.now }
     ensures line { lines_of result.now ≡ result.now ∷ [] }

@@ -71,7 +71,7 @@ impl RaceReader {
     ///
     /// # Errors
     ///
-    /// - `Input(Text)` with the fault of the text that follows, its line counted over the whole input from 1. Behind
+    /// - `Input(Text)` with the fault of the text that follows, its line counted over the whole input from 1. After
     /// as many races as a text may have (`he_words::limits::MOST_RACES`) that is `TooMany` at the next line, whatever
     /// it is. Where the bytes may go on, every input that begins with them has this fault.
     /// - `Input(Read)` where the input broke off after a whole race, or within one that had no fault by then.
@@ -137,7 +137,7 @@ impl RaceReader {
     }
 }
 
-// A fault behind so many lines. Where the input broke off, the text is unfinished for that alone.
+// A fault after so many lines. Where the input broke off, the text is unfinished for that alone.
 fn fault_behind(ending: Ending, lines: u64, found: TextFault) -> InputFault
     requires { lines + found.line < 2 ^ 64 }
     ensures { result ≡ fault_behind (breaks ending) lines (found.line, found.kind) }

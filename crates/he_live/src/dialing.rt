@@ -33,7 +33,7 @@ impl Dialing {
     // Ready once the connection stands, or with why it does not.
     //
     // The system is asked first: a socket has a peer's address only where it is connected, also where the event loop
-    // has not looked at it yet, as behind a stop. Before the event loop has seen a socket it counts as writable. A
+    // has not looked at it yet, as after a stop. Before the event loop has seen a socket it counts as writable. A
     // send of no byte tells: while the connection is being made it would block, so that the loop waits for its end,
     // and where it failed it tells the fault, which the system tells once.
     pub(crate) fn poll_connected(&mut self, cx: &mut Context<'_>) -> Poll<io::Result<()>>

@@ -32,7 +32,7 @@ const MOST_FILES: usize = 65_536;
 #[derive(Clone, Copy)]
 enum Streams {
     Whole,
-    // The input breaks behind its bytes.
+    // The input breaks after its bytes.
     BreaksOff,
     // The output takes so many bytes.
     Room(usize),

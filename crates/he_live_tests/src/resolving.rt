@@ -77,7 +77,7 @@ const FOUR_ALONE: Wanted<'static> = Wanted {
     reason: Reason::Refused,
 };
 
-// The IPv6 answer comes behind the IPv4 one, and its address is tried first.
+// The IPv6 answer comes after the IPv4 one, and its address is tried first.
 const SIX_FIRST: Wanted<'static> = Wanted {
     attempts: &[(20, End::Failed), (40, End::Won)],
     result: Result3::Won(1),

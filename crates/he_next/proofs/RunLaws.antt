@@ -177,7 +177,7 @@ ends_after race is attempts None k x at before = by_answers race.aaaa race.a
     by_answers (Some aaaa) None = before
     by_answers (Some aaaa) (Some a) = before_end race attempts (map (fate_of race) attempts) aaaa a x.tick before (before_failure race is attempts k x at)
 
--- the line behind those of attempts that are next in turn tells of the next one
+-- the line after those of attempts that are next in turn tells of the next one
 next_line : (race : Race) (report : Report) (xs : List Attempt) (line : Line) → IsTranscript race report → AreNextInTurn race xs → AreBelow (end_tick report.result) xs
     → slice_get report.lines (length xs) ≡ Some line → IsNext race xs (attempt_of line)
 next_line race report xs line t turn below at =
@@ -264,7 +264,7 @@ line_before race report is t n line at =
         let result : end_tick report.result ≡ end_tick (result_of race t.attempts (map (fate_of race) t.attempts) t.winner) = ap end_tick t.result in
         omega (arith, ends, ticks, result)
 
--- where none stands behind those of the attempts, the lines are those of the attempts
+-- where none stands after those of the attempts, the lines are those of the attempts
 all_lines : (race : Race) (report : Report) (xs : List Attempt) → IsTranscript race report → AreNextInTurn race xs → AreBelow (end_tick report.result) xs
     → slice_get report.lines (length xs) ≡ None → map attempt_of report.lines ≡ xs
 all_lines race report xs t turn below at =

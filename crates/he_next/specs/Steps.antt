@@ -58,7 +58,7 @@ before_tick now (Some line) = if nat_lt line.tick now then Some line.tick else N
 abbrev pub late_start : Report → ℕ → ℕ → Option ℕ
 late_start report started now = before_tick now (slice_get report.lines started)
 
--- a tick past the limit counts as the one behind it
+-- a tick past the limit counts as the one after it
 abbrev pub tick_of : ℕ → ℕ → ℕ
 tick_of limit now = min now (limit + 1)
 
@@ -85,7 +85,7 @@ pub record IsInTime (record_text : List ℕ) (started now : ℕ) (action : Actio
   pub none : late_start report started (tick_of limit now) ≡ None
   pub due : action ≡ action_of report started (tick_of limit now)
 
--- the step: where the client was late, the pause from the start that it missed up to now, and what is due behind it
+-- the step: where the client was late, the pause from the start that it missed up to now, and what is due after it
 abbrev pub IsPausedStep : List ℕ → ℕ → ℕ → Option Pause → Action → Type 0
 IsPausedStep record_text started now None action = IsInTime record_text started now action
 IsPausedStep record_text started now (Some pause) action =

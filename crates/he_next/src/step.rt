@@ -92,7 +92,7 @@ fn action_at<A: Allocator + Copy>(
 }
 
 impl<A: Allocator> SoFar<A> {
-    // The tick, or the one behind the limit where that comes first.
+    // The tick, or the one after the limit where that comes first.
     fn limit_tick(&self, now: u64) -> u64
         requires { self.now.limit ≤ MAX_LIMIT }
         ensures { result ≡ tick_of self.now.limit now }

@@ -129,7 +129,7 @@ fn stem_of(alloc: Global, day: &str, time: &str, name: RecordName<'_>) -> io::Re
     Ok(format!(in alloc; "{stem}-{port}")?)
 }
 
-// A path that no record has: with a number behind, where another race of the host began in the same millisecond.
+// A path that no record has: with a number after it, where another race of the host began in the same millisecond.
 fn free_path<R: Files>(rt: &R, alloc: Global, stem: &str) -> io::Result<String> {
     let first = format!(in alloc; "{stem}{EXTENSION}")?;
     if !exists(rt, first.as_str())? {

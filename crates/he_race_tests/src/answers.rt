@@ -243,7 +243,7 @@ fn late_answer_takes_part(rt: HostRuntime) -> Result<(), Fail> {
     Ok(())
 }
 
-// The A answer comes behind the first attempt, at one of two IPv6 addresses, which fails: the second attempt is at its
+// The A answer comes after the first attempt, at one of two IPv6 addresses, which fails: the second attempt is at its
 // address, since the families take turns, 250 after the first.
 #[test]
 fn late_answer_takes_its_turn(rt: HostRuntime) -> Result<(), Fail> {

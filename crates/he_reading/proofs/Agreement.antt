@@ -67,7 +67,7 @@ head_line v before line after word tokens is under head =
     (λ hw ho. given_agrees (known_to told) word tokens told after head)
     (λ s h. ap head_given (sym (said_more (known_to told) before line word tokens s (plain_word v (tokens_of line) (word, tokens) is) h)))
 
--- the lines up to `end` and what stands behind them, or the first fault
+-- the lines up to `end` and what stands after them, or the first fault
 abbrev pub stop : {B : Type 0} → ℕ → Option TextKind → Result B (ℕ × TextKind) → Result B (ℕ × TextKind)
 stop n None later = later
 stop n (Some kind) later = Err (n, kind)

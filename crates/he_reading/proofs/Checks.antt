@@ -1,4 +1,4 @@
--- The checks of a line behind the first one, from the fourth on.
+-- The checks of a line after the first one, from the fourth on.
 use Rattle.std.proofs.Common.{◌≡◌, ℕ, Bool, true, false, ltb, List, [], ◌∷◌, Option, Some, None, Result, Ok, Err, refl, sym, ◌∙◌, ap}
 use Rattle.he_reading.specs.declared.draft.LastGroup.{LastGroup}
 use Rattle.std.specs.Result.{result_err}

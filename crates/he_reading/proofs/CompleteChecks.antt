@@ -214,7 +214,7 @@ last_table told later row whole none =
     by_rows [] h = no_fault_from (row ∷ []) h
     by_rows (first ∷ rows) h = no_fault_from (first ∷ rows ++ row ∷ []) h
 
--- behind what is no row there is none
+-- after what is no row there is none
 after_rows : (t : Said) → 2 ≤ group_said t → row_said t ≡ None → 3 ≤ group_said t
 after_rows (PolicyRow row) le none = cc
 after_rows (Setting name value) le none = absurd (omega (arith, le))

@@ -15,7 +15,7 @@ use Rattle.he_timeline.specs.Timeline.{are_distinct, are_told_once, are_pauses}
 use Rattle.he_timeline.proofs.Ranges.{same_ip-sym}
 use Rattle.he_select.specs.Refusals.{repeat_from, first_repeat}
 
--- what stands before, at and behind one that gives something
+-- what stands before, at and after one that gives something
 pub given_split : {X Y : Type 0} (h : X → Option Y) (before after : List X) (x : X) (y : Y) → h x ≡ Some y → filter_map h (before ++ x ∷ after) ≡ filter_map h before ++ y ∷ filter_map h after
 given_split h before after x y some = filter_map-append h before (x ∷ after) ∙ ap (λ o. filter_map h before ++ cons_option o (filter_map h after)) some
 

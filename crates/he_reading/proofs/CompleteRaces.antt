@@ -139,7 +139,7 @@ suits told later (OutcomeOf ip outcome) whole = tt
 suits told later (Paused from to) whole = tt
 suits told later Ended whole = tt
 
--- what is told behind the answers is of an address that stands in one of those before
+-- what is told after the answers is of an address that stands in one of those before
 no_answer : (family : Family) (t : Said) → 7 ≤ group_said t → answer_said family t ≡ None
 no_answer families.V6 (Answer families.V6 reply) h = absurd (omega (arith, h))
 no_answer families.V4 (Answer families.V4 reply) h = absurd (omega (arith, h))
@@ -171,7 +171,7 @@ stands_by : (said : List Said) (ip : Ip) → is_in_answer (race_of said) ip ≡ 
 unfolding race_of
 stands_by said ip = refl
 
--- behind the answers an address that stands in one of all is known
+-- after the answers an address that stands in one of all is known
 is_known : (told later : List Said) (s : Said) (ip : Ip) → 7 ≤ group_said s → IsWhole (told ++ s ∷ later) → is_in_answer (race_of (told ++ s ∷ later)) ip ≡ true → known_to told ip ≡ true
 is_known told later s ip high whole stands =
     let all : List Said = told ++ s ∷ later in

@@ -108,7 +108,7 @@ parts_found mark text at h =
     let P : ℕ → Type 0 = λ n. pieces_of mark text ≡ take n text ∷ pieces_of mark (drop (n + 1) text) in
     subst P is.1 (slice_split_first (λ b. eqb b mark) text 0 (ltb-true first (length text) is.0))
 
--- the parts of a text but for its end, behind its first mark
+-- the parts of a text but for its end, after its first mark
 pub rest_found : (mark behind at : ℕ) (text : List ℕ) → Some at ≡ position (λ b. eqb b mark) (take (length text - behind) text)
     → pieces_of mark (all_but behind text) ≡ take at text ∷ pieces_of mark (all_but behind (drop (at + 1) text))
 rest_found mark behind at text h =
@@ -171,7 +171,7 @@ parts_counted mark text = sym (length-slice_split (λ b. eqb b mark) text)
 pub marks_within : (mark : ℕ) (text : List ℕ) → count_by (λ b. eqb b mark) text ≤ length text
 marks_within mark text = count_by-le-length (λ b. eqb b mark) text
 
--- the marks of a vector's bytes, and of what stands before and behind them
+-- the marks of a vector's bytes, and of what stands before and after them
 pub marks_on : (mark at found front : ℕ) (text : List ℕ) → at ≤ length text
     → front ≡ count_by (λ b. eqb b mark) (take 32 (take (length text - at) (drop at text)))
     → found + count_by (λ b. eqb b mark) (drop at text) ≡ count_by (λ b. eqb b mark) text
@@ -216,7 +216,7 @@ pub lacks_more : (mark : ℕ) (front : List (List ℕ)) (part : List ℕ) → Al
 lacks_more mark [] part all one = (one, tt)
 lacks_more mark (first ∷ front) part all one = (all.0, lacks_more mark front part all.1 one)
 
--- the text of some parts and of those behind them
+-- the text of some parts and of those after them
 pub join_behind : (mark : ℕ) (part : List ℕ) (front : List (List ℕ)) (first : List ℕ) (behind : List (List ℕ))
     → join_with_byte mark ((part ∷ front) ++ first ∷ behind) ≡ join_with_byte mark (part ∷ front) ++ mark ∷ join_with_byte mark (first ∷ behind)
 join_behind mark part [] first behind = refl

@@ -368,7 +368,7 @@ not_stopped : {A : Type 0} (n : ℕ) (fault : Option TextKind) (later : Result A
 not_stopped n None later x h = (refl, h)
 not_stopped n (Some kind) later x h = cc
 
--- where a walk ends: behind the line `end`
+-- where a walk ends: after the line `end`
 pub record IsWalked (v : Version) (all : List (List ℕ)) (used rest : List (List ℕ)) : Type 0 where
   pub body : List (List ℕ)
   pub used_are : used ≡ body ++ codes "end" ∷ []
@@ -414,7 +414,7 @@ none_right v = record {
   last = refl;
 }
 
--- the whole text of the lines that were read, with the line end behind each
+-- the whole text of the lines that were read, with the line end after each
 read_part : (text rest : List ℕ) (first : List ℕ) (used behind : List (List ℕ)) → lines_of text ≡ (first ∷ used) ++ behind → behind ≡ lines_of rest → 0 < length behind
     → (text ≡ join_with_byte 10 (first ∷ used) ++ 10 ∷ rest) × (lines_of (join_with_byte 10 (first ∷ used) ++ 10 ∷ []) ≡ (first ∷ used) ++ [] ∷ [])
 read_part text rest first used [] all e some = absurd (omega arith)
@@ -450,7 +450,7 @@ ended_race body =
     ap race_of (one_more (λ line. result_ok (said_in anyone line)) body (codes "end") Ended (ap result_ok end_said))
     ∙ race_ended (said_before body)
 
--- the bytes up to the place behind a race are its text
+-- the bytes up to the place after a race are its text
 pub record BeginsWith (text rest : List ℕ) (race : Race) : Type 0 where
   pub shorter : length rest < length text
   pub is : IsRaceText (take (length text - length rest) text) race

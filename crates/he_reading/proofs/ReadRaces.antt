@@ -1,4 +1,4 @@
--- A race that is read keeps its ranges, and what stands behind it are lines of the text.
+-- A race that is read keeps its ranges, and what stands after it are lines of the text.
 use Rattle.std.proofs.Common.{◌≡◌, ℕ, ◌+◌, ◌<◌, ◌&&◌, ◌||◌, Bool, true, false, cond, not, leb, ltb, List, [], ◌∷◌, length, Option, Some, None, is_some, Result, Ok, Err, refl, sym, ap, subst, arith}
 use Rattle.std.specs.Prelude.{is_none, unwrap_or}
 use Rattle.std.specs.List.{AllByRecursion}
@@ -254,7 +254,7 @@ start_fits head race h =
       few = omega arith;
     })
 
--- what is read of lines: a race, and lines behind it
+-- what is read of lines: a race, and lines after it
 pub record IsReading (lines : List (List ℕ)) (x : Race × List (List ℕ)) : Type 0 where
   pub fits : IsRace x.0
   pub some : 0 < length x.1

@@ -22,7 +22,7 @@ ended_by_some : (parts : List (List ℕ)) → 0 < length parts → ended_by part
 ended_by_some [] some = absurd (omega arith)
 ended_by_some (part ∷ parts) some = refl
 
--- a line that is short enough, with its line end behind it
+-- a line that is short enough, with its line end after it
 pub wholeness_of : (lines : List (List ℕ)) (line rest : List ℕ) (mark : ℕ) → lines ≡ line ∷ pieces_of mark rest → length line ≤ MAX_LINE → wholeness lines ≡ Ok tt
 unfolding wholeness
 wholeness_of lines line rest mark is short =
@@ -226,7 +226,7 @@ pub not_both : (b : Bool) → b ≡ true → b ≡ false → ⊥
 not_both true is other = cc
 not_both false is other = cc
 
--- what stands behind a line is no longer than the text
+-- what stands after a line is no longer than the text
 pub shrinks : (new rest old : Bor (List ℕ)) {n : ℕ} → new ≡ rest → length rest.now < length old.now → length old.now ≤ n → length new.now ≤ n
 shrinks new rest old {n} same shorter within = let P : Bor (List ℕ) → Type 0 = λ r. length r.now ≤ n in subst P (sym same) (omega arith)
 

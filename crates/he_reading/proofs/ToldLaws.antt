@@ -34,7 +34,7 @@ outcome (Some kind) x = Err kind
 abbrev pub judged : List (List ℕ) → List Said → Said → Result Race TextKind
 judged after said s = outcome (first_fault (wrong_bounds said s ∷ repeated said s ∷ wrong_group said after s ∷ [])) (race_of (said ++ s ∷ []))
 
--- the builder's checks that can't fail behind the form
+-- the builder's checks that can't fail after the form
 admitted : (b1 b2 b3 b4 : Bool) (rest : Result Race BuildFault) → b1 ≡ false → b2 ≡ false → b3 ≡ false → b4 ≡ true
     → built (cond b1 (Err faults.Answered) (cond b2 (Err faults.Range) (cond b3 (Err faults.TooMany) (cond (not b4) (Err faults.Stranger) rest)))) ≡ built rest
 admitted true b2 b3 b4 rest h1 h2 h3 h4 = cc

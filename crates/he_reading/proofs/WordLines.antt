@@ -42,7 +42,7 @@ word_alone word line is =
     ∙ ap word_of (joined_parts 32 (spelling_of word) [] (no_space word, tt))
     ∙ word_first word []
 
--- a text behind a front that a part of it has too
+-- a text after a front that a part of it has too
 behind_front : (behind front : ℕ) (text : List ℕ) → front ≤ length text - behind → drop front (all_but behind text) ≡ all_but behind (drop front text)
 behind_front behind front text within =
     let more : ℕ = length text - behind - front in

@@ -10,7 +10,7 @@ abbrev pub at_line_number : ℕ → Option TextKind → Option (ℕ × TextKind)
 at_line_number n (Some kind) later = Some (n, kind)
 at_line_number n None later = later
 
--- the least faulty line from line n on, behind these lines of a text of the version, with its first fault; none if a
+-- the least faulty line from line n on, after these lines of a text of the version, with its first fault; none if a
 -- line ends the race before
 unfoldable pub fault_from : Version → ℕ → List (List ℕ) → List (List ℕ) → Option (ℕ × TextKind)
 fault_from version n before [] = Some (n, kinds.Unfinished)

@@ -66,7 +66,7 @@ known_to said ip = is_in_answer (race_of said) ip
 abbrev pub too_long : List ℕ → Option TextKind
 too_long line = test (nat_lt most_line_bytes (length line)) kinds.TooMany
 
--- 2: the text ends inside the line, by the parts behind it
+-- 2: the text ends inside the line, by the parts after it
 abbrev pub unfinished : List (List ℕ) → Option TextKind
 unfinished [] = Some kinds.Unfinished
 unfinished (part ∷ parts) = None
@@ -145,7 +145,7 @@ abbrev pub of_said : (Said → Option TextKind) → Result Said TextKind → Opt
 of_said check (Ok said) = check said
 of_said check (Err kind) = None
 
--- the fault of a line behind the first one. The sixth and the seventh check are those of what the line says by itself
+-- the fault of a line after the first one. The sixth and the seventh check are those of what the line says by itself
 -- (`Forms`): the number of tokens, then each of them from left to right.
 unfoldable pub line_fault : Version → List (List ℕ) → List ℕ → List (List ℕ) → Option TextKind
 line_fault version before line after =

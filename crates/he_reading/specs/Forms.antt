@@ -181,7 +181,7 @@ abbrev pub end_in : List (List ℕ) → Result (Unit {0}) TextKind
 end_in [] = Ok tt
 end_in _ = Err kinds.Word
 
--- the word that begins a line, and the tokens behind it
+-- the word that begins a line, and the tokens after it
 unfoldable pub word_of : List (List ℕ) → Result (Word × List (List ℕ)) TextKind
 word_of [] = Err kinds.Word
 word_of (token ∷ tokens) = ok_or (word_in token) kinds.Word >>= λ word. Ok (word, tokens)
@@ -197,7 +197,7 @@ is_added (words.Used, tokens) = true
 is_added (words.Set, tokens) = names_floor tokens
 is_added _ = false
 
--- a word and the tokens behind it, if a text of the version has them
+-- a word and the tokens after it, if a text of the version has them
 abbrev pub of_version : Version → Word × List (List ℕ) → Result (Word × List (List ℕ)) TextKind
 of_version One parts = if is_added parts then Err kinds.Word else Ok parts
 of_version Two parts = Ok parts
@@ -205,7 +205,7 @@ of_version Two parts = Ok parts
 unfoldable pub version_word : Version → List (List ℕ) → Result (Word × List (List ℕ)) TextKind
 version_word version line = word_of line >>= of_version version
 
--- what a line says, by its word and the tokens behind it, where these addresses are known
+-- what a line says, by its word and the tokens after it, where these addresses are known
 unfoldable pub said_by : (Ip → Bool) → Word → List (List ℕ) → Result Said TextKind
 said_by known words.Set tokens = setting_in tokens >>= λ setting. Ok (Setting setting.0 setting.1)
 said_by known words.Policy tokens = row_in tokens >>= λ row. Ok (PolicyRow row)

@@ -1,10 +1,10 @@
--- What a text is cut into. The last part of a text stands behind its last line end, so it is no whole line; where the
+-- What a text is cut into. The last part of a text stands after its last line end, so it is no whole line; where the
 -- text ends with a whole line it is empty.
 use Rattle.std.specs.Prelude.{ℕ, ◌==◌, List}
 use Rattle.std.specs.List.{slice_split}
 use Rattle.he_words.specs.Ranges.{line_end, token_end}
 
--- what stands between two marks, before the first and behind the last
+-- what stands between two marks, before the first and after the last
 abbrev pub pieces_of : ℕ → List ℕ → List (List ℕ)
 pieces_of mark text = slice_split (λ b. b == mark) text
 

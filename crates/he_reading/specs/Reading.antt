@@ -53,7 +53,7 @@ counted group None lines = Ok (record { group = group; lines = 0 })
 counted group (Some most) lines =
     if nat_le most.0 lines then Err most.1 else Ok (record { group = group; lines = lines + 1 })
 
--- a line of the word, behind lines of which the last one's group has so many
+-- a line of the word, after lines of which the last one's group has so many
 unfoldable pub admit : Word → LastGroup → Result LastGroup TextKind
 admit word so_far =
     if nat_lt (group_of word) so_far.group then Err kinds.Word
@@ -199,7 +199,7 @@ take_line version line so_far race = do
   told ← take_told parts.0 parts.1 race
   Ok (parts.0, next, told)
 
--- whether a part is a whole line, by what stands behind it
+-- whether a part is a whole line, by what stands after it
 abbrev pub ended_by : List (List ℕ) → Result (Unit {0}) TextKind
 ended_by [] = Err kinds.Unfinished
 ended_by (_ ∷ _) = Ok tt
@@ -213,7 +213,7 @@ abbrev pub at_line : {B : Type 0} → ℕ → Result B TextKind → Result B (�
 at_line n (Ok x) = Ok x
 at_line n (Err kind) = Err (n, kind)
 
--- reading on from line n: the race and what stands behind it
+-- reading on from line n: the race and what stands after it
 unfoldable pub read_body : Version → ℕ → LastGroup → Race → List (List ℕ)
     → Result (Race × List (List ℕ)) (ℕ × TextKind)
 read_body version n so_far race [] = Err (n, kinds.Unfinished)
@@ -230,7 +230,7 @@ head_part (Err kind) = None
 unfoldable pub head_of : Version → List (List ℕ) → Option (Word × List (List ℕ))
 head_of version line = head_part (version_word version line)
 
--- such a line, and whether it has a place, by what stands behind it
+-- such a line, and whether it has a place, by what stands after it
 unfoldable pub take_head : List (List ℕ) → Word × List (List ℕ) → LastGroup → HeadGiven
     → Result (LastGroup × HeadGiven) TextKind
 take_head after parts so_far head = do
@@ -261,7 +261,7 @@ read_lines (line ∷ after) =
     at_line 1 (wholeness (line ∷ after)) >>= λ _.
     at_line 1 (header_in line) >>= λ version. read_head version 2 group_at_start no_head after
 
--- a text was read: its race, how many bytes stand behind it, and how many lines it has
+-- a text was read: its race, how many bytes stand after it, and how many lines it has
 pub record ReadsFirst (text : List ℕ) (race : Race) (left lines : ℕ) : Type 0 where
   pub rest : List ℕ
   pub counted : length rest ≡ left

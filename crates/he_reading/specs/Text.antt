@@ -131,7 +131,7 @@ abbrev pub BeginsWithRace : List ℕ → Type 0
 BeginsWithRace text =
     (front : List ℕ) × (rest : List ℕ) × (race : Race) × (text ≡ front ++ rest) × IsRaceText front race
 
--- the number of a line of the text, or of what stands behind the last one
+-- the number of a line of the text, or of what stands after the last one
 abbrev pub IsLineOf : List ℕ → ℕ → Type 0
 IsLineOf text line = (1 ≤ line) × (line ≤ length (lines_of text))
 

@@ -21,7 +21,7 @@ pub(crate) struct LastGroup {
 }
 
 impl LastGroup {
-    // No line behind the first one.
+    // No line after the first one.
     pub(crate) fn start() -> LastGroup
         ensures { result ≡ group_at_start }
     {
@@ -191,7 +191,7 @@ fn take_answer<A: Allocator + Copy>(
     }
 }
 
-// Adds what a line of the other groups tells, behind its word, to the race.
+// Adds what a line of the other groups tells, after its word, to the race.
 #[tactic(auto, unfolding(crate::specs::Reading::take_told))]
 pub(crate) fn take<A: Allocator + Copy>(
     alloc: A,

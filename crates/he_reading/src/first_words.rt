@@ -10,7 +10,7 @@ use crate::lines::Lines;
 use crate::parts::{TextLine, Tokens};
 use he_words::{TextKind, Version, Word};
 
-// The word of a line, and the tokens behind it. All words but `end` have tokens behind them, so they are looked for
+// The word of a line, and the tokens after it. All words but `end` have tokens after them, so they are looked for
 // with the space that follows them first: that tells where the other tokens begin. `end` is looked for as a whole
 // line.
 #[inline(always)]
@@ -57,7 +57,7 @@ fn likely_word(line: TextLine<'_>) -> Option<(Word, Tokens<'_>)>
     }
 }
 
-// The word of a line, whatever stands behind it.
+// The word of a line, whatever stands after it.
 #[tactic(auto, unfolding(crate::specs::Forms::word_of))]
 fn any_word(line: TextLine<'_>) -> Result<(Word, Tokens<'_>), TextKind>
     ensures { MatchResult result (λ x. word_of (tokens_of (line_bytes line.entry)) ≡ Ok (x.0, tokens_left x.1))
@@ -91,7 +91,7 @@ pub(crate) fn version_word(
     }
 }
 
-// Whether version 2 added the word, or the setting that the tokens behind it name.
+// Whether version 2 added the word, or the setting that the tokens after it name.
 fn is_added(word: Word, tokens: Tokens) -> bool
     ensures { result ≡ is_added (word, tokens_left tokens.entry) }
 {
@@ -113,7 +113,7 @@ fn names_floor(tokens: Tokens) -> bool
 }
 
 // Whether the next line is a whole one that begins with the word, right or not. Its first bytes are looked at first,
-// so that the line behind a group isn't searched for its end once more.
+// so that the line after a group isn't searched for its end once more.
 pub(crate) fn is_next(word: Word, rest: &[u8]) -> bool
     ensures { result ≡ is_next word (lines_of rest.now) }
 {

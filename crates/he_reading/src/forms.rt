@@ -1,4 +1,4 @@
-// The forms of the lines, behind the word that begins a line: how many tokens there are, then each of them from left
+// The forms of the lines, after the word that begins a line: how many tokens there are, then each of them from left
 // to right; the first that is wrong decides.
 
 ghost use Rattle.std.specs.Prelude.{◌≡◌};

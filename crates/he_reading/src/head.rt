@@ -115,7 +115,7 @@ impl<A: Allocator + Copy> Head<A> {
         Ok(())
     }
 
-    // Adds what a line of the first four groups gives, behind its word. What stands behind the line tells whether more
+    // Adds what a line of the first four groups gives, after its word. What stands after the line tells whether more
     // of its group follow.
     #[tactic(auto, unfolding(crate::specs::Reading::take_given))]
     pub(crate) fn take(&mut self, word: Word, tokens: Tokens, rest: &[u8]) -> Result<(), TextKind>

@@ -42,7 +42,7 @@ impl<'t> Lines<'t> {
         self.number
     }
 
-    // The line that comes next, and what stands behind it; or why it is no line.
+    // The line that comes next, and what stands after it; or why it is no line.
     #[inline(always)]
     pub(crate) fn next_line(&self) -> Result<(TextLine<'t>, &'t [u8]), TextKind>
         ensures parts { MatchResult result (λ x. lines_left self.now ≡ line_bytes x.0 ∷ lines_of x.1.now)
@@ -51,7 +51,7 @@ impl<'t> Lines<'t> {
         ensures whole { MatchResult result (λ _. wholeness (lines_left self.now) ≡ Ok tt)
             (λ kind. wholeness (lines_left self.now) ≡ Err kind) }
     {
-        // No line end is looked for behind the longest line.
+        // No line end is looked for after the longest line.
         let near = self.rest.len().min(MAX_LINE + 1);
         match find(self.rest, near, LINE_END) {
             Some(at) => Ok((TextLine::new(self.rest, at), &self.rest[at + 1..])),
@@ -60,7 +60,7 @@ impl<'t> Lines<'t> {
         }
     }
 
-    // Goes on to what stands behind a line.
+    // Goes on to what stands after a line.
     pub(crate) fn pass(&mut self, rest: &'t [u8])
         requires room { HasRoom self.old }
         requires shorter { length rest.now < length self.old.rest.now }

@@ -37,7 +37,7 @@ fn bytes_before(text: &[u8], mark: u8) -> usize
     lowest_bit(marks.to_bitmask())
 }
 
-// The place of the first mark among the first `len` bytes. Those behind them are looked at too where that takes no
+// The place of the first mark among the first `len` bytes. Those after them are looked at too where that takes no
 // longer.
 #[inline(always)]
 pub(crate) fn find(text: &[u8], len: usize, mark: u8) -> Option<usize>
@@ -56,11 +56,11 @@ pub(crate) fn find(text: &[u8], len: usize, mark: u8) -> Option<usize>
     memchr(mark, &text[..len])
 }
 
-// A line, with all that stands behind it.
+// A line, with all that stands after it.
 #[derive(Clone, Copy)]
 pub(crate) struct TextLine<'t> {
     text: &'t [u8],
-    // How many bytes of the text stand behind the line, its line end included.
+    // How many bytes of the text stand after the line, its line end included.
     behind: usize,
 }
 
@@ -96,7 +96,7 @@ impl<'t> TextLine<'t> {
         }
     }
 
-    // The tokens behind this word, if the line begins with it and a space.
+    // The tokens after this word, if the line begins with it and a space.
     #[inline(always)]
     pub(crate) fn behind_word(self, word: Word, spelled: &[u8]) -> Option<(Word, Tokens<'t>)>
         requires { spelled.now ≡ spelling_of word ++ 32 ∷ [] }
@@ -134,7 +134,7 @@ impl<'t> TextLine<'t> {
 pub(crate) struct Tokens<'a> {
     // What begins with them, up to the end of the text.
     rest: Option<&'a [u8]>,
-    // How many bytes of it stand behind the line.
+    // How many bytes of it stand after the line.
     behind: usize,
 }
 

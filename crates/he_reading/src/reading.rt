@@ -21,7 +21,7 @@ use he_timeline::{Timeline, TimelineBuilder};
 use he_words::{TextFault, TextKind, Version, Word};
 use std::alloc::Allocator;
 
-// The word of a line and the tokens behind it, if the word is of the first four groups and of the version.
+// The word of a line and the tokens after it, if the word is of the first four groups and of the version.
 #[inline(always)]
 #[tactic(auto, unfolding(crate::specs::Reading::head_of))]
 fn head_word(version: Version, line: TextLine<'_>) -> Option<(Word, Tokens<'_>)>
@@ -53,7 +53,7 @@ fn take_told<A: Allocator + Copy>(
     Ok((word, next))
 }
 
-// Takes a line of the first four groups, by its word, the tokens behind it, and what stands behind the line.
+// Takes a line of the first four groups, by its word, the tokens after it, and what stands after the line.
 #[tactic(auto, unfolding(crate::specs::Reading::take_head))]
 fn take_given<A: Allocator + Copy>(
     word: Word,
@@ -149,7 +149,7 @@ fn read_header(lines: &mut Lines) -> Result<Version, TextKind>
 }
 
 // The race with which the text begins. If memory is refused for what the first four groups give, that is told with the
-// line behind them.
+// line after them.
 #[inline(always)]
 fn read_whole<A: Allocator + Copy>(alloc: A, lines: &mut Lines) -> Result<Timeline<A>, TextKind>
     requires room { HasRoom lines.old }

@@ -4,7 +4,7 @@ use Rattle.he_relay.specs.declared.fault.PumpFault.{PumpFault}
 use Rattle.he_relay.specs.declared.fault.PumpFault.TheVariants as faults
 
 -- at `Ok` the input gave some bytes and ended, and the output took these; where the input broke off, the same; where
--- it was cut, it neither ended nor broke off behind them; where the output failed, it took a first part of what the
+-- it was cut, it neither ended nor broke off after them; where the output failed, it took a first part of what the
 -- input gave so far
 abbrev pub Pumps : (List ℕ → Bool → Type 0) → (List ℕ → Type 0) → (List ℕ → Type 0) → (List ℕ → Type 0)
     → Result (Unit {0}) PumpFault → Type 0

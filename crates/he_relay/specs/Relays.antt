@@ -26,7 +26,7 @@ IsNotSent result = IsBroken result ⊎ ((unsent : Unsent) × (result ≡ Err (fa
 
 -- the end that is told of two ways, of which the one to the connection and the one from it ended so: what failed is
 -- told, of the way to the output first. That the input was cut is a fault, but at a terminal; and where both ways
--- ended, the connection may break behind them, before all that was sent has come to the remote
+-- ended, the connection may break after them, before all that was sent has come to the remote
 abbrev pub IsEnd : Bool → Result (Unit {0}) PumpFault → Result (Unit {0}) PumpFault → Result (Unit {0}) RelayFault
     → Type 0
 IsEnd is_terminal sent (Err pumps.Output) result = result ≡ Err faults.Output

@@ -69,7 +69,7 @@ pub struct BreakWatch<'s> {
     stream: &'s TcpStream,
 }
 
-/// The connection over the socket, which is to be one that waits. Behind the remote's end standard input is read on
+/// The connection over the socket, which is to be one that waits. After the remote's end standard input is read on
 /// for as long as it gives something at least every `wait` milliseconds.
 pub fn over_socket(stream: &TcpStream, wait: u32) -> SocketConnection<'_> {
     Connection {

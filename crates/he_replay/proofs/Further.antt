@@ -22,7 +22,7 @@ use Rattle.he_replay.specs.Rounds.{GoesOn, HasTold, IsAt, IsFaultPast, PutsRound
 use Rattle.he_replay.specs.Stream.{TellsSome}
 use Rattle.he_replay.proofs.RaceTexts.{AreTold-append, told_at, told_texts}
 
--- the bytes up to the place and those behind it are the bytes
+-- the bytes up to the place and those after it are the bytes
 parts_of : (before bytes : List ℕ) (end : ℕ) → before ++ bytes ≡ (before ++ take end bytes) ++ drop end bytes
 parts_of before bytes end = ap (λ (b : List ℕ). before ++ b) (sym (take-append-drop end bytes)) ∙ sym (append_assoc before (take end bytes) (drop end bytes))
 
@@ -75,7 +75,7 @@ module _ (IsText : TextRelation) (bytes : List ℕ) (from : RaceReader) (Took Do
       told = texts;
     }
 
-    -- what was taken, and what may follow it, has this output, where this is the fault behind the races
+    -- what was taken, and what may follow it, has this output, where this is the fault after the races
     pub told_output : (more : List ℕ) (is_broken : Bool) (fault : Option InputFault) → IsFaultBehind is_broken reader.races reader.lines (drop reader.end bytes ++ more) fault
         → IsOutput IsText ((at.before ++ bytes) ++ more) is_broken (at.text ++ text) fault
     told_output more is_broken fault is =

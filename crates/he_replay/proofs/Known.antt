@@ -75,7 +75,7 @@ group_behind lines rest n kinds.Memory fault told (inr group) = group_told lines
 module _
     (faults_stand : (text : List ℕ) (line : ℕ) (kind : TextKind) → fault_of text ≡ Some (line, kind) → MayChange text line kind ⊎ FaultStands text line kind)
   where
-    -- a fault of what stands behind whole races of a broken input stands whatever follows, or is a group's
+    -- a fault of what stands after whole races of a broken input stands whatever follows, or is a group's
     known_behind : (count lines : ℕ) (rest : List ℕ) (fault : TextFault) → IsFaultBehind true count lines rest (Some (Text fault))
         → ((more : List ℕ) (is_broken : Bool) → IsFaultBehind is_broken count lines (rest ++ more) (Some (Text fault))) ⊎ IsTold lines rest fault
     known_behind count lines [] fault is = cc

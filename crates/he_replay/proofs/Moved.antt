@@ -1,4 +1,4 @@
--- The bytes behind a place, moved to the front.
+-- The bytes after a place, moved to the front.
 use Rattle.std.proofs.Common.{◌≡◌, ◌+◌, ◌-◌, ◌≤◌, ◌∙◌, ℕ, List, length, take, drop, ap, sym, arith, length-drop}
 use lib.Seq.{paste}
 use Rattle.std.proofs.lemmas.List.{drop-take}

@@ -16,7 +16,7 @@ told_at IsText races bytes text number line other_number other_line same same_li
     let Number : ℕ → Type 0 = λ n. AreTold IsText n line races bytes text in
     subst Line same_line (subst Number same told)
 
--- races more behind them
+-- races more after them
 pub AreTold-append : (IsText : TextRelation) (number line : ℕ) (races : List Race) (bytes text : List ℕ) → AreTold IsText number line races bytes text
     → (others : List Race) (rest more : List ℕ) → AreTold IsText (number + length races) (line + line_count bytes) others rest more
     → AreTold IsText number line (races ++ others) (bytes ++ rest) (text ++ more)

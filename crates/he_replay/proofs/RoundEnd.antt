@@ -111,7 +111,7 @@ longer_told IsText bytes text size races lines reader told =
       lined = subst Lined same told.lined;
     }
 
--- where the reader stopped behind what was told
+-- where the reader stopped after what was told
 pub told_by : (IsText : TextRelation) (ending : Ending) (bytes same old new : List ℕ) (races lines : ℕ) (begun reader : RaceReader) (told : RoundEnd) → same ≡ bytes
     → HasTold IsText bytes races lines old begun → Tells IsText ending same begun old new told → reader ≡ told.reader → HasTold IsText bytes races lines new reader
 told_by IsText ending bytes same old new races lines begun reader told is before tells stopped =

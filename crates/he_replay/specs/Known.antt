@@ -11,7 +11,7 @@ abbrev pub Stands : TextRelation → List ℕ → List ℕ → TextFault → Typ
 Stands IsText input text fault =
     (more : List ℕ) (is_broken : Bool) → IsOutput IsText (input ++ more) is_broken text (Some (Text fault))
 
--- the input broke off behind the last line of a policy table or of the settings, of which it is the fault: one more
+-- the input broke off after the last line of a policy table or of the settings, of which it is the fault: one more
 -- line of the group may mend it
 pub record IsGroupBroken (input : List ℕ) (is_broken : Bool) (fault : TextFault) : Type 0 where
   pub broken : is_broken ≡ true

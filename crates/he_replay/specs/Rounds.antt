@@ -30,7 +30,7 @@ pub record WritesText (IsSuch : List ℕ → Type 0) (old new : List ℕ) : Type
   pub is_told : IsSuch told
   pub appended : new ≡ old ++ told
 
--- of bytes behind so many races and lines, the races that the reader passed were told
+-- of bytes after so many races and lines, the races that the reader passed were told
 pub record HasTold (IsText : TextRelation) (bytes : List ℕ) (races_before lines_before : ℕ) (text : List ℕ)
     (reader : RaceReader) : Type 0 where
   pub races : List Race
@@ -40,7 +40,7 @@ pub record HasTold (IsText : TextRelation) (bytes : List ℕ) (races_before line
   pub few : reader.races ≤ most_races
   pub lined : reader.lines ≡ lines_before + line_count (take reader.end bytes)
 
--- what is wrong behind the races that the reader passed, with every input that goes on so
+-- what is wrong after the races that the reader passed, with every input that goes on so
 abbrev pub IsFaultPast : Ending → List ℕ → RaceReader → Option InputFault → Type 0
 IsFaultPast ending bytes reader fault =
     (more : List ℕ) (is_broken : Bool) → MayFollow ending more is_broken
@@ -57,7 +57,7 @@ abbrev pub TellsOn : TextRelation → List ℕ → RaceReader → List ℕ → L
 TellsOn IsText bytes begun old new reader =
     (races lines : ℕ) → HasTold IsText bytes races lines old begun → HasTold IsText bytes races lines new reader
 
--- races more were told, and what is wrong behind them, if that is known
+-- races more were told, and what is wrong after them, if that is known
 pub record Tells (IsText : TextRelation) (ending : Ending) (bytes : List ℕ) (begun : RaceReader) (old new : List ℕ)
     (told : RoundEnd) : Type 0 where
   pub on : TellsOn IsText bytes begun old new told.reader
@@ -69,7 +69,7 @@ abbrev pub PutsAny : {S : Type 0} → (S → Option (List ℕ)) → (S → Put �
 PutsAny contents puts flushes ending text first last =
     PutsWhole contents puts flushes first last text ⊎ ((ending ≡ endings.Open) × (text ≡ []) × (first ≡ last))
 
--- how the text of what was told is put: what is wrong with the input is told behind it
+-- how the text of what was told is put: what is wrong with the input is told after it
 abbrev pub PutsTold : {S : Type 0} → (S → Option (List ℕ)) → (S → Put → S → Type 0) → (S → Flushed → S → Type 0)
     → Ending → RoundEnd → List ℕ → S → S → Result RaceReader StreamFault → Type 0
 PutsTold contents puts flushes ending told text first last (Ok reader) =
@@ -82,7 +82,7 @@ PutsTold contents puts flushes ending told text first last (Err faults.Write) =
     PutsPart contents puts flushes first last text
 PutsTold contents puts flushes ending told text first last (Err faults.Memory) = ⊥
 
--- a round went on: these races were told of the bytes and put, and what stands behind them is held
+-- a round went on: these races were told of the bytes and put, and what stands after them is held
 pub record GoesOn {S : Type 0} (IsText : TextRelation) (contents : S → Option (List ℕ)) (puts : S → Put → S → Type 0)
     (flushes : S → Flushed → S → Type 0) (ending : Ending) (bytes : List ℕ) (from : RaceReader) (kept : List ℕ)
     (next : RaceReader) (first last : S) : Type 0 where
@@ -94,7 +94,7 @@ pub record GoesOn {S : Type 0} (IsText : TextRelation) (contents : S → Option 
   pub held : kept ≡ drop reader.end bytes
   pub at : next ≡ record { end = 0; races = reader.races; lines = reader.lines }
 
--- all races at the front of the bytes were told and put, and this is wrong behind them
+-- all races at the front of the bytes were told and put, and this is wrong after them
 pub record EndsWithFault {S : Type 0} (IsText : TextRelation) (contents : S → Option (List ℕ))
     (puts : S → Put → S → Type 0) (flushes : S → Flushed → S → Type 0) (ending : Ending) (bytes : List ℕ)
     (from : RaceReader) (first last : S) (fault : InputFault) : Type 0 where
@@ -119,7 +119,7 @@ PutsRound IsText contents puts flushes ending bytes from kept next first last (E
     × PutsPart contents puts flushes first last text
 PutsRound IsText contents puts flushes ending bytes from kept next first last (Err faults.Memory) = first ≡ last
 
--- where a call stands: the races that were told, and the bytes that are held behind them. Took: what was taken so far;
+-- where a call stands: the races that were told, and the bytes that are held after them. Took: what was taken so far;
 -- Done: what was put so far
 pub record IsAt (IsText : TextRelation) (held : List ℕ) (reader : RaceReader)
     (Took Done : List ℕ → Type 0) : Type 0 where

@@ -234,7 +234,7 @@ fn piece_end(bytes: &[u8], number: usize, count: usize) -> usize
     }
 }
 
-// Where the piece of this number begins: behind the first race that ends so many pieces' bytes from the start or more.
+// Where the piece of this number begins: after the first race that ends so many pieces' bytes from the start or more.
 fn piece_start(bytes: &[u8], number: usize) -> usize
     requires { number ≤ MOST_PIECES }
     ensures within { result ≤ length bytes.now }

@@ -15,7 +15,7 @@ use std::alloc::{AllocError, Allocator};
 // What a call holds of its input, and what it told of it before.
 #[derive(Drop)]
 pub(crate) struct Held<A: Allocator> {
-    // The bytes that were taken and not told yet, and behind them room for the next step.
+    // The bytes that were taken and not told yet, and after them room for the next step.
     pub(crate) bytes: Vec<u8, A>,
     pub(crate) filled: usize,
     // The room for the next step.
@@ -47,7 +47,7 @@ impl<A: Allocator> Held<A> {
 pub(crate) struct RoundScope {
     // How far the reader of them has come, whose races are told already.
     pub(crate) begun: RaceReader,
-    // How far races are looked for: none is read that begins there or behind it, unless nothing follows the bytes, or
+    // How far races are looked for: none is read that begins there or after it, unless nothing follows the bytes, or
     // nothing may follow the races.
     pub(crate) reach: usize,
     // What follows the bytes.
@@ -69,11 +69,11 @@ impl RoundScope {
 pub(crate) struct RoundEnd {
     // How far the reader came.
     pub(crate) reader: RaceReader,
-    // What is wrong with the input behind that.
+    // What is wrong with the input after that.
     pub(crate) fault: Option<InputFault>,
 }
 
-// Tells the races at the front of the bytes that are held, behind those with which the part begins, puts the texts of
+// Tells the races at the front of the bytes that are held, after those with which the part begins, puts the texts of
 // all into the output, and forgets these races. The texts are put as one, which is flushed. Where nothing follows the
 // bytes, or something is wrong with them, the output is flushed though there be no text. The memory of `text` is used
 // again.
@@ -126,7 +126,7 @@ fn put_told<O: OutputStream>(
     }
 }
 
-// Moves the filled bytes behind the place to the front.
+// Moves the filled bytes after the place to the front.
 fn forget<A: Allocator>(bytes: &mut Vec<u8, A>, end: usize, filled: usize)
     requires place { end ≤ filled }
     requires within { filled ≤ vec_len bytes.old }
@@ -136,7 +136,7 @@ fn forget<A: Allocator>(bytes: &mut Vec<u8, A>, end: usize, filled: usize)
     bytes.copy_within(end..filled, 0);
 }
 
-// Appends the texts that are asked for of the races at the front of the bytes, behind those with which the part
+// Appends the texts that are asked for of the races at the front of the bytes, after those with which the part
 // begins. No race is kept when the reader goes on to the next: a race stands in an arena, whose memory the next one
 // takes again.
 pub(crate) fn tell_races<A: Allocator + Copy>(

@@ -77,7 +77,7 @@ fn first_room(workers: u16) -> usize
     }
 }
 
-// The room for the step behind one that took so many bytes: four times as much where its room was filled, since much
+// The room for the step after one that took so many bytes: four times as much where its room was filled, since much
 // more may be ready then.
 fn next_room(room: usize, count: usize) -> usize
     requires some { 0 < room }
@@ -131,7 +131,7 @@ fn tell_held<A: Allocator + Copy, O: OutputStream>(
     put_round(alloc, held, part, asked, text, output)
 }
 
-// Tells what is held, behind which nothing follows: the input ended, or broke off.
+// Tells what is held, after which nothing follows: the input ended, or broke off.
 fn end_held<A: Allocator + Copy, O: OutputStream>(
     alloc: A,
     held: &mut Held<A>,
@@ -157,7 +157,7 @@ fn end_held<A: Allocator + Copy, O: OutputStream>(
 }
 
 // How far races are looked for in the bytes, of which those from `searched` on are new: to the end of the last race
-// that ends there, or, for a fault behind it, through all of them. That is tried where nothing more was ready to be
+// that ends there, or, for a fault after it, through all of them. That is tried where nothing more was ready to be
 // taken, or where the rest is longer than most races are, but not before the rest is twice as long as when it was
 // tried last.
 fn reach_of(bytes: &[u8], searched: usize, is_short: bool, tried: usize) -> usize

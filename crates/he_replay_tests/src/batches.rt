@@ -94,7 +94,7 @@ fn timelines_of<A: Allocator + Copy>(alloc: A, count: usize) -> Option<Vec<Timel
     Some(timelines)
 }
 
-// Appends the race that begins at the place, and answers the place behind it.
+// Appends the race that begins at the place, and answers the place after it.
 fn append_race<A: Allocator + Copy>(
     alloc: A,
     from: usize,

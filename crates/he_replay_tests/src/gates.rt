@@ -37,7 +37,7 @@ impl Held {
     }
 }
 
-// How many turns a worker that was held waits behind another's refusal, so that the other comes to its end.
+// How many turns a worker that was held waits after another's refusal, so that the other comes to its end.
 const TURNS_AFTER_REFUSAL: u64 = 1_000;
 
 #[derive(Drop)]

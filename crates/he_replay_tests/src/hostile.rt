@@ -83,7 +83,7 @@ fn fault(line: u64, kind: TextKind) -> Result<(), StreamFault> {
     Err(StreamFault::Text(TextFault { line, kind }))
 }
 
-// Whether this first part of the text is unfinished where the input ends behind it, and a failed read where it breaks
+// Whether this first part of the text is unfinished where the input ends after it, and a failed read where it breaks
 // there. Nothing is written of it.
 fn is_cut_right<R: Threads + Sync>(rt: &R, alloc: Global, content: Content, cut: &[u8]) -> bool {
     let ends = cut.iter().filter(|byte| **byte == b'\n').count() as u64;
@@ -149,7 +149,7 @@ fn right_rooms<R: Threads + Sync>(rt: &R, alloc: Global, content: Content) -> us
     right
 }
 
-// The texts behind which the reader breaks, whether the text above stands before them, and what is answered.
+// The texts after which the reader breaks, whether the text above stands before them, and what is answered.
 static BROKEN: [(bool, &[u8], Result<(), StreamFault>); 6] = [
     (false, b"", Err(StreamFault::Read)),
     (true, b"", Err(StreamFault::Read)),
@@ -216,7 +216,7 @@ fn right_breaks<R: Threads + Sync>(
     Ok(right)
 }
 
-// Whether the same is answered and written wherever the text, behind which the reader breaks, is cut into two pieces.
+// Whether the same is answered and written wherever the text, after which the reader breaks, is cut into two pieces.
 fn is_right_in_two<R: Threads + Sync>(
     rt: &R,
     alloc: Global,
@@ -263,7 +263,7 @@ fn right_interruptions<R: Threads + Sync>(rt: &R, alloc: Global, content: Conten
     right
 }
 
-// A flush that fails, behind a whole output and behind the output before a fault; and the empty text.
+// A flush that fails, after a whole output and after the output before a fault; and the empty text.
 fn right_ends<R: Threads + Sync>(rt: &R, alloc: Global, content: Content) -> bool {
     let wanted = output_of(content);
     let failing = FakeWriter::new(alloc).failing_flush();

@@ -38,7 +38,7 @@ fn run<R: Threads + Sync>(
 }
 
 // With room for 64 races the 65th write fails: the races before it were written and flushed, each before the next
-// read, and nothing is read after it. And a reader that fails behind the 65th race leaves all 65 written.
+// read, and nothing is read after it. And a reader that fails after the 65th race leaves all 65 written.
 #[test]
 fn races_are_told_as_they_come(rt: HostRuntime) -> Result<(), Fail> {
     let alloc = rt.alloc();

@@ -1,5 +1,5 @@
 // Texts so long that workers share their races: what is written, and what is wrong, is as with one worker; and want of
-// memory is told only where a growth was refused, behind the whole texts of some first races.
+// memory is told only where a growth was refused, after the whole texts of some first races.
 ghost use Rattle.std.specs.Prelude.{◌≤◌};
 
 use he_inputs::StreamFault;
@@ -14,7 +14,7 @@ use std::thread::Threads;
 use stream_fakes::{FakeReader, FakeWriter};
 
 // The lines of a race of 64 addresses, as many sources and as many routes: what stands before the first number of each
-// kind, and what before and behind each number.
+// kind, and what before and after each number.
 static LINES: [(&[u8], &[u8], &[u8]); 4] = [
     (
         b"race 1\n",
@@ -42,7 +42,7 @@ const RACES: usize = 200;
 
 const FEW_RACES: usize = 24;
 
-// What stands behind them: a race with a fault.
+// What stands after them: a race with a fault.
 static FAULTY: &[u8] = b"race 1\na 010 none\nend\n";
 
 fn race_of(alloc: Global) -> Result<Vec<u8>, AllocError> {
@@ -74,7 +74,7 @@ fn text_of(alloc: Global, races: usize) -> Result<Vec<u8>, AllocError> {
 // How many bytes a read gives.
 const STEP: usize = 1_000_000;
 
-// What is wrong with the text: the address of the last race, in the line behind all the others.
+// What is wrong with the text: the address of the last race, in the line after all the others.
 fn fault_in(text: &[u8]) -> Result<(), StreamFault> {
     let ends = text.iter().filter(|byte| **byte == b'\n').count() as u64;
     let line = ends.saturating_sub(1);

@@ -13,7 +13,7 @@ use Rattle.he_request.specs.declared.port.Port.TheVariants as ports
 abbrev pub is_sign : ℕ → Bool
 is_sign byte = is_ascii_alphanumeric byte || byte == 45
 
--- no hyphen stands at the end, or behind another, or at the front behind one
+-- no hyphen stands at the end, or after another, or at the front after one
 abbrev pub are_apart : Bool → List ℕ → Bool
 are_apart behind [] = not behind
 are_apart behind (byte ∷ more) = if behind && byte == 45 then false else are_apart (byte == 45) more

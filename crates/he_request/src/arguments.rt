@@ -22,7 +22,7 @@ Each of several has a line `==> NAME <==` above it";
 const VERBOSE_HELP: &str =
     "Explain the fault of a file as `he check` does,\nand say why a file can't be read or written";
 
-// A command with these arguments, and what help says before and behind them.
+// A command with these arguments, and what help says before and after them.
 pub(crate) fn plain<'a>(
     alloc: Global,
     name: &'a str,

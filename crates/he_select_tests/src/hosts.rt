@@ -58,7 +58,7 @@ fn routes() -> Option<[Route; 4]> {
     ])
 }
 
-// The places of a host's first source and route and the ones behind its last, and the fault of the host.
+// The places of a host's first source and route and the ones after its last, and the fault of the host.
 static HOSTS: [(usize, usize, usize, usize, Option<HostFault>); 10] = [
     (0, 2, 0, 0, Some(HostFault::RepeatedSource(1))),
     (0, 0, 0, 2, Some(HostFault::RepeatedRoute(1))),

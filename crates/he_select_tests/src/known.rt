@@ -106,7 +106,7 @@ fn is_ordered<'h>(
     }
 }
 
-// The rule that puts the second one behind the first one, of the addresses in the order in which they are to be tried.
+// The rule that puts the second one after the first one, of the addresses in the order in which they are to be tried.
 fn first_rule<'h>(
     heap: &'h Refusing,
     policy: &Policy<&'h Refusing>,

@@ -68,7 +68,7 @@ fn rows() -> Option<[Row; 8]> {
     ])
 }
 
-// The place of a table's first row and the one behind its last, and the table's fault.
+// The place of a table's first row and the one after its last, and the table's fault.
 static TABLES: [(usize, usize, Option<PolicyFault>); 8] = [
     (0, 0, Some(PolicyFault::Size)),
     (0, 2, Some(PolicyFault::Repeated(1))),

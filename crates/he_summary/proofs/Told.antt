@@ -25,7 +25,7 @@ behind_words {S} (told ∷ each) old between new (words, is) (more, end, tells, 
   rest,
 )
 
--- and behind it
+-- and after it
 pub before_words : {S : Type 0} (each : List (List (Fact S))) (old between new : List ℕ) → TellsEach each old between → HasWords between new → TellsEach each old new
 before_words [] old between new (words, is) (more, also) = (words ++ more, also ∙ ap (λ (t : List ℕ). t ++ more) is ∙ append_assoc old words more)
 before_words (told ∷ each) old between new (words, end, tells, rest) more = (words, end, tells, before_words each end between new rest more)

@@ -23,7 +23,7 @@ use Rattle.he_summary.specs.Tries.{AreTallies, Try, tries_of}
 use Rattle.he_summary.specs.declared.kept.Kept.{Kept}
 use Rattle.he_summary.specs.declared.kept.Place.{Place}
 
--- one row more behind the others
+-- one row more after the others
 pub rows_on : (race : Race) (place : Place) (row : ℕ) (settings : List ChangeValues) (runs : List Run) (changes : ChangeValues) (run : Run) → AreRows race place row settings runs
     → IsRow race place (row + length settings) changes run → AreRows race place row (settings ++ changes ∷ []) (runs ++ run ∷ [])
 rows_on race place row [] runs changes run none is =
@@ -32,7 +32,7 @@ rows_on race place row (one ∷ settings) [] changes run none is = absurd none
 rows_on race place row (one ∷ settings) (first ∷ runs) changes run are is =
     (are.0, rows_on race place (row + 1) settings runs changes run are.1 (record { row_is = let at = is.row_is in omega arith; place_is = is.place_is; race_is = is.race_is; transcript = is.transcript }))
 
--- the rows of one race more behind those of the others
+-- the rows of one race more after those of the others
 runs_on : (settings : List ChangeValues) (file before lines : ℕ) (races : List Race) (text : List ℕ) (runs : List Run) → AreRuns settings file before lines races text runs
     → (race : Race) (last : List ℕ) → IsRaceText last race → (number line : ℕ) (rows : List Run) → number ≡ before + length races + 1 → line ≡ lines + line_count text + 1
     → AreRows race (record { file = file; number = number; line = line }) 0 settings rows → AreRuns settings file before lines (races ++ race ∷ []) (text ++ last) (runs ++ rows)

@@ -32,13 +32,13 @@ const FLOOR: &[u8] = b"race 2\nset floor 300\nset x";
 // The same floor, and the beginning of a source.
 const FLOOR_BEFORE_A_SOURCE: &[u8] = b"race 2\nset floor 300\nso";
 
-// What is wrong with that floor, if the attempt delay isn't given behind it.
+// What is wrong with that floor, if the attempt delay isn't given after it.
 const FLOOR_ABOVE_DELAY: Told = Told::Fault(2, TextKind::Range);
 
 // What is wrong with a table of that row alone.
 const NO_TABLE: Told = Told::Fault(2, TextKind::Policy(PolicyFault::NoMapped));
 
-// The bytes of that row's text, those of it and `policy ` behind it, and the most bytes of a line.
+// The bytes of that row's text, those of it and `policy ` after it, and the most bytes of a line.
 const ROW_BYTES: usize = 24;
 
 const ROW_AND_WORD: usize = 31;
@@ -47,7 +47,7 @@ const LONGEST_LINE: usize = 16_384;
 
 #[derive(Clone, Copy, PartialEq, Eq)]
 enum Told {
-    // A race, and the place behind it.
+    // A race, and the place after it.
     Race(usize),
     // No race: the text ends, or what stands there depends on what follows.
     None,
@@ -211,7 +211,7 @@ fn texts_that_may_go_on(rt: HostRuntime) {
     assert!(rt; refused_in_all(&heap) > 0);
 }
 
-// The row, and behind it a `policy` line without its line end, of one byte more than a line may have.
+// The row, and after it a `policy` line without its line end, of one byte more than a line may have.
 fn row_before_a_long_line() -> [u8; ROW_BYTES + LONGEST_LINE + 1] {
     let mut text = [b'1'; ROW_BYTES + LONGEST_LINE + 1];
     text[..ROW_AND_WORD].copy_from_slice(&ROW[..ROW_AND_WORD]);

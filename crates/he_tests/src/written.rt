@@ -10,7 +10,7 @@ use he_timeline::Timeline;
 use refusing::{Refusing, each_growth_refused, refused_in_turn};
 use std::test::Fail;
 
-// A race with all kinds of lines, as it is written, and behind it its order and its transcript. For 2001:db8:1::1 and
+// A race with all kinds of lines, as it is written, and after it its order and its transcript. For 2001:db8:1::1 and
 // 192.0.2.9 the source has the label of the destination, for 198.51.100.1 it hasn't (RFC 6724 section 6, rule 5), and
 // the first has the higher precedence. Its connection is still on its way at the limit.
 const FULL: &str = "race 1
@@ -75,7 +75,7 @@ end
 limit 9
 ";
 
-// A race of version 2, as it is written, and behind it its order and its transcript. A round trip time that is known
+// A race of version 2, as it is written, and after it its order and its transcript. A round trip time that is known
 // comes before one that isn't, and before an earlier use (RFC 8305 section 4). The first attempt fails at 30, the
 // floor after its start.
 const SECOND: &str = "race 2

@@ -33,7 +33,7 @@ abbrev pub listed_text : List Ip → List (List ℕ)
 listed_text [] = codes "none" ∷ []
 listed_text (ip ∷ ips) = map printed (ip ∷ ips)
 
--- what stands behind the word of the line that is written
+-- what stands after the word of the line that is written
 abbrev pub others_of : Said → List (List ℕ)
 others_of (Setting name value) = name_spelling name ∷ decimal value ∷ []
 others_of (PolicyRow row) = prefix_text false row.prefix ∷ decimal row.precedence ∷ decimal row.label ∷ []

@@ -16,7 +16,7 @@ short word spelled rest front is alone none front_is =
     let size : length rest ≤ length (spelling_of word) = ltb-false (length (spelling_of word)) (length rest) (ap (λ (s : List ℕ). ltb (length s) (length rest)) (sym is) ∙ sym none) in
     short_becomes word rest front alone size (front_is ∙ ap (λ (s : List ℕ). starts_with (λ a b. a == b) s rest) is)
 
--- by the byte behind the word, and whether the word stands there
+-- by the byte after the word, and whether the word stands there
 abbrev Marks : List ℕ → List ℕ → Bool → Bool → Type 0
 Marks spelled rest mark front = (mark ≡ eqb (get_or rest (length spelled) 0) 32) × (front ≡ starts_with (λ a b. a == b) rest spelled)
 
