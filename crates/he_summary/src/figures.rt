@@ -4,12 +4,12 @@ ghost use Rattle.std.specs.List.{flat_map};
 ghost use Rattle.he_print.specs.Parts.{fact_of};
 ghost use Rattle.he_print.specs.declared.part.Fact.TheVariants as facts;
 ghost use Rattle.he_summary.specs.declared.figures.Said.TheVariants.{NoOne};
-ghost use Rattle.he_summary.specs.Figures.{count_facts, end_facts, ended_facts, figure_facts, lost_facts, metrics_facts, share, share_facts, sum_facts, tally_facts, time_facts, told, total_of, totals_facts};
+ghost use Rattle.he_summary.specs.Figures.{end_facts, figure_facts, lost_facts, metrics_facts, share, share_facts, tally_facts, time_facts, told, total_of, totals_facts};
 
 use crate::kept::Loss;
 use crate::tallies::Tally;
 use crate::times::Spread;
-use crate::totals::{Counts, Kind, Totals, Value};
+use crate::totals::{Kind, Totals, Value};
 use crate::words::{after, before};
 use he_addr::{Family, Ip, Memory};
 use he_print::{Part, push_parts};
@@ -66,46 +66,31 @@ pub fn push_totals<A: Allocator>(
     ensures { OnOk result (flat_map fact_of text.new.items ≡ flat_map fact_of text.old.items
         ++ totals_facts form totals) }
 {
-    push_counts(form, totals.counts, text)?;
-    push_times(form, totals.times, text)?;
-    push_lost(
-        form,
-        Loss::Failed,
-        totals.lost_to_failed,
-        totals.counts.won,
-        text,
-    )?;
-    push_lost(
-        form,
-        Loss::Silent,
-        totals.lost_to_silent,
-        totals.counts.won,
-        text,
-    )?;
-    push_end(form, totals, text)
-}
-
-fn push_counts<A: Allocator>(
-    form: Form,
-    counts: Counts,
-    text: &mut Vec<Part<Said>, A>,
-) -> Result<(), Memory>
-    ensures { OnOk result (flat_map fact_of text.new.items ≡ flat_map fact_of text.old.items
-        ++ count_facts form counts) }
-{
-    let races = counts.races;
+    let counts = totals.counts;
     push_figures(
         form,
         &[
-            told(Said::Races, races, 0),
-            told(Said::Are(Kind::Won), counts.won, races),
-            told(Said::Are(Kind::WonBy(Family::V6)), counts.by_v6, races),
-            told(Said::Are(Kind::WonBy(Family::V4)), counts.by_v4, races),
-            told(Said::Are(Kind::Exhausted), counts.exhausted, races),
-            told(Said::Are(Kind::Limit), counts.limit, races),
+            told(Said::Races, counts.races, 0),
+            told(Said::Are(Kind::Won), counts.won, counts.races),
+            told(
+                Said::Are(Kind::WonBy(Family::V6)),
+                counts.by_v6,
+                counts.races,
+            ),
+            told(
+                Said::Are(Kind::WonBy(Family::V4)),
+                counts.by_v4,
+                counts.races,
+            ),
+            told(Said::Are(Kind::Exhausted), counts.exhausted, counts.races),
+            told(Said::Are(Kind::Limit), counts.limit, counts.races),
         ],
         text,
-    )
+    )?;
+    push_times(form, totals.times, text)?;
+    push_lost(form, Loss::Failed, totals.lost_to_failed, counts.won, text)?;
+    push_lost(form, Loss::Silent, totals.lost_to_silent, counts.won, text)?;
+    push_end(form, totals, text)
 }
 
 fn push_times<A: Allocator>(
@@ -240,14 +225,7 @@ pub(crate) fn push_metrics<A: Allocator>(
 ) -> Result<(), Memory>
     ensures { OnOk result (flat_map fact_of text.new.items ≡ flat_map fact_of text.old.items ++ metrics_facts totals) }
 {
-    push_ended(totals.counts, text)?;
-    push_times(Form::Metrics, totals.times, text)?;
-    push_sums(totals, text)
-}
-
-fn push_ended<A: Allocator>(counts: Counts, text: &mut Vec<Part<Said>, A>) -> Result<(), Memory>
-    ensures { OnOk result (flat_map fact_of text.new.items ≡ flat_map fact_of text.old.items ++ ended_facts counts) }
-{
+    let counts = totals.counts;
     push_figures(
         Form::Metrics,
         &[
@@ -257,22 +235,18 @@ fn push_ended<A: Allocator>(counts: Counts, text: &mut Vec<Part<Said>, A>) -> Re
             told(Said::Are(Kind::Limit), counts.limit, 0),
         ],
         text,
-    )
-}
-
-fn push_sums<A: Allocator>(totals: Totals, text: &mut Vec<Part<Said>, A>) -> Result<(), Memory>
-    ensures { OnOk result (flat_map fact_of text.new.items ≡ flat_map fact_of text.old.items ++ sum_facts totals) }
-{
+    )?;
+    push_times(Form::Metrics, totals.times, text)?;
     let (failed, silent) = (Value::LostTo(Loss::Failed), Value::LostTo(Loss::Silent));
     push_figures(
         Form::Metrics,
         &[
             told(Said::Total(Value::Time), total_of(totals.times), 0),
-            told(Said::Count(Value::Time), totals.counts.won, 0),
+            told(Said::Count(Value::Time), counts.won, 0),
             told(Said::Total(failed), total_of(totals.lost_to_failed), 0),
             told(Said::Total(silent), total_of(totals.lost_to_silent), 0),
             told(Said::Total(Value::Attempts), total_of(totals.attempts), 0),
-            told(Said::Are(Kind::Waited), totals.counts.waited, 0),
+            told(Said::Are(Kind::Waited), counts.waited, 0),
         ],
         text,
     )
