@@ -59,6 +59,10 @@ def end():
     sys.exit(COUNTS[False] > 0)
 
 
+class NotTried(Exception):
+    """What a check needs isn't there on this machine."""
+
+
 def must(is_right, *told):
     """Ends a check where something is wrong, which is told."""
     if not is_right:
@@ -69,7 +73,7 @@ def needs(*programs):
     """Ends a check, which then isn't tried, where one of the programs is missing."""
     missing = [name for name in programs if shutil.which(name) is None]
     if missing:
-        raise FileNotFoundError(f"{', '.join(missing)} isn't installed")
+        raise NotTried(f"{', '.join(missing)} isn't installed")
 
 
 def timed(check):
@@ -85,12 +89,13 @@ def run_check(name, check, is_last=False):
         check()
         if COUNTS.total() == counted:
             tell(True)
-    except (FileNotFoundError, PermissionError) as error:
+    except (NotTried, PermissionError) as error:
         print(f"{name}: not tried ({error})")
-    except (ValueError, OSError, subprocess.TimeoutExpired) as error:
+    except Exception as error:
+        said = f"{name}: {error}" if isinstance(error, ValueError) else f"{name}: {type(error).__name__}: {error}"
         if is_last or not hasattr(check, "is_timed"):
-            return tell(False, f"{name}: {error}")
-        print(f"{name}: {error}: tried again: machine busy")
+            return tell(False, said)
+        print(f"{said}: tried again: machine busy")
         run_check(name, check, is_last=True)
 
 
@@ -383,7 +388,7 @@ def server_at(port, *command, is_there=None, **more):
     with subprocess.Popen([str(word) for word in command], **{**quiet, **more}) as server:
         try:
             if not is_up(server, is_there or (lambda: is_listening(port))):
-                raise FileNotFoundError(f"{' '.join(map(str, command))} does not listen")
+                raise NotTried(f"{' '.join(map(str, command))} does not listen")
             yield server
         finally:
             server.terminate()

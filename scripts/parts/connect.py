@@ -16,7 +16,7 @@ import tempfile
 import time
 
 import support
-from support import (A, AAAA, DEAD_FOUR, DEAD_SIX, FOUR, OPTIONS, SERVFAIL, SIX, TIMEOUT, WIDE_FOUR, Zone,
+from support import (A, AAAA, DEAD_FOUR, DEAD_SIX, FOUR, OPTIONS, SERVFAIL, SIX, TIMEOUT, WIDE_FOUR, NotTried, Zone,
                      answer_digest, digest_of, greet, must, needs, replayed, serving, silent, timed, unused_port)
 
 HE, IS_FULL = OPTIONS.program, OPTIONS.full
@@ -86,7 +86,7 @@ def check_times():
 def check_ports():
     """A port is a number, or a service over TCP of the file of services; any other word is a wrong line."""
     if not os.path.exists("/etc/services"):
-        raise FileNotFoundError("no /etc/services")
+        raise NotTried("no /etc/services")
     words = dict.fromkeys(["0", "65536", "07007", "7007/tcp", "he_test", "he--test", "test-", "a-sixteen-letter", ""],
                           "error: invalid value for PORT: .*")
     words |= {word: f"he: no such service: {word}\n" for word in ("datagrams", "htps", "HE-TEST")}
@@ -159,7 +159,7 @@ def made(lines, undone):
     done = support.run("sh", "-ec", lines)
     try:
         if done.returncode != 0:
-            raise FileNotFoundError(f"no such network: {done.stderr.strip()}")
+            raise NotTried(f"no such network: {done.stderr.strip()}")
         yield
     finally:
         support.run("sh", "-c", undone)
@@ -223,6 +223,7 @@ ip link del wg
 """
 
 
+@timed
 def check_policy_routing():
     """With rules as wg-quick makes them, and one for a single address, the lines of an address, and of each address of
     a name, which come with it, have the source that the kernel takes; `he host` tells the table that it does not see.

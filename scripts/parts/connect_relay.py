@@ -18,8 +18,8 @@ import time
 
 import support
 from parts.connect import HE, IS_FULL, Run, started
-from support import (FOUR, TIMEOUT, answer_digest, digest_of, greet, must, needs, read_all, serving, set_to_reset,
-                     timed, unused_port)
+from support import (FOUR, TIMEOUT, NotTried, answer_digest, digest_of, greet, must, needs, read_all, serving,
+                     set_to_reset, timed, unused_port)
 
 SETUP = support.NETWORK
 SIZE = 100_000_000 if IS_FULL else 20_000_000  # bytes of a transfer
@@ -89,6 +89,7 @@ def check_pause():
         must(ends == (wanted, LEFT if wanted else b"", (digest_of(sent), len(sent))), words, pause, "s:", ends)
 
 
+@timed
 def check_unsent():
     """Where the remote has closed while more is there, that is told, and how much was not sent."""
     reading, writing = os.pipe()
@@ -103,6 +104,7 @@ def check_unsent():
     must(status == 1 and found and 0 < int(found[1]) <= 131_072, status, told)
 
 
+@timed
 def check_closed_remote():
     """A remote that closed while more was to come, and resets it, did not get what the system took to send: also where
     standard input then ends."""
@@ -199,12 +201,12 @@ def check_nc():
     needs("nc")
     port = unused_port()
     for words in (["-l", FOUR, port], ["-l", "-s", FOUR, "-p", port]):
-        with contextlib.suppress(FileNotFoundError):
+        with contextlib.suppress(NotTried):
             with support.server_at(port, "nc", *words, stdout=subprocess.PIPE) as server:
                 Run(FOUR, port, given=b"hello\n").must()
                 server.terminate()
                 return must(server.stdout.read() == b"hello\n", "not all came over")
-    raise FileNotFoundError("nc does not listen")
+    raise NotTried("nc does not listen")
 
 
 def check_ssh():

@@ -18,7 +18,7 @@ import plain
 import support
 from drawn import HEADER, Drawer
 from plain_wanted import WRITTEN, Wanted
-from support import KEPT, OPTIONS, tell
+from support import KEPT, OPTIONS, NotTried, tell
 
 FAULT_LINE = re.compile(rb"^he: (?!line [0-9]+: warning).*\n", re.MULTILINE)
 RUNS = [["order"]] + [["replay", "--workers", str(workers)] for workers in (1, 2, 7, 64)]
@@ -144,7 +144,7 @@ def check_texts():
 def check_large():
     """With --full: a large text, and one that ends inside a race."""
     if not OPTIONS.full:
-        raise FileNotFoundError("only with --full")
+        raise NotTried("only with --full")
     drawer = Drawer(OPTIONS.seed)
     races = [drawer.large_race() for _ in range(LARGE_RACES)]
     said = [Wanted(race) for race in races]

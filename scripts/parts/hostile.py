@@ -17,7 +17,7 @@ import threading
 import support
 from plain import MOST_LINE_BYTES
 from plain_wanted import WRITTEN
-from support import DATA, OPTIONS, tell
+from support import DATA, OPTIONS, NotTried, tell
 
 HE = OPTIONS.program
 FILE = DATA / "ipv6-late-but-within-delay-leads.timeline"
@@ -132,7 +132,7 @@ def check_full_disk():
     small = OPTIONS.folder / "small"
     small.mkdir()
     if support.run("mount", "-t", "tmpfs", "-o", "size=8k", "small", small).returncode:
-        raise FileNotFoundError("no tmpfs may be mounted")
+        raise NotTried("no tmpfs may be mounted")
     page = small / "page.html"
     page.write_bytes(b"an old page\n")
     ran = he("draw --html", page, input=RACE * 8)

@@ -12,7 +12,7 @@ import time
 
 import support
 from host_lines import machine_lines, recorded_lines
-from support import OPTIONS, ROOT, needs, run, tell
+from support import OPTIONS, ROOT, NotTried, needs, run, tell
 
 HE = OPTIONS.program
 SPACE = f"hosts-{os.getpid()}"
@@ -131,7 +131,7 @@ def space(name, *lines):
     try:
         made = run("ip", "-n", SPACE, "-batch", "-", input="".join(f"{line}\n" for line in [*LINKS, *lines]))
         if made.returncode:
-            raise FileNotFoundError(made.stderr.strip())
+            raise NotTried(made.stderr.strip())
         support.comes(lambda: not run("ip", "-n", SPACE, "-6", "address", "show", "tentative").stdout, 10)
         yield Host(name, INSIDE)
     finally:
@@ -142,7 +142,7 @@ def set_in(key, value):
     """Sets a number of the kernel in the namespace."""
     done = run(*INSIDE, "sh", "-c", f"echo {value} > /proc/sys/net/ipv6/conf/{key}")
     if done.returncode:
-        raise FileNotFoundError(done.stderr.strip())
+        raise NotTried(done.stderr.strip())
 
 
 def check_recorded():
@@ -157,7 +157,7 @@ def check_this_machine():
     needs("ip")
     host = Host("this machine")
     if "a guess: " in host.left or "is more than a race holds" in host.left:
-        raise FileNotFoundError("its addresses are guessed, or too many")
+        raise NotTried("its addresses are guessed, or too many")
     host.same()
 
 
@@ -210,7 +210,7 @@ def check_temporary():
         set_in("one/use_tempaddr", 2)
         own = "addr add 2001:db8:1::4/64 dev one nodad mngtmpaddr valid_lft 3600 preferred_lft 1800"
         if run("ip", "-n", SPACE, *own.split()).returncode:
-            raise FileNotFoundError("no temporary addresses")
+            raise NotTried("no temporary addresses")
         time.sleep(2)
         host.same()
 

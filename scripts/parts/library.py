@@ -14,7 +14,7 @@ import sys
 import time
 from pathlib import Path
 
-from support import DATA, OPTIONS, ROOT, data_of, has_six, listener_at, must, needs, run, silent, tell
+from support import DATA, OPTIONS, ROOT, NotTried, data_of, has_six, listener_at, must, needs, run, silent, tell
 
 # The functions, with the words by which the program writes the same.
 CALLS = {"replay": ["replay"], "order": ["order"], "explain": ["explain", "--json"]}
@@ -40,7 +40,7 @@ def prefix():
     """Where the library is put."""
     needs("gcc")
     if not (ROOT / "crates/he_c/out/libhe_c.a").exists():
-        raise FileNotFoundError("the library is not built: make build-library")
+        raise NotTried("the library is not built: make build-library")
     made = run(ROOT / "scripts/make-library", OPTIONS.folder)
     must(made.returncode == 0, made.stderr)
     return OPTIONS.folder

@@ -16,7 +16,7 @@ import time
 from contextlib import ExitStack, contextmanager, suppress
 
 import support
-from support import OPTIONS, has_six, must, silent, timed, unused_port
+from support import OPTIONS, NotTried, has_six, must, silent, timed, unused_port
 
 HE = OPTIONS.program
 SETUP, ANYWHERE = "ip link set lo up", True
@@ -154,7 +154,7 @@ def check_known():
 def check_ipv6():
     """The third of four IPv6 addresses listens: it alone is connected to, from the host's source."""
     if not OPTIONS.inside or not has_six():
-        raise FileNotFoundError("no network namespace can be made, or there is no IPv6")
+        raise NotTried("no network namespace can be made, or there is no IPv6")
     for last in (1, 2, 3, 4, 9):
         support.run("ip", "address", "add", f"{PREFIX}{last}/64", "dev", "lo", "nodad", check=True)
     addresses = [f"{PREFIX}{last}" for last in range(1, 5)]

@@ -13,8 +13,8 @@ import sys
 import time
 
 import support
-from support import (A, AAAA, CNAME, FORMERR, NOTIMP, NXDOMAIN, OPTIONS, OWN_NAME, REFUSED, SERVFAIL, addresses,
-                     data_of, kind_of, labels_of, message, must, question_of, record, tell, wire)
+from support import (A, AAAA, CNAME, FORMERR, NOTIMP, NXDOMAIN, OPTIONS, OWN_NAME, REFUSED, SERVFAIL, NotTried,
+                     addresses, data_of, kind_of, labels_of, message, must, question_of, record, tell, wire)
 
 SETUP, ANYWHERE = "ip link set lo up", True
 SERVER, OTHER, DOWN = "127.0.0.77", "127.0.0.78", "127.0.0.79"
@@ -290,7 +290,7 @@ def check_mutants():
     try:
         from dns.wire import Parser
     except ImportError:
-        raise FileNotFoundError("no dnspython") from None
+        raise NotTried("no dnspython") from None
     server, wrong, seen = Mutant(SERVER), [], {}
     for at in range(MUTANTS):
         label = f"{'ut'[at // 2 % 2]}{at}"

@@ -273,6 +273,7 @@ def check_failures():
             must(re.search(reason, answer.split(b"\r\n\r\n", 1)[1]), f"{host}: no reason in {answer!r}")
 
 
+@timed
 def check_leaves():
     """A client that goes away ends its race, and nothing is left open."""
     with Proxy() as proxy, serving(greet) as port:
@@ -370,6 +371,7 @@ def check_allow():
         must(found in (code, 0), allow, *private, f"{found}, not {code}")
 
 
+@timed
 def check_most():
     """As many sessions as --most says run at once; the next one is served when one ends."""
     with Proxy("--most", 3) as proxy, serving(echo) as port, contextlib.ExitStack() as held:
@@ -385,6 +387,7 @@ def check_most():
         must(get(late, 2) == b"\5\0", "the fourth is not served")
 
 
+@timed
 def check_few_descriptors():
     """Without a descriptor left no processor time is burnt, and once there are some again clients are served."""
     with Proxy(limits=support.limit("NOFILE", 32)) as proxy, serving(echo) as port:
@@ -427,6 +430,7 @@ def check_idle():
     must(got == b"" and 0.8 < seconds < 3, f"{got!r} after {seconds:.1f} s")
 
 
+@timed
 def check_signals():
     """SIGTERM and SIGINT end it at once, and what was raced is recorded."""
     for number in (signal.SIGTERM, signal.SIGINT):

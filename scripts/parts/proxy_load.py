@@ -15,8 +15,8 @@ from concurrent.futures import ThreadPoolExecutor
 
 import support
 from parts.proxy import HE, SOON, Proxy, all_of, destination, get, must_close, socks, tunnel
-from support import (FOUR, OPTIONS, Zone, comes, digest_of, greet, must, needs, read_all, serving, set_to_reset, timed,
-                     unused_port)
+from support import (FOUR, OPTIONS, NotTried, Zone, comes, digest_of, greet, must, needs, read_all, serving,
+                     set_to_reset, timed, unused_port)
 
 IS_FULL, SETUP = OPTIONS.full, support.NETWORK
 
@@ -96,7 +96,7 @@ def check_busy():
     needs("curl")
     first, *others = processors = os.sched_getaffinity(0)
     if len(others) < 3:
-        raise FileNotFoundError("four processors are needed: for the proxy, what sends, what fetches, and what measures")
+        raise NotTried("four processors are needed: for the proxy, what sends, what fetches, and what measures")
     file, sender, pinned = OPTIONS.folder / "file", unused_port(), lambda: os.sched_setaffinity(0, {first})
     file.write_bytes(bytes(1 << 26))
     with contextlib.ExitStack() as end, Proxy("-q", limits=pinned) as proxy, serving(greet) as port:

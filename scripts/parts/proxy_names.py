@@ -11,11 +11,12 @@ from concurrent.futures import ThreadPoolExecutor
 
 import support
 from parts.proxy import HE, SOON, Proxy, destination, socks
-from support import FOUR, SIX, Zone, comes, greet, must, serving, unused_port
+from support import FOUR, SIX, Zone, comes, greet, must, serving, timed, unused_port
 
 SETUP = support.NETWORK
 
 
+@timed
 def check_kept_answers():
     """Answers of name servers serve later races for their TTL; that there is no such name does so for 5 seconds."""
     with Zone() as zone, Proxy("--resolver", zone.at) as proxy, serving(greet) as port:
@@ -44,6 +45,7 @@ class Slow(Zone):
         return [(0.3, reply) for _, reply in super().replies(query, stream) if is_told]
 
 
+@timed
 def check_shared_look_ups():
     """Races that begin while another one asks for their host wait for its answers: name servers see two queries. Where
     that one goes away, or is told what isn't kept, the others ask themselves, all at once."""

@@ -10,7 +10,7 @@ import tempfile
 
 import support
 from parts.proxy import Proxy
-from support import FOUR, TIMEOUT, greet, must, needs, serving
+from support import FOUR, TIMEOUT, NotTried, greet, must, needs, serving
 
 SETUP = support.NETWORK
 
@@ -86,7 +86,7 @@ def check_git():
     with tempfile.TemporaryDirectory() as folder, Proxy() as proxy, support.web_server(folder) as port:
         made = support.run("sh", "-c", GIT, cwd=folder)
         if made.returncode:
-            raise FileNotFoundError(f"git: {made.stderr.strip()}")
+            raise NotTried(f"git: {made.stderr.strip()}")
         done = support.run("git", "-c", f"http.proxy=socks5h://{FOUR}:{proxy.port}", "clone", "-q",
                            f"http://both.test:{port}/it.git", f"{folder}/got", timeout=TIMEOUT)
         file = pathlib.Path(folder, "got/file")
@@ -99,7 +99,7 @@ def check_nc():
     with Proxy() as proxy, serving(greet) as port:
         done = support.run("nc", "-X", "5", "-x", f"{FOUR}:{proxy.port}", "four.test", port, input="", timeout=TIMEOUT)
     if "invalid option" in done.stderr or "usage" in done.stderr.lower():
-        raise FileNotFoundError("nc has no -X")
+        raise NotTried("nc has no -X")
     must(done.stdout == "hello\n", f"{done.stdout!r}, {done.stderr!r}")
 
 

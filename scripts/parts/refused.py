@@ -12,7 +12,7 @@ import functools
 import re
 import subprocess
 
-from support import DATA, OPTIONS, accept_all, listener_at, needs, tell
+from support import DATA, OPTIONS, NotTried, accept_all, listener_at, needs, tell
 
 SHIM = r"""
 #include <fcntl.h>
@@ -226,7 +226,7 @@ def check_live():
 def check_cases():
     """Each growth of the run over the examples, up to its first output: what it says of them."""
     if not OPTIONS.cases:
-        raise FileNotFoundError("no --cases PROGRAM")
+        raise NotTried("no --cases PROGRAM")
     folder, until = OPTIONS.folder / "cases", {"REFUSED_UNTIL_OUTPUT": "1"}
     folder.mkdir()
     for ending in ("timeline", "transcript"):
