@@ -4,12 +4,12 @@ ghost use Rattle.std.specs.List.{flat_map};
 ghost use Rattle.he_print.specs.Parts.{fact_of};
 ghost use Rattle.he_print.specs.declared.part.Fact.TheVariants as facts;
 ghost use Rattle.he_summary.specs.declared.figures.Said.TheVariants.{NoOne};
-ghost use Rattle.he_summary.specs.Figures.{end_facts, figure_facts, lost_facts, metrics_facts, share, share_facts, tally_facts, time_facts, told, total_of, totals_facts};
+ghost use Rattle.he_summary.specs.Figures.{end_facts, ended_facts, figure_facts, lost_facts, metrics_facts, share, share_facts, sum_facts, tally_facts, time_facts, told, total_of, totals_facts};
 
 use crate::kept::Loss;
 use crate::tallies::Tally;
 use crate::times::Spread;
-use crate::totals::{Kind, Totals, Value};
+use crate::totals::{Counts, Kind, Totals, Value};
 use crate::words::{after, before};
 use he_addr::{Family, Ip, Memory};
 use he_print::{Part, push_parts};
@@ -225,7 +225,14 @@ pub(crate) fn push_metrics<A: Allocator>(
 ) -> Result<(), Memory>
     ensures { OnOk result (flat_map fact_of text.new.items ≡ flat_map fact_of text.old.items ++ metrics_facts totals) }
 {
-    let counts = totals.counts;
+    push_ended(totals.counts, text)?;
+    push_times(Form::Metrics, totals.times, text)?;
+    push_sums(totals, text)
+}
+
+fn push_ended<A: Allocator>(counts: Counts, text: &mut Vec<Part<Said>, A>) -> Result<(), Memory>
+    ensures { OnOk result (flat_map fact_of text.new.items ≡ flat_map fact_of text.old.items ++ ended_facts counts) }
+{
     push_figures(
         Form::Metrics,
         &[
@@ -235,18 +242,22 @@ pub(crate) fn push_metrics<A: Allocator>(
             told(Said::Are(Kind::Limit), counts.limit, 0),
         ],
         text,
-    )?;
-    push_times(Form::Metrics, totals.times, text)?;
+    )
+}
+
+fn push_sums<A: Allocator>(totals: Totals, text: &mut Vec<Part<Said>, A>) -> Result<(), Memory>
+    ensures { OnOk result (flat_map fact_of text.new.items ≡ flat_map fact_of text.old.items ++ sum_facts totals) }
+{
     let (failed, silent) = (Value::LostTo(Loss::Failed), Value::LostTo(Loss::Silent));
     push_figures(
         Form::Metrics,
         &[
             told(Said::Total(Value::Time), total_of(totals.times), 0),
-            told(Said::Count(Value::Time), counts.won, 0),
+            told(Said::Count(Value::Time), totals.counts.won, 0),
             told(Said::Total(failed), total_of(totals.lost_to_failed), 0),
             told(Said::Total(silent), total_of(totals.lost_to_silent), 0),
             told(Said::Total(Value::Attempts), total_of(totals.attempts), 0),
-            told(Said::Are(Kind::Waited), counts.waited, 0),
+            told(Said::Are(Kind::Waited), totals.counts.waited, 0),
         ],
         text,
     )
