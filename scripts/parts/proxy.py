@@ -17,8 +17,8 @@ import time
 import unittest.mock
 
 import support
-from support import (DEAD_SIX, FOUR, OPTIONS, TIMEOUT, WIDE_FOUR, comes, greet, must, needs, serving, set_to_reset,
-                     silent, timed, unused_port)
+from support import (DEAD_SIX, FOUR, OPTIONS, TIMEOUT, WIDE_FOUR, NotTried, comes, greet, must, needs, serving,
+                     set_to_reset, silent, timed, unused_port)
 
 HE = OPTIONS.program
 SETUP = support.NETWORK
@@ -304,6 +304,30 @@ def check_server_resets():
             must_close(proxy, held)
 
 
+ANSWER = b"HTTP/1.1 413 Content Too Large\r\nConnection: close\r\n\r\n" + bytes(60_000)
+
+
+def answer_early(connection):
+    """Answers before the request has ended, and closes: what comes then is answered by a reset."""
+    connection.recv(1000)
+    connection.sendall(ANSWER)
+
+
+@timed
+def check_early_answers():
+    """The answer of a server that reads no further arrives, though the client still sends (RFC 9110 section 9.3.6)."""
+    for ask in (socks, tunnel) * 5:
+        with Proxy() as proxy, serving(answer_early) as port, proxy.connect(SOON) as client:
+            code, got = ask(client, "four.test", port), b""
+            with contextlib.suppress(ConnectionResetError, BrokenPipeError):
+                for _ in range(200):
+                    client.sendall(bytes(1 << 14))
+            with contextlib.suppress(ConnectionResetError):
+                while piece := client.recv(1 << 16):
+                    got += piece
+            must(code in (0, 200) and got == ANSWER, ask.__name__, code, f"{len(got)} bytes, {proxy.said()!r}")
+
+
 # What is asked for, what is sent, and what the line of the session has after both.
 LOGGED = [("four.test", b"five5", rf"winner={re.escape(FOUR)} ms=\d+ lost=\d+ sent=5 received=5 end=closed"),
           ("no.such.name.test", b"", r"fault=no-host sent=0 received=0 end=\S+")]
@@ -442,13 +466,50 @@ def check_signals():
 
 
 def check_record_most():
-    """Of the records so many are kept, and the oldest days go first."""
+    """Of the records so many are kept, and the oldest days go first; those that somebody removed are not counted."""
     earlier = [f"{day}/00-00-0{n}.000-a-1.timeline" for day in ("2001-01-01", "2001-01-02") for n in range(4)]
     with Proxy("--record-most", 10, earlier=earlier) as proxy, serving(greet) as port:
         for _ in range(8):
             proxy.ask(FOUR, port, ALL)
         is_kept = comes(lambda: sum(path.parent.name[:4] != "2001" for path in proxy.files()) == 8, SOON)
         must(is_kept and not (proxy.records / "2001-01-01").exists(), proxy.files())
+        for path in proxy.files()[1:]:
+            path.unlink()
+        for _ in range(9):
+            proxy.ask(FOUR, port, ALL)
+        must(comes(lambda: len(proxy.files()) == 10, SOON), proxy.files())
+
+
+@contextlib.contextmanager
+def full_disk(folder):
+    """A disk without room, mounted there; gives the file that fills it."""
+    if support.run("mount", "-t", "tmpfs", "-o", "size=8k", "small", folder).returncode:
+        raise NotTried("no tmpfs may be mounted")
+    try:
+        filler = pathlib.Path(folder, "filler")
+        with contextlib.suppress(OSError):
+            filler.write_bytes(bytes(1 << 16))
+        yield filler
+    finally:
+        support.run("umount", "-l", folder)
+
+
+def check_full_disk():
+    """Where nothing can be kept the log says so once, and sessions go on; once there is room, all is kept again."""
+    known = OPTIONS.folder / "known"
+    known.mkdir()
+    with Proxy("--history", known / "file") as proxy, serving(greet) as port, contextlib.ExitStack() as held:
+        fillers = [held.enter_context(full_disk(folder)) for folder in (known, proxy.records)]
+        for _ in range(3):
+            must(proxy.ask("four.test", port, ALL) == (0, b"hello\n"), proxy.said())
+            time.sleep(1.1)  # (the history is written once a second)
+        for what in ("records", "what is known of addresses"):
+            lines = re.findall(f"(?m)^he: cannot keep {what}: .+$", proxy.said())
+            must(len(lines) == 1, what, proxy.said())
+        for filler in fillers:
+            filler.unlink()
+        proxy.ask("four.test", port, ALL)
+        must(comes(lambda: proxy.files() and (known / "file").exists(), SOON), proxy.files())
 
 
 def check_pages():

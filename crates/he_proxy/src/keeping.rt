@@ -78,7 +78,7 @@ impl<'h, R: Clock + Files + RandomSource + AllocGlobal + Copy> Keeping<'h, R> {
         }
     }
 
-    // Keeps the record, where records are kept. A record that can't be written is missing; the session goes on.
+    // Keeps the record, where records are kept. Where it can't be written, the session goes on, and the log says why.
     fn keep(&self, recorded: &Timeline) -> Result<(), Memory> {
         let Some(records) = self.records else {
             return Ok(());
@@ -90,7 +90,7 @@ impl<'h, R: Clock + Files + RandomSource + AllocGlobal + Copy> Keeping<'h, R> {
             host: self.host.as_str(),
             port: self.port,
         };
-        let _ = records.keep(self.shared.rt, name, text.as_slice());
+        records.keep(self.shared.rt, name, text.as_slice());
         Ok(())
     }
 

@@ -4,6 +4,7 @@ ghost use Rattle.he_race.specs.Heard.{ips_of};
 
 use crate::record::write_file;
 use crate::stamp::second_now;
+use crate::trouble::Trouble;
 use he_addr::{Ip, Memory};
 use he_cache::{History, Seen, read_history, write_history};
 use he_host::kernel::{NO_SCOPE, ask_source};
@@ -27,8 +28,9 @@ pub struct KnownAddresses {
     alloc: Global,
     history: Cell<Option<History>>,
     path: Option<String>,
-    // The second of the last write of the file.
+    // The second of the last write of the file, by a clock that may be set back.
     written: Cell<u64>,
+    trouble: Trouble,
 }
 
 /// What is known at the start.
@@ -80,6 +82,7 @@ impl KnownAddresses {
             history: Cell::new(Some(history)),
             path,
             written: Cell::new(0),
+            trouble: Trouble::none(),
         }
     }
 
@@ -98,7 +101,7 @@ impl KnownAddresses {
     }
 
     /// Takes what was seen of the attempts of a race that has ended, of which the winner's connection came from the
-    /// source; and writes it to the file, at most once a second.
+    /// source; and writes it to the file, at most once a second. A write that fails is noted.
     pub fn learn<R: Files + RandomSource + Clock + AllocGlobal + Copy>(
         &self,
         rt: &R,
@@ -110,10 +113,15 @@ impl KnownAddresses {
         };
         let is_changed = learn_from(&mut history, transcript, source, now);
         self.history.set(Some(history));
-        if is_changed && self.path.is_some() && now > self.written.get() {
+        if is_changed && self.path.is_some() && now != self.written.get() {
             self.written.set(now);
-            let _ = self.write(rt);
+            self.trouble.note(&self.write(rt));
         }
+    }
+
+    /// Why the file can't be written, where that is not said yet.
+    pub fn fault(&self) -> Option<ErrorKind> {
+        self.trouble.take()
     }
 
     // Writes the file, where there is one.

@@ -64,6 +64,7 @@ pub mod sockets;
 pub mod source;
 mod stamp;
 pub mod state;
+mod trouble;
 
 pub use fault::ProxyFault;
 pub use proxy::serve;

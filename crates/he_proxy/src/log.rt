@@ -9,7 +9,7 @@ use he_print::write_string;
 use he_sessions::{SessionEnd, Winner};
 use std::alloc::Global;
 use std::cell::Cell;
-use std::io::Write;
+use std::io::{ErrorKind, Write};
 use std::time::Clock;
 
 /// Where the log's lines go. What can't be written is passed over.
@@ -52,6 +52,13 @@ impl<F: Write + Drop> Log<F> {
     pub fn say(&self, what: &str) {
         if let Ok(line) = format!(in self.alloc; "he: {what}\n") {
             self.write(line.as_bytes());
+        }
+    }
+
+    /// Says that something is not kept, and why.
+    pub fn tell_unkept(&self, what: &str, why: ErrorKind) {
+        if let Ok(what) = format!(in self.alloc; "cannot keep {what}: {why}") {
+            self.say(&what);
         }
     }
 

@@ -6,6 +6,7 @@ use crate::access::{Reach, ip_of, is_loopback};
 use crate::keeping::{Keeping, nameless_end};
 use crate::pages::{Asked, write_answer};
 use crate::race::LoopRace;
+use crate::record::Records;
 use crate::request::ProxyRequest;
 use crate::sockets::{Noted, SharedLoop, SocketRace, socket_race};
 use crate::source::Earlier;
@@ -180,5 +181,13 @@ where
             self.state.beginning.remove();
         }
         self.state.log.tell(self.shared.rt, end);
+        if let Some(fault) = self.state.records.as_ref().and_then(Records::fault) {
+            self.state.log.tell_unkept("records", fault);
+        }
+        if let Some(fault) = self.state.known.fault() {
+            self.state
+                .log
+                .tell_unkept("what is known of addresses", fault);
+        }
     }
 }

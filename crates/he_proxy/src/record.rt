@@ -1,5 +1,6 @@
 //! The files of the races' records.
 
+use crate::trouble::Trouble;
 use he_files::create_beside;
 use std::alloc::{AllocGlobal, Global};
 use std::cell::Cell;
@@ -25,6 +26,7 @@ pub struct Records {
     dir: String,
     most: u32,
     count: Cell<u32>,
+    trouble: Trouble,
 }
 
 /// A race's place among the records: when it began, and what was asked for.
@@ -49,26 +51,32 @@ impl Records {
         most: u32,
     ) -> io::Result<Records> {
         create_dir_all(rt, dir)?;
-        let mut count = 0u32;
-        for day in days_in(rt, alloc, dir)?.iter() {
-            let records = records_in(rt, alloc, day.as_str())?.len();
-            count = count.saturating_add(records.min(u32::MAX as usize) as u32);
-        }
         Ok(Records {
             alloc,
             dir: String::from_str(alloc, dir)?,
             most,
-            count: Cell::new(count),
+            count: Cell::new(count_in(rt, alloc, dir)?),
+            trouble: Trouble::none(),
         })
     }
 
     /// Keeps a record. The name is taken once all is written. Where there are more records then than are kept, the
-    /// oldest go, a tenth of them at once.
-    ///
-    /// # Errors
-    ///
-    /// Those of the system, and `InvalidInput` where the name has no time.
+    /// oldest go, a tenth of them at once. What fails is noted.
     pub fn keep<R: Files + RandomSource + AllocGlobal + Copy>(
+        &self,
+        rt: &R,
+        name: RecordName<'_>,
+        text: &[u8],
+    ) {
+        self.trouble.note(&self.write(rt, name, text));
+    }
+
+    /// Why a record can't be kept, where that is not said yet.
+    pub fn fault(&self) -> Option<ErrorKind> {
+        self.trouble.take()
+    }
+
+    fn write<R: Files + RandomSource + AllocGlobal + Copy>(
         &self,
         rt: &R,
         name: RecordName<'_>,
@@ -88,8 +96,12 @@ impl Records {
         self.make_room(rt)
     }
 
-    // Removes the oldest records, where there are too many.
+    // Removes the oldest records, where there are too many. They are counted again before that, since others may have
+    // removed some.
     fn make_room<R: Files + AllocGlobal + Copy>(&self, rt: &R) -> io::Result<()> {
+        if self.count.get() > self.most {
+            self.count.set(count_in(rt, self.alloc, self.dir.as_str())?);
+        }
         if self.count.get() <= self.most {
             return Ok(());
         }
@@ -159,6 +171,16 @@ pub(crate) fn write_file<R: Files + RandomSource + AllocGlobal>(
             Err(error)
         }
     }
+}
+
+// How many records there are.
+fn count_in<R: Files + AllocGlobal + Copy>(rt: &R, alloc: Global, dir: &str) -> io::Result<u32> {
+    let mut count = 0u32;
+    for day in days_in(rt, alloc, dir)?.iter() {
+        let records = records_in(rt, alloc, day.as_str())?.len();
+        count = count.saturating_add(records.min(u32::MAX as usize) as u32);
+    }
+    Ok(count)
 }
 
 // The directories of days, the oldest first.

@@ -2,10 +2,11 @@
 ghost use Rattle.std.specs.Prelude.{◌≡◌, IfOk};
 ghost use Rattle.futures.specs.Poll.{OnPending};
 ghost use Rattle.futures.specs.Task.{IsArmed, Keeps};
-ghost use Rattle.tokio.specs.Io.Moved.{OnReadyOk};
+ghost use Rattle.tokio.specs.Io.Moved.{IfReadyErr, OnReadyOk};
 
 use crate::fault::Traffic;
 use crate::way::{Way, WayFault};
+use futures::ready;
 use futures::task::{Context, Poll};
 use std::alloc::{AllocError, Global};
 use tokio::io::{AsyncRead, AsyncWrite};
@@ -29,10 +30,12 @@ pub struct Tunnel<A, B> {
     there: Way,
     // From the server to the client.
     back: Way,
+    // The connection that takes no more: what it gave before is still passed on.
+    broke: Option<Broke>,
 }
 
 impl<A: AsyncRead + AsyncWrite, B: AsyncRead + AsyncWrite> Tunnel<A, B> {
-    ghost use Rattle.he_relay.specs.Tunnels.{AreOver, IsBegun, MovesBoth};
+    ghost use Rattle.he_relay.specs.Tunnels.{AreOver, HasGivenAll, IsBegun, MovesBoth};
 
     /// A tunnel in which the server is written first what came early from the client.
     ///
@@ -52,11 +55,13 @@ impl<A: AsyncRead + AsyncWrite, B: AsyncRead + AsyncWrite> Tunnel<A, B> {
             server,
             there: Way::new(early)?,
             back: Way::new(Vec::new(alloc))?,
+            broke: None,
         })
     }
 
     /// Reads and writes until both ways would have to wait, but a few times at most, and then lets other tasks run.
-    /// Ready once both ways have ended.
+    /// Ready once both ways have ended. Where a connection takes no more, what it gave is passed on first, such as the
+    /// answer of a server that read no further (RFC 9110 section 9.3.6).
     ///
     /// # Errors
     ///
@@ -65,19 +70,40 @@ impl<A: AsyncRead + AsyncWrite, B: AsyncRead + AsyncWrite> Tunnel<A, B> {
     pub fn poll_tunnel(&mut self, cx: &mut Context<'_>) -> Poll<Result<(), Broke>>
         ensures moves { MovesBoth A.reads A.writes A.is_at_end B.reads B.writes B.is_at_end self.old self.new }
         ensures over { OnReadyOk result (AreOver self.new) }
+        ensures broke { IfReadyErr result (HasGivenAll A.AsyncRead.fails A.AsyncWrite.fails A.is_full
+            B.AsyncRead.fails B.AsyncWrite.fails B.is_full self.new) }
         ensures armed { OnPending result (IsArmed cx.new) }
         ensures kept { Keeps cx.old cx.new }
     {
+        match self.broke {
+            Some(Broke::Client) => {
+                let _ = ready!(self.there.poll_way(&mut self.client, &mut self.server, cx));
+                return Poll::Ready(Err(Broke::Client));
+            }
+            Some(Broke::Server) => {
+                let _ = ready!(self.back.poll_way(&mut self.server, &mut self.client, cx));
+                return Poll::Ready(Err(Broke::Server));
+            }
+            None => {}
+        }
         let there = self.there.poll_way(&mut self.client, &mut self.server, cx);
-        if let Poll::Ready(Err(fault)) = there {
-            return Poll::Ready(Err(side_of(fault, Broke::Client, Broke::Server)));
+        if let Poll::Ready(Err(WayFault::Reader)) = there {
+            return Poll::Ready(Err(Broke::Client));
         }
         let back = self.back.poll_way(&mut self.server, &mut self.client, cx);
         match (there, back) {
-            (_, Poll::Ready(Err(fault))) => {
-                Poll::Ready(Err(side_of(fault, Broke::Server, Broke::Client)))
+            (_, Poll::Ready(Err(WayFault::Reader))) => Poll::Ready(Err(Broke::Server)),
+            (Poll::Ready(Ok(())), Poll::Ready(Ok(()))) => Poll::Ready(Ok(())),
+            (Poll::Ready(Ok(())), Poll::Ready(Err(_))) => Poll::Ready(Err(Broke::Client)),
+            (Poll::Ready(Err(_)), Poll::Ready(_)) => Poll::Ready(Err(Broke::Server)),
+            (Poll::Ready(Err(_)), Poll::Pending) => {
+                self.broke = Some(Broke::Server);
+                Poll::Pending
             }
-            (Poll::Ready(_), Poll::Ready(Ok(()))) => Poll::Ready(Ok(())),
+            (Poll::Pending, Poll::Ready(Err(_))) => {
+                self.broke = Some(Broke::Client);
+                Poll::Pending
+            }
             _ => Poll::Pending,
         }
     }
@@ -90,12 +116,5 @@ impl<A: AsyncRead + AsyncWrite, B: AsyncRead + AsyncWrite> Tunnel<A, B> {
             sent: self.there.moved(),
             received: self.back.moved(),
         }
-    }
-}
-
-fn side_of(fault: WayFault, reader: Broke, writer: Broke) -> Broke {
-    match fault {
-        WayFault::Reader => reader,
-        WayFault::Writer => writer,
     }
 }
