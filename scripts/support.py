@@ -15,8 +15,10 @@ import pathlib
 import random
 import re
 import resource
+import select
 import shlex
 import shutil
+import signal
 import socket
 import struct
 import subprocess
@@ -152,6 +154,7 @@ def run_harness(doc, *harnesses):
     """Runs the parts of harnesses, or what the command line names of them, and tells of each its time and its counts,
     and at the end what failed. The last line counts all."""
     read_options(doc)
+    signal.signal(signal.SIGINT, signal.default_int_handler)  # (in the background a shell has it passed over)
     parts = {name: importlib.import_module(f"parts.{name}") for each in harnesses for name in PARTS[each].split()}
     checks = {name: checks_of(name, part) for name, part in parts.items()}
     for word in OPTIONS.part:
@@ -262,16 +265,14 @@ def has_six():
 
 
 @contextlib.contextmanager
-def silent(address, port=0, wait=ALONE):
-    """A listener that takes no connection: whoever connects then waits. Gives the listener, and a stack for what is
-    held as long."""
+def silent(address, port=0):
+    """A listener that takes no connection, since one stands in its queue, which has no room for another: whoever
+    connects then waits. Gives the listener, and a stack for what is held as long."""
     with contextlib.ExitStack() as held:
         listener = held.enter_context(listener_at(address, port, backlog=0))
-        with contextlib.suppress(TimeoutError):
-            while True:
-                connection = held.enter_context(socket.socket(family_of(address)))
-                connection.settimeout(wait)
-                connection.connect((address.replace("0.0.0.0", "127.0.0.1"), listener.getsockname()[1]))
+        to = address.replace("0.0.0.0", "127.0.0.1"), listener.getsockname()[1]
+        held.enter_context(socket.create_connection(to, TIMEOUT))
+        must(select.select([listener], [], [], TIMEOUT)[0], f"no connection comes to {address}")
         yield listener, held
 
 

@@ -22,7 +22,6 @@ HE = OPTIONS.program
 SETUP, ANYWHERE = "ip link set lo up", True
 LOOPBACK = "source 127.0.0.1/8 1\nroute 127.0.0.0/8 1\n"
 PREFIX = "fd5c:a1ab:1e::"
-FILL = 0.9  # seconds that a connect is waited for, before the system asks again
 MOST_WAITING_SECONDS = 0.020  # processor time of a race that waits for two seconds
 RUNS = 20  # races whose starts are looked at
 DELAY = 50  # milliseconds from one start to the next, there
@@ -119,7 +118,7 @@ def check_most():
     v6 = [f"{PREFIX}{last:x}" for last in range(1, 257)] if has_six() else []
     answers = f"aaaa 0 {' '.join(v6) or 'none'}\na 0 {' '.join(v4)}\n"
     text = race_text(f"set attempt 10\nset limit 15000\n{LOOPBACK}{answers}")
-    with silent("0.0.0.0", wait=FILL) as (listener, _):
+    with silent("0.0.0.0") as (listener, _):
         for descriptors, wanted in ((None, []), (100, ["too many open files"])):
             run = Run(text, listener.getsockname()[1], descriptors=descriptors)
             waited = [ip for _, ip, end in run.attempts if end == "cancelled"]
@@ -191,7 +190,7 @@ def check_told():
 def check_waiting():
     """A race that waits for two seconds, for answers or for a connection, takes next to no processor time."""
     one = race_text(f"set limit 2000\n{LOOPBACK}aaaa 0 none\na 0 127.0.0.1\n")
-    with silent("127.0.0.1", wait=FILL) as (listener, _):
+    with silent("127.0.0.1") as (listener, _):
         for text, wanted in (race_text("set limit 2000\n"), []), (one, ["cancelled"]):
             run = Run(text, listener.getsockname()[1])
             ends = [end for _, _, end in run.attempts]
@@ -234,7 +233,7 @@ def waiting_at(port):
 def racing_full(lines, address):
     """A race at a listener that takes a connection only when the system asks again, a second after the start, once its
     first connection is asked for: the running program, its output once it has ended, and what accepts for so long."""
-    with silent(address, wait=FILL) as (listener, held):
+    with silent(address) as (listener, held):
         port = listener.getsockname()[1]
         before = waiting_at(port)
         with racing(race_text(lines), port) as (running, output):
