@@ -36,10 +36,10 @@ ALONE = 0.1  # seconds in which this machine answers itself
 os.environ["PATH"] += ":/usr/sbin:/sbin"  # where dnsmasq, sshd and ip may be
 # The parts of each harness, scripts/parts/NAME.py, in their order.
 PARTS = {
-    "examples": "examples page documents documents_parallel manual installed architecture captures library fuzz",
-    "network": "hosts hosts_bytes live names names_files connect connect_relay proxy proxy_load proxy_names "
-               "proxy_programs",
-    "hostile": "hostile refused",
+    "examples": "examples lines page documents documents_parallel manual installed architecture captures library fuzz",
+    "network": "hosts hosts_bytes live names names_files connect connect_relay proxy proxy_clients proxy_log proxy_load "
+               "proxy_names proxy_strangers proxy_programs",
+    "hostile": "hostile refused faults",
 }
 
 # A harness, its parts and their checks
@@ -191,6 +191,12 @@ def limit(kind, most):
     return most and (lambda: resource.setrlimit(getattr(resource, f"RLIMIT_{kind}"), (most, most)))
 
 
+def first_of_all():
+    """What a run is to do before it begins that no other program is let before, where that may be."""
+    with contextlib.suppress(PermissionError):
+        os.sched_setscheduler(0, os.SCHED_FIFO, os.sched_param(30))
+
+
 def seconds_of_children():
     """The processor time of all programs that were run."""
     used = resource.getrusage(resource.RUSAGE_CHILDREN)
@@ -208,6 +214,11 @@ def replayed(record, command="replay"):
     done = run(OPTIONS.program, *command.split(), input=record)
     must(done.returncode == 0, f"he {command} of the record: {done.stderr!r}: {record!r}")
     return done.stdout
+
+
+# A line of a trace before the program's own work begins: a library is opened and its first bytes are read, or a
+# checked build looks at its process.
+STARTING = re.compile(r'\.so[".]|\\177ELF|"/proc/self/')
 
 
 class Run:
@@ -320,7 +331,9 @@ mount -t tmpfs tmpfs /run/he
 
 
 def in_thread(work, *given):
-    threading.Thread(target=work, args=given, daemon=True).start()
+    thread = threading.Thread(target=work, args=given, daemon=True)
+    thread.start()
+    return thread
 
 
 def accept_all(listener, serve):
@@ -334,7 +347,7 @@ def accept_all(listener, serve):
             while True:
                 in_thread(take, listener.accept()[0])
 
-    in_thread(accept)
+    return in_thread(accept)
 
 
 @contextlib.contextmanager
@@ -343,12 +356,13 @@ def serving(serve, address=FOUR, interface=0, port=0):
     alone; gives its port, at which the two addresses that are dead are silent."""
     listener = listener_at(address, port, backlog=1024, interface=interface)
     port = listener.getsockname()[1]
-    accept_all(listener, serve)
+    thread = accept_all(listener, serve)
     try:
         with silent(DEAD_SIX, port), silent(DEAD_FOUR, port):
             yield port
     finally:
         listener.shutdown(socket.SHUT_RDWR)
+        thread.join(10)
         listener.close()
 
 
@@ -504,13 +518,17 @@ class NameServer:
                 if tries_left == 1:
                     raise
         self.at = f"[{ip}]:{self.port}" if ":" in ip else f"{ip}:{self.port}"
-        accept_all(self.listener, self.serve_stream)
-        in_thread(self.serve_datagrams)
+        self.threads = [accept_all(self.listener, self.serve_stream), in_thread(self.serve_datagrams)]
 
     def __enter__(self):
         return self
 
     def __exit__(self, *_):
+        for sock in self.datagrams, self.listener:
+            with contextlib.suppress(OSError):
+                sock.shutdown(socket.SHUT_RDWR)
+        for thread in self.threads:
+            thread.join(10)
         self.datagrams.close()
         self.listener.close()
 
@@ -527,6 +545,8 @@ class NameServer:
         with contextlib.suppress(OSError):
             while True:
                 query, peer = self.datagrams.recvfrom(4096)
+                if peer is None:  # (the socket was shut down)
+                    return
                 self.seen.append((time.monotonic(), query, peer[1]))
                 self.take(query, peer)
 
@@ -553,9 +573,9 @@ class Zone(NameServer):
     """A name server at which each name has these addresses, for so many seconds, and for none under the label `none`;
     `lacks` is no name. The answer for AAAA may be late, and be refused by a code."""
 
-    def __init__(self, *ips, ttl=60, late=0, six_code=NOERROR):
+    def __init__(self, *ips, port=0, ttl=60, late=0, six_code=NOERROR):
         self.ips, self.ttl, self.late, self.six_code = ips or (SIX, FOUR), ttl, late, six_code
-        super().__init__(FOUR)
+        super().__init__(FOUR, port)
 
     def replies(self, query, _):
         label, kind = labels_of(query)[0], kind_of(query)

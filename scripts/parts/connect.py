@@ -1,7 +1,8 @@
 """Connects by a built program's `he connect`, in a network of its own, and looks at what comes of it: which address it
 takes and when, what it tells, its status and its record.
 
-needs: dnsmasq, to look names up there. With --full it makes 1,000 connections under faults.
+needs: dnsmasq, to look names up there; strace and valgrind, to count calls and instructions. With --full it makes 1,000
+connections under faults.
 """
 import contextlib
 import json
@@ -38,11 +39,12 @@ DOWN = "127.0.0.99:53"  # where no name server is
 class Run(support.Run):
     """A run of `he connect`, with its output and how long it took in seconds."""
 
-    def __init__(self, *words, given=b"", replays=True):
+    def __init__(self, *words, given=b"", replays=True, bound=None):
         with tempfile.TemporaryDirectory() as folder:
             record = pathlib.Path(folder, "record")
             began = time.monotonic()
-            done = support.run(HE, "connect", "--record", record, *words, input=given, timeout=TIMEOUT)
+            done = support.run(HE, "connect", "--record", record, *words, input=given, timeout=TIMEOUT,
+                               preexec_fn=bound)
             self.seconds = time.monotonic() - began
             text = record.read_text() if record.exists() else ""
         super().__init__(done, replayed(text) if replays else "", text)
@@ -88,7 +90,7 @@ def check_ports():
     if not os.path.exists("/etc/services"):
         raise NotTried("no /etc/services")
     words = dict.fromkeys(["0", "65536", "07007", "7007/tcp", "he_test", "he--test", "test-", "a-sixteen-letter", ""],
-                          "error: invalid value for PORT: .*")
+                          "he: invalid value for PORT: .*")
     words |= {word: f"he: no such service: {word}\n" for word in ("datagrams", "htps", "HE-TEST")}
     words |= dict.fromkeys([str(SERVICE_PORT), "he-test", "second-name-too", "other"], "")
     with serving(greet, port=SERVICE_PORT):
@@ -165,6 +167,64 @@ def made(lines, undone):
         support.run("sh", "-c", undone)
 
 
+REJECTED = "10.77.0.9"
+# A firewall of this machine's own, whose ICMP error comes while connect(2) runs.
+FIREWALL = f"""
+nft add table inet he
+nft 'add chain inet he out {{ type filter hook output priority 0; }}'
+nft add rule inet he out ip daddr {REJECTED} tcp dport 1-65535 reject
+nft add rule inet he out ip6 daddr {SIX} tcp dport 1-65535 reject
+"""
+MOST_REJECTED = 0.050  # seconds that an address may cost which is rejected, and of processor time
+MOST_WAITING = 0.020  # seconds of processor time of a race that waits for two seconds
+MOST_CALLS, MOST_INSTRUCTIONS = 60, 700_000  # of a connection to an address of this machine
+MEMORY = "mmap,munmap,mremap,mprotect,madvise,brk"
+MOST_QUICK = 0.03  # seconds from the start of the program to the end of a connection that waits for nothing
+
+
+def used_by(*words):
+    """A run, and its processor time in seconds."""
+    before = support.seconds_of_children()
+    run = Run("-z", *words, bound=support.first_of_all)
+    return run, support.seconds_of_children() - before
+
+
+def least_of(*words, ends, status):
+    """What a run takes at least of three with these ends of its attempts: the time and the processor time in seconds,
+    and the ticks from its first attempt to the failure of that and to the last attempt."""
+    found = []
+    for _ in range(3):
+        run, used = used_by(*words)
+        run.must([end for _, _, end in run.attempts] == ends, status)
+        begun, ended = map(int, re.search(r"attempt 0 (\d+) \S+ \w+ (\d+)\n", run.transcript).groups())
+        found.append((run.seconds, used, ended - begun, run.attempts[-1][0] - begun))
+    return map(min, zip(*found))
+
+
+@timed
+def check_rejected():
+    """An address that this machine's own firewall rejects fails at once, by the clock and by its record, and the next
+    starts at the floor."""
+    needs("nft")
+    with made(FIREWALL, "nft delete table inet he"), serving(greet) as port:
+        own, own_used, *_ = least_of(FOUR, port, ends=["won"], status=0)
+        for host, status, ends in [(REJECTED, 3, ["failed"]), (SIX, 3, ["failed"]),
+                                   ("both.test", 0, ["failed", "won"])]:
+            seconds, used, failed, last = least_of(host, port, ends=ends, status=status)
+            is_cheap = max(seconds - own, used - own_used) <= MOST_REJECTED
+            must(failed <= 2 and last <= 12 and is_cheap, f"{host}: failed after {failed} ticks, the last attempt after {last};",
+                 f"{1000 * (seconds - own):.0f} ms more, {1000 * (used - own_used):.1f} of the processor")
+
+
+@timed
+def check_waiting():
+    """A race that waits two seconds for a connection takes next to no processor time."""
+    with serving(greet) as port:
+        (_, short), (run, long) = (used_by("--timeout", ms, DEAD_FOUR, port) for ms in (100, 2100))
+        run.must(status=3)
+        must(long - short < MOST_WAITING, f"{(long - short) * 1000:.1f} ms in two seconds")
+
+
 ROUTER = """
 ip netns add router
 ip link add toward type veth peer name back netns router
@@ -226,10 +286,12 @@ ip link del wg
 @timed
 def check_policy_routing():
     """With rules as wg-quick makes them, and one for a single address, the lines of an address, and of each address of
-    a name, which come with it, have the source that the kernel takes; `he host` tells the table that it does not see.
+    a name, which come with it, have the source that the kernel takes, one of IPv4 with the length of its network where
+    there are two IPv4 addresses to compare; `he host` tells the table that it does not see.
     """
-    sources = {"198.51.100.9": "10.8.0.2/32", "192.168.77.9": "192.168.77.23/24", "203.0.113.9": "10.8.0.2/32",
-               "198.51.100.77": "192.168.77.23/24", FOUR: f"{FOUR}/8", SIX: f"{SIX}/64"}
+    wan, wg = "192.168.77.23/32", "10.8.0.2/32"
+    sources = {"198.51.100.9": wg, "192.168.77.9": wan, "203.0.113.9": wg, "198.51.100.77": wan, FOUR: f"{FOUR}/32",
+               SIX: f"{SIX}/64"}
 
     def tries(words, host, addresses, interfaces):
         run = Run("--timeout", 400, "-z", *words, host, 9)
@@ -245,6 +307,9 @@ def check_policy_routing():
         for six, four in [*((None, four) for four in list(sources)[:4]), (SIX, "198.51.100.77")]:
             with Zone(*filter(None, (six, four))) as names:
                 tries(["--resolver", names.at], "some.zone", [four, *([six] if six else [])], [2, 1])
+        with Zone("192.168.77.9", "198.51.100.77") as names:
+            two = Run("--timeout", 400, "-z", "--resolver", names.at, "two.zone", 9)
+            two.must("source 192.168.77.23/24 2" in two.lines(), two.status)
         told = support.run(HE, "host").stderr
         must("he: not seen: the IPv4 routes of table 51820, " in told, f"he host: {told!r}")
 
@@ -300,6 +365,71 @@ def check_unused_family():
     both.must(line not in both.told, won=FOUR)
     for run in (known, literal):
         run.must(won=FOUR)
+
+
+def check_no_network():
+    """Where the network of an address isn't reached, and this machine has no way for its family, a line says so."""
+    line = "he: this machine has no IPv4 address or route beyond its links\n"
+    with made(f"ip address del {WIDE_FOUR}/24 dev here", f"ip address add {WIDE_FOUR}/24 dev here"):
+        lost, refused = Run("198.51.100.7", 9), Run(FOUR, unused_port())
+    lost.must(re.search(rf" network unreachable after \d+ ms\n{line}$", lost.told), 3)
+    refused.must(line not in refused.told, 3)
+
+
+@timed
+def check_no_time():
+    """An address that came, and at which no attempt began before the timeout, is no address that did not come."""
+    with Zone(late=0.3) as names:
+        run = Run("--timeout", "30ms", "--resolver", names.at, "late.test", 9)
+    run.must(status=3, told="he: no connection to late.test port 9: no attempt began in 30 ms\n")
+
+
+def traced(*words, only="", inject=""):
+    """The calls that strace tells of a run of `he connect` that has this fault, the run's status, and what it told."""
+    needs("strace")
+    with tempfile.NamedTemporaryFile("r") as calls:
+        trace = ["strace", "-f", "-qq", "-o", calls.name, *only.split(), *(["-e", f"inject={inject}"] if inject else [])]
+        done = support.run(*trace, HE, "connect", *words, timeout=TIMEOUT)
+        return calls.read(), done.returncode, re.sub("(?m)^strace: .*\n", "", done.stderr)
+
+
+def check_few_calls():
+    """A connection to an address takes few system calls, but for those that get memory, after the program's start. Few
+    sockets are made before it: no length of a network is looked for."""
+    with serving(greet) as port:
+        calls, status, told = traced("-z", FOUR, port, only=f"-e trace=!{MEMORY}")
+    lines = calls.splitlines()
+    begins = max(place for place, line in enumerate(lines) if support.STARTING.search(line)) + 1
+    own = re.findall(r"(?m)^\d+ +(\w+)\(", "\n".join(lines[begins:]))
+    is_right = status == 0 and calls.count("SOCK_DGRAM") <= 2 and len(own) <= MOST_CALLS
+    must(is_right, f"status {status}, {told!r}, {len(own)} calls:", *own)
+
+
+def check_few_instructions():
+    """It takes few instructions, most of them to start the program and to read its words."""
+    needs("valgrind")
+    with serving(greet) as port:
+        counting = ["valgrind", "--tool=callgrind", "--callgrind-out-file=/dev/null"]
+        done = support.run(*counting, HE, "connect", "-z", FOUR, port)
+    count = re.search(r"Collected : (\d+)", done.stderr)
+    if done.returncode != 0 or not count:
+        raise NotTried("valgrind doesn't run this program")
+    print(f"    {count[1]} instructions")
+    must(int(count[1]) <= MOST_INSTRUCTIONS, count[1], "instructions")
+
+
+def check_unread():
+    """A file of this machine that is there and can't be read is told, and so is a fault of the sockets; nothing is told
+    of a file that isn't there."""
+    line = r"he: cannot read /proc/net/if_inet6: {}[^\n]*\n"
+    file = "-P /proc/net/if_inet6"
+    with serving(greet, SIX) as port:
+        for fault, wanted in [("EMFILE", line.format("Too many open files")), ("ENOENT", ""),
+                              ("EACCES", line.format("Permission denied"))]:
+            _, status, told = traced("-z", SIX, port, only=file, inject=f"openat:error={fault}")
+            must(status == 0 and re.fullmatch(wanted, told), fault, status, told)
+        _, status, told = traced("-z", SIX, port, inject="epoll_create1:error=EMFILE")
+        must((status, told) == (1, "he: too many open files\n"), status, told)
 
 
 def check_failed_family():
@@ -406,11 +536,16 @@ def check_full_disk():
 
 @timed
 def check_quick():
-    """A name of the file of hosts is connected to within milliseconds."""
+    """A name of the file of hosts is connected to within milliseconds, beside the start of the program."""
     with serving(greet) as port:
-        seconds = statistics.median(Run("-z", "four.test", port, replays=False).seconds for _ in range(20))
-    print(f"    {1000 * seconds:.1f} ms in all, with the start of the program")
-    must(seconds < 0.05, "more than 50 ms")
+        whole, start = [], []
+        for _ in range(20):
+            whole.append(Run("-z", "four.test", port, replays=False).seconds)
+            began = time.monotonic()
+            support.run(HE, "--version")
+            start.append(time.monotonic() - began)
+    print(f"    {1000 * min(whole):.1f} ms in all, {1000 * min(start):.1f} of them with the start of the program")
+    must(min(whole) - min(start) < MOST_QUICK, f"more than {1000 * MOST_QUICK:.0f} ms beside the start")
 
 
 def check_many():

@@ -61,22 +61,21 @@ LEFT = b"he: the remote has closed, and standard input was not read to its end\n
 
 @timed
 def check_remote_ends():
-    """It ends soon once the remote has closed, while standard input stays open: a fault at a pipe, of which more may
-    come, and none at a terminal."""
-    for stdin, wanted in [(subprocess.PIPE, (1, LEFT)), (os.openpty()[1], (0, b""))]:
+    """It ends soon once the remote has closed, while standard input stays open, at a pipe and at a terminal: nothing
+    that was to be sent is missed."""
+    for stdin in (subprocess.PIPE, os.openpty()[1]):
         with serving(greet) as port, started(FOUR, port, stdin=stdin) as running:
             began = time.monotonic()
             end, seconds, output = end_of(running), time.monotonic() - began, running.stdout.read()
-        is_right = (end, output) == (wanted, b"hello\n") and 0.4 < seconds < 2
-        must(is_right, end, "after", seconds, "s,", output)
+        must((end, output) == ((0, b""), b"hello\n") and 0.4 < seconds < 2, end, "after", seconds, "s,", output)
 
 
 @timed
 def check_pause():
-    """What comes after a pause, once the remote has ended its way, is waited for as long as --wait says; where it comes
-    too late, that is told."""
+    """What comes after a pause, once the remote has ended its way, is waited for as long as --wait says."""
     got = queue.SimpleQueue()
-    for words, pause, wanted in [([], 0.2, 0), ([], 1.0, 1), (["--wait", 2000], 1.0, 0), (["--wait", 50], 0.3, 1)]:
+    for words, pause, is_sent in [([], 0.2, True), ([], 1.0, False), (["--wait", 2000], 1.0, True),
+                                  (["--wait", 50], 0.3, False)]:
         with serving(lambda connection: read_on(connection, got)) as port, started(*words, FOUR, port) as running:
             running.stdin.write(b"one\n")
             running.stdin.flush()
@@ -85,8 +84,39 @@ def check_pause():
                 running.stdin.write(b"three\n")
                 running.stdin.close()
             end = end_of(running)
-        sent, ends = b"one\n" if wanted else b"one\nthree\n", (*end, got.get(timeout=TIMEOUT))
-        must(ends == (wanted, LEFT if wanted else b"", (digest_of(sent), len(sent))), words, pause, "s:", ends)
+        sent, ends = b"one\n" + b"three\n" * is_sent, (*end, got.get(timeout=TIMEOUT))
+        must(ends == (0, b"", (digest_of(sent), len(sent))), words, pause, "s:", ends)
+
+
+@timed
+def check_late_input():
+    """What comes after the end, while standard output still takes what the remote sent, is a fault; that nothing comes,
+    or the end, is none."""
+    given = random.Random(7).randbytes(220_000)  # (more than a pipe and one read of the connection)
+    for late, wanted in [(b"late\n", (1, LEFT)), (b"", (0, b""))]:
+        for is_closed in (False, True):
+            with serving(lambda connection: connection.sendall(given)) as port:
+                with started("--wait", 50, FOUR, port) as running:
+                    time.sleep(0.5)
+                    running.stdin.write(late)
+                    running.stdin.flush()
+                    if is_closed:
+                        running.stdin.close()
+                    output, end = running.stdout.read(), end_of(running)
+            must((end, output) == (wanted, given), late, is_closed, "ends", end, len(output), "bytes")
+
+
+@timed
+def check_times():
+    """A time with its unit, and without one; a bare --timeout below 100 is told to be milliseconds."""
+    slip = "he: --timeout 50 is 50 milliseconds; --timeout 50s is 50 seconds\n"
+    for word, seconds, told in [("50", 0.05, slip), ("50ms", 0.05, ""), ("500", 0.5, ""), ("1s", 1.0, "")]:
+        with serving(greet) as port:
+            began = time.monotonic()
+            done = support.run(HE, "connect", "-z", "--timeout", word, "dead.test", port, timeout=TIMEOUT)
+            took = time.monotonic() - began
+        is_told = done.stderr.startswith(f"{told}he: no connection to dead.test port {port}: ")
+        must(done.returncode == 3 and is_told and seconds <= took < seconds + 1, word, took, "s,", done)
 
 
 @timed

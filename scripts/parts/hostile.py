@@ -11,7 +11,9 @@ import os
 import pathlib
 import re
 import resource
+import socket
 import subprocess
+import tempfile
 import threading
 
 import support
@@ -58,8 +60,8 @@ def he(command, *words, **more):
         return subprocess.run([HE, *command.split(), *words], **pipes)
 
 
-def closing(descriptor):
-    return {"preexec_fn": lambda: os.close(descriptor)}
+def closing(*descriptors):
+    return {"preexec_fn": lambda: [os.close(descriptor) for descriptor in descriptors]}
 
 
 def limited(kind, most):
@@ -100,6 +102,52 @@ def check_streams():
                 ends(f"{command}, {what}", he(command, **more), 1, fault, output)
 
 
+def has_race(file):
+    """Whether a file has one race that is sound."""
+    return he("check", file).stdout.startswith(b"1 race, ")
+
+
+def proxied(port, folder, closed):
+    """Whether a proxy without these streams keeps the record of a session, and what is known of its address."""
+    at, history = support.unused_port(), folder / "history"
+    words = [HE, "proxy", "--listen", f"127.0.0.1:{at}", "--record", folder, "--history", history]
+    with subprocess.Popen(words, stderr=subprocess.DEVNULL, **closing(*closed)) as proxy:
+        try:
+            if not support.is_up(proxy, lambda: support.is_listening(at)):
+                return False
+            with socket.create_connection(("127.0.0.1", at), support.TIMEOUT) as client:
+                client.sendall(b"CONNECT 127.0.0.1:%d HTTP/1.1\r\n\r\n" % port)
+                answered = client.recv(12) == b"HTTP/1.1 200"
+            is_kept = support.comes(lambda: history.exists() and len(list(folder.rglob("*.timeline"))) == 1, 5)
+            is_known = is_kept and re.fullmatch(r"127.0.0.1 127.0.0.1 \d+ \d+\n", history.read_text())
+            return bool(answered and is_known and all(map(has_race, folder.rglob("*.timeline"))))
+        finally:
+            proxy.kill()
+
+
+def check_closed_streams():
+    """A file that a command makes has its own bytes alone, whichever standard streams are closed."""
+    record, page, text = OPTIONS.folder / "closed.record", OPTIONS.folder / "closed.html", OPTIONS.folder / "closed.text"
+    text.write_text("race 1\nsource 127.0.0.1/8 1\nroute 127.0.0.0/8 1\naaaa 0 none\na 0 127.0.0.1\nend\n")
+    he("draw --html", page, FILE)
+    whole = page.read_bytes()
+    with support.listener_at("127.0.0.1") as listener:
+        port = listener.getsockname()[1]
+        support.accept_all(listener, lambda connection: connection.recv(1))
+        for closed in ((0,), (1,), (2,), (0, 1), (0, 2), (1, 2), (0, 1, 2)):
+            unwritten = int(1 in closed)
+            for words, file, status in ((f"connect -z -v 127.0.0.1 {port} --record", record, 0),
+                                        (f"live -v --port {port} {text} --record", record, unwritten),
+                                        (f"draw -v {FILE} --html", page, 0)):
+                file.unlink(missing_ok=True)
+                ran = he(words, file, stdin=subprocess.DEVNULL, **closing(*closed))
+                is_right = has_race(file) if file == record else file.read_bytes() == whole
+                tell(is_right and ran.returncode == status, f"{words}, without {closed}: status {ran.returncode}")
+            with tempfile.TemporaryDirectory() as folder:
+                is_right = proxied(port, pathlib.Path(folder), closed)
+                tell(is_right, f"proxy --record --history, without {closed}")
+
+
 def check_pages():
     """A page: its file is full, or can't be made; the input breaks off, and the old page stays; standard output is
     closed, which it does not need; it goes to standard output; and a text that is named in its place stays as it
@@ -124,7 +172,7 @@ def check_pages():
     text.write_bytes(RACE)
     told = "the name of a page ends in `.html`, or is `-` for standard output"
     ends("draw --html, a text in the place of a page", he("draw --html", text), 2,
-         f"error: invalid value for '--html <FILE>': {told}", files={text: RACE}, is_first=True)
+         f"he: invalid value for '--html <FILE>': {told}", files={text: RACE}, is_first=True)
 
 
 def check_full_disk():
@@ -161,7 +209,7 @@ def check_names():
     ran = he("replay", f"{control}.no")
     ends("replay, such a name without a file", ran, 1, f"he: {shown}.no: {NO_FILE}")
     ends("replay, a word that controls a terminal", he("replay", "--\033[2J"), 2,
-         "error: unexpected argument '--\\x1b[2J' found", is_first=True)
+         "he: unexpected argument '--\\x1b[2J' found", is_first=True)
 
 
 def check_faults():

@@ -7,6 +7,7 @@ needs: ip (iproute2), and root for namespaces
 import contextlib
 import json
 import os
+import random
 import re
 import time
 
@@ -15,6 +16,9 @@ from host_lines import machine_lines, recorded_lines
 from support import OPTIONS, ROOT, NotTried, needs, run, tell
 
 HE = OPTIONS.program
+DRAWN, SEED = 200, 71  # drawn races
+SIXES = ["2001:db8::1", "2001:db8:1::1", "2001:db8:1::2", "fd00::1", "fd00:1::1", "2002:c000:201::1", "2001::1", "::1"]
+FOURS = ["10.0.0.1", "10.0.1.1", "192.0.2.1", "192.0.2.130", "198.51.100.7", "127.0.0.1", "169.254.0.9"]
 SPACE = f"hosts-{os.getpid()}"
 INSIDE = ["ip", "netns", "exec", SPACE]
 LINKS = ["link add one type veth peer name one-end", "link add two type veth peer name two-end",
@@ -173,6 +177,26 @@ def check_race():
         lines = table + run(HE, "host").stdout + run(HE, "names", "localhost").stdout
         found = run(HE, "order", input=f"race 1\n{lines}end\n").stdout
         tell(re.search("(?m)^[01] 127.0.0.1 from 127.0.0.1$", found), f"a race of he host and he names: {found}")
+
+
+def check_one_four():
+    """With one IPv4 destination an order does not depend on the length of its source's network, which is not asked."""
+    def orders(length):
+        drawn, races = random.Random(SEED), []
+        for _ in range(DRAWN):
+            sixes = drawn.sample(SIXES, drawn.randint(0, len(SIXES)))
+            four, from_four = drawn.sample(FOURS, 2)
+            lines = [f"source {ip}/{drawn.choice([48, 64, 128])} {place}\n"
+                     for ip, place in zip(drawn.sample(SIXES, 3), (1, 3, 5))]
+            lines += [f"source {from_four}/{length} 2\n", f"route {four}/32 2\n"]
+            lines += [f"route {six}/128 {drawn.choice([1, 3, 5])}\n" for six in sixes]
+            races.append(race("".join(lines), " ".join(sixes) or "none", four))
+        return run(HE, "order", input="".join(races)).stdout
+
+    wanted = orders(32)
+    tell(wanted.count(" from ") >= DRAWN, f"drawn orders: {wanted[:200]}")
+    for length in (8, 16, 24, 30):
+        tell(orders(length) == wanted, f"an order of one IPv4 address by a network of {length} bits")
 
 
 def check_policy_routing():

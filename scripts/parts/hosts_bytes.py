@@ -32,7 +32,7 @@ LONGEST = 600  # seconds of a run by the clock, on a machine with other work
 MOST_MEMORY = 64 * 1024  # KiB, of its addresses
 MOST_BYTES = 400_000  # of a file
 FAULT = b"he: cannot read /proc/net\n"
-REMARK = re.compile(rb"he: (?:left out|a guess): [^\n]*\n")
+REMARK = re.compile(rb"he: (?:left out|a guess|cannot read /sys/class/net/[^\n]*): [^\n]*\n")
 ODD = [b"", b"0", b"f", b"ffffffff", b"100000000", b"00000000", b"80200001", b"00200200", b"g", b"-1", b"0x1003", b"*",
        b"lo", b"eth0", b"f" * 32, b"0" * 33, b"81", b"80", b"ff", b"65536", b"18446744073709551615",
        b"18446744073709551616", b"Local:", b"Main:", b"Id", b"|--", b"/32", b"host", b"LOCAL", b"192.0.2.300",

@@ -23,6 +23,8 @@ SETUP, ANYWHERE = "ip link set lo up", True
 LOOPBACK = "source 127.0.0.1/8 1\nroute 127.0.0.0/8 1\n"
 PREFIX = "fd5c:a1ab:1e::"
 MOST_WAITING_SECONDS = 0.020  # processor time of a race that waits for two seconds
+THIRTY_LIMIT = 600  # milliseconds
+MOST_BEHIND = 2.0  # milliseconds that the wire may be behind the record, after however many attempts
 RUNS = 20  # races whose starts are looked at
 DELAY = 50  # milliseconds from one start to the next, there
 MOST_EARLY, MOST_LATE = 1.0, 5.0  # milliseconds, of each start and of the middle one
@@ -65,11 +67,11 @@ def listening(addresses):
 
 
 @contextmanager
-def racing(text, port):
-    """A race under way, and an empty list; at the end the list has its output."""
+def racing(text, port, bound=None):
+    """A race under way, which begins by what is given, and an empty list; at the end the list has its output."""
     output = []
     pipes = {"stdin": subprocess.PIPE, "stdout": subprocess.PIPE, "text": True}
-    with subprocess.Popen([HE, "live", "--port", str(port)], **pipes) as running:
+    with subprocess.Popen([HE, "live", "--port", str(port)], preexec_fn=bound, **pipes) as running:
         running.stdin.write(text)
         running.stdin.close()
         yield running, output
@@ -150,6 +152,19 @@ def check_known():
     run.must(came == [0, 0, 1] and run.won == "127.0.0.3" and known in run.record, came, run.record)
 
 
+# A run with descriptors from 10 up to so many alone.
+FEW = 'exec 3<&0 4<&0 5<&0 6<&0 7<&0 8<&0 9<&0; ulimit -n "$0"; exec "$@"'
+
+
+def check_no_descriptor():
+    """Where the event loop gets no descriptor, the message is that too many files are open."""
+    text, told = race_text(f"{LOOPBACK}aaaa 0 none\na 0 127.0.0.1\n"), []
+    for most in range(12, 20):
+        done = support.run("sh", "-c", FEW, most, HE, "live", "--port", unused_port(), input=text)
+        told += [done.stderr] * (done.returncode == 1)
+    must(told and set(told) == {"he: too many open files\n"}, told)
+
+
 def check_ipv6():
     """The third of four IPv6 addresses listens: it alone is connected to, from the host's source."""
     if not OPTIONS.inside or not has_six():
@@ -189,12 +204,13 @@ def check_told():
 @timed
 def check_waiting():
     """A race that waits for two seconds, for answers or for a connection, takes next to no processor time."""
-    one = race_text(f"set limit 2000\n{LOOPBACK}aaaa 0 none\na 0 127.0.0.1\n")
+    one = f"{LOOPBACK}aaaa 0 none\na 0 127.0.0.1\n"
     with silent("127.0.0.1") as (listener, _):
-        for text, wanted in (race_text("set limit 2000\n"), []), (one, ["cancelled"]):
-            run = Run(text, listener.getsockname()[1])
-            ends = [end for _, _, end in run.attempts]
-            run.must(ends == wanted and run.seconds < MOST_WAITING_SECONDS, f"{run.seconds * 1000:.1f} ms")
+        for lines, wanted in ("", []), (one, ["cancelled"]):
+            short, run = (Run(race_text(f"set limit {limit}\n{lines}"), listener.getsockname()[1])
+                          for limit in (100, 2100))
+            ends, used = [end for _, _, end in run.attempts], run.seconds - short.seconds
+            run.must(ends == wanted and used < MOST_WAITING_SECONDS, f"{used * 1000:.1f} ms in two seconds")
 
 
 def accept_for(listener, seconds, held):
@@ -216,7 +232,7 @@ def check_files():
         for words, given, status, told in [
             ([day], "", 0, ""), ([day], "no race\n", 0, ""), (["-"], text, 0, ""), ([], text, 0, ""),
             ([wrong], text, 1, f"he: {wrong}: line 2: range\n"), ([none], text, 1, f"he: {none}: "),
-            ([day, day], "", 2, "error: unexpected argument "),
+            ([day, day], "", 2, "he: unexpected argument "),
         ]:
             run = Run(given, port, "--must-connect", *words)
             is_right = run.won == "127.0.0.1" and run.replays if status == 0 else not run.transcript
@@ -280,6 +296,15 @@ def syns(sniffer, port, count):
     return found
 
 
+@contextmanager
+def sniffing():
+    """A socket that sees each packet of loopback, with its time."""
+    with socket.socket(socket.AF_PACKET, socket.SOCK_DGRAM, socket.htons(IPV4)) as sniffer:
+        sniffer.bind(("lo", 0))
+        sniffer.setsockopt(socket.SOL_SOCKET, TIMESTAMPS, 1)
+        yield sniffer
+
+
 @timed
 def check_times():
     """Five attempts start when they are due, and are seen on the wire when their record has them: none is earlier than
@@ -287,9 +312,7 @@ def check_times():
     addresses = [f"127.0.0.{last}" for last in range(2, 7)]
     text = race_text(f"set attempt {DELAY}\n{LOOPBACK}aaaa 0 none\na 0 {' '.join(addresses)}\n")
     early, late, behind = [], [], []
-    with socket.socket(socket.AF_PACKET, socket.SOCK_DGRAM, socket.htons(IPV4)) as sniffer:
-        sniffer.bind(("lo", 0))
-        sniffer.setsockopt(socket.SOL_SOCKET, TIMESTAMPS, 1)
+    with sniffing() as sniffer:
         for _ in range(RUNS):
             port = unused_port()
             began = time.time()
@@ -306,3 +329,26 @@ def check_times():
           f"{middle:.2f} ms after its tick")
     is_right = -earliest <= MOST_EARLY and middle <= MOST_LATE and 0 <= min(late) and tick <= MOST_LATE
     must(is_right, "too early or too late: gaps from", min(late), "ms")
+
+
+@timed
+def check_thirty():
+    """Thirty silent addresses, ten milliseconds apart: the last attempt is on the wire at its tick, and the race ends
+    when its record says so. Where no other program is let before it, there is no pause."""
+    addresses = [f"127.0.0.{last}" for last in range(2, 32)]
+    text = race_text(f"set attempt 10\nset limit {THIRTY_LIMIT}\n{LOOPBACK}aaaa 0 none\na 0 {' '.join(addresses)}\n")
+    behind, ended, pauses = [], [], []
+    with silent("0.0.0.0") as (listener, _), sniffing() as sniffer:
+        port = listener.getsockname()[1]
+        for _ in range(5):
+            with racing(text, port, support.first_of_all) as (_, output):
+                seen = syns(sniffer, port, len(addresses))
+            over, starts = time.time(), {ip: start for start, ip, _ in support.attempts_of(output[0])}
+            must(sorted(seen) == sorted(starts) == sorted(addresses), starts, "seen", sorted(seen))
+            first, last = addresses[0], addresses[-1]
+            behind.append(1000 * (seen[last] - seen[first]) - starts[last] + starts[first])
+            ended.append(1000 * (over - seen[first]) + starts[first] - THIRTY_LIMIT)
+            pauses.append(output[0].count("\npause "))
+    print(f"    the thirtieth {statistics.median(behind):.2f} ms behind its record, the end {min(ended):.1f}")
+    is_right = -MOST_BEHIND <= min(behind) and max(behind) <= MOST_BEHIND and min(ended) <= 2 * MOST_LATE
+    must(is_right and 0 in pauses, "behind", behind, "ended", ended, "pauses", pauses)

@@ -1,7 +1,7 @@
 """Has a built program find names of a name server on this machine: a fake one, which answers also late, cut off, not
 at all, or with what a stranger might send; and dnsmasq, with drawn names and dig as a second opinion.
 
-needs: dnspython for mutated messages, dnsmasq and dig
+needs: dnspython for mutated messages, dnsmasq and dig. With --full it makes 20,000 look-ups, none of which may be late.
 """
 import contextlib
 import json
@@ -21,11 +21,16 @@ SERVER, OTHER, DOWN = "127.0.0.77", "127.0.0.78", "127.0.0.79"
 LATE = 0.3  # seconds by which an AAAA answer is late
 SLOW = 0.4  # seconds after which a slow server answers
 NOISE = 120  # milliseconds by which a busy machine may be late
+AGAIN = 1_000  # milliseconds after which a query is sent again
 DEBIAN = "/usr/lib/python3/dist-packages"  # where Debian has dnspython, also for another python3 than its own
 MUTANTS, MUTANT_SEED = 4_000 if OPTIONS.full else 400, 61  # drawn messages
+STEADY, MOST_STEADY = (20_000, 50) if OPTIONS.full else (200, 100)  # look-ups, and milliseconds of the slowest
 V6, V4 = "2001:db8::1", "192.0.2.1"
 MANY = [f"192.0.2.{n}" for n in range(1, 41)]
+HUNDREDS = [f"198.18.{n // 250}.{n % 250}" for n in range(300)]
 DRAWN, ZONE_SEED = 100, 41  # names of the drawn zone
+# Of names of which a server says for one family that there is none: those of the other family.
+DENIED = [("denies", [], [V4]), ("denies-early", [], [V4]), ("denies-four", [V6], [])]
 
 
 def replies(what, query, stream):
@@ -34,14 +39,16 @@ def replies(what, query, stream):
     ip, room = data_of(V6 if kind == AAAA else V4), 65_535 - len(message(query)) - 12
     found = addresses(kind, V6, V4)
     good, cut_off = message(query, found), message(query, truncated=True)
+    absent, is_plain = message(query, code=NXDOMAIN), len(query) == 12 + len(question_of(query))
     strange = message(query, addresses(kind, "2001:db8::bad", "192.0.2.66"), ident=bytes(b ^ 1 for b in query[:2]))
     itself = b"\xc0" + bytes([12 + len(question_of(query))])
     single = {
-        "absent": message(query, code=NXDOMAIN), "nodata": message(query), "lame": message(query, flags=0x8100),
+        "absent": absent, "nodata": message(query), "lame": message(query, flags=0x8100),
         "servfail": message(query, code=SERVFAIL), "refused": message(query, code=REFUSED),
         "bare": message(query, code=REFUSED, question=b""), "notimp": message(query, code=NOTIMP),
         "formerr": message(query, code=FORMERR, question=b""),
-        "old": good if len(query) == 12 + len(question_of(query)) else message(query, code=FORMERR, question=b""),
+        "old": good if is_plain else message(query, code=FORMERR, question=b""),
+        "older": good if is_plain else message(query, code=NOTIMP),
         "garbage": good[:-1], "short": message(query)[:11], "counts": message(query, found, count=40_000),
         "loop": message(query, [record(itself, kind, ip)]),
         "long": message(query, [record((b"\x3f" + b"x" * 63) * 4 + b"\x2b" + b"x" * 43 + b"\0", kind, b"\0" * 4)]),
@@ -52,10 +59,15 @@ def replies(what, query, stream):
         "other-id": strange,
         "other-question": message(query, found, question=wire("evil.test") + question_of(query)[-4:]),
         "many": message(query, addresses(kind, V6, *MANY)) if stream else cut_off,
-        "cut-off": good if stream else cut_off,
+        "hundreds": message(query, addresses(kind, V6, *HUNDREDS)) if stream else cut_off,
+        "cut-off": good if stream else cut_off, "zero": message(query, addresses(kind, "::", "0.0.0.0")),
     }
     several = {
         "late": [(LATE if kind == AAAA else 0, good)], "slow": [(SLOW, good)], "dead": [],
+        "denies": [(0, absent)] if kind == AAAA else [(0.001, good)], "deaf": [(0, good)] if is_plain else [],
+        "denies-early": [(0, absent)] if kind == AAAA else [(0.02, good)],
+        "denies-four": [(0, absent)] if kind == A else [(0.02, good)],
+        "cut-late": [(LATE, cut_off)] if kind == AAAA else [(0, good)],
         "half": [(0, good)] if kind == A else [], "strange": [(0, strange), (0, b"?"), (0, good)],
         "cut-off-strange": [(0, strange), (0, good)] if stream else [(0, cut_off)],
     }
@@ -149,6 +161,7 @@ def check_server():
         look_up("both.test", *words)
     seen = {"ids": {query[:2] for _, query, _ in server.seen}, "ports": {port for *_, port in server.seen}}
     tell(all(len(each) > 8 for each in seen.values()), "ids and ports differ", seen)
+    finds("zero.test", ["::1"], ["127.0.0.1"], *words)
     for host in ("BOTH.Test.", "ends.test"):
         finds(host, [V6], [V4], *words)
     finds("late.test", [V6], [V4], *words, ticks=lambda v6, v4: v4 < 200 and 300 <= v6 < 600)
@@ -162,18 +175,73 @@ def check_server():
         finds(host, v6, v4, *words)
     lacks("absent.test", "he: no such name\n", *words)
     lacks("nodata.test", "he: the name has no address\n", *words)
-    for label in ("servfail", "refused", "loop", "long", "counts", "cnames"):
+    for label in ("servfail", "refused", "loop", "long", "counts"):
         lacks(f"{label}.test", "he: .*server.*\n", *words)
+    aliases = "answered more than 16 aliases in a row, as in a loop of them"
+    lacks("cnames.test", f"he: name server {server.at}: {aliases}\n", *words)
     for host in ("a..b", "x" * 64 + ".test"):
         lacks(host, "he: not a host name: .*\n", *words)
-    lacks("", "error: .*|he: not a host name.*", *words)
+    lacks("", "he: not a host name.*", *words)
     down = f"{DOWN}:{server.port}"
     lacks("both.test", f"he: name server {down}: cannot be reached\n", "--resolver", down)
     for resolver in ("nonsense", "192.0.2.1:0"):
-        lacks("both.test", "error: .*", "--resolver", resolver, status=2)
+        lacks("both.test", "he: .*", "--resolver", resolver, status=2)
     finds("localhost", ["::1"], ["127.0.0.1"], "--resolver", "system")
     with contextlib.suppress(OSError):
         finds("both.test", [V6], [V4], "--resolver", Server("::1").at)
+
+
+def check_denied():
+    """That there is no such name is an answer for the type that was asked for alone (RFC 4074 section 4.2)."""
+    server = Server(SERVER)
+    for host, v6, v4 in DENIED[:1] * 10 + DENIED:
+        finds(f"{host}.test", v6, v4, "--resolver", server.at, ticks=lambda *ticks: max(ticks) < AGAIN)
+
+
+@support.timed
+def check_steady():
+    """Of many look-ups none is late."""
+    server, slowest = Server(SERVER), 0
+    for _ in range(STEADY):
+        done = support.run(OPTIONS.program, "names", "--resolver", server.at, "both.test", timeout=support.TIMEOUT,
+                           preexec_fn=support.first_of_all)
+        found = re.fullmatch(answers_of([V6], [V4]), done.stdout)
+        must(found and done.returncode == 0, done.returncode, done.stdout, done.stderr)
+        slowest = max(slowest, *map(int, found.groups()))
+    print(f"    {STEADY} look-ups, the slowest {slowest} ms")
+    must(slowest <= MOST_STEADY, f"a look-up of {slowest} ms")
+
+
+def look_up_with_fault(fault, *words):
+    """A look-up in which system calls fail, by strace: `CALL:error=FAULT:when=N`."""
+    support.needs("strace")
+    tracing = ["strace", "-f", "-qq", "-o", "/dev/null", "-e", f"inject={fault}"]
+    return support.run(*tracing, OPTIONS.program, "names", *words, timeout=support.TIMEOUT)
+
+
+def check_unsent():
+    """A datagram that can't be sent is as one that is lost, and only a server to which there is no way fails."""
+    server = Server(SERVER)
+    words = ("both.test", "--resolver", server.at)
+    for fault in ("EPERM", "ENOBUFS", "EAGAIN", "ENOMEM", "EINTR"):
+        done = look_up_with_fault(f"sendto:error={fault}:when=1", *words)
+        found = re.fullmatch(answers_of([V6], [V4]), done.stdout)
+        late = found and int(found[1]) - int(found[2])
+        least, most = (-AGAIN / 2, AGAIN / 2) if fault == "EINTR" else (AGAIN - NOISE, 2 * AGAIN - NOISE)
+        tell(found and done.returncode == 0 and least <= late < most, f"{fault} of sendto", done.stdout, done.stderr)
+    for fault in ("ENETUNREACH", "EHOSTUNREACH", "ECONNREFUSED"):
+        done = look_up_with_fault(f"sendto:error={fault}:when=1", *words)
+        wanted = f"he: AAAA: name server {server.at}: cannot be reached: both.test\n"
+        tell(done.returncode == 1 and done.stderr == wanted, f"{fault} of sendto", done.stdout, done.stderr)
+
+
+def check_descriptors():
+    """That no descriptor is left is said as such, over UDP and over TCP."""
+    server = Server(SERVER)
+    for host, nth, told in (("both.test", 1, "too many open files"),
+                            ("cut-late.test", 3, "AAAA: too many open files: cut-late.test")):
+        done = look_up_with_fault(f"socket:error=EMFILE:when={nth}+", host, "--resolver", server.at)
+        tell(done.returncode == 1 and done.stderr == f"he: {told}\n", host, done.stdout, done.stderr)
 
 
 def base_message(draw, query):

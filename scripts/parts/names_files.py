@@ -3,26 +3,32 @@ which names, in which order and how soon; beside the system's getaddrinfo.
 """
 import functools
 import itertools
+import os
 import pathlib
 import re
 import socket
 import sys
+import tempfile
+import time
 
 import support
-from parts.names import NOISE, SLOW, V4, V6, Server, finds, lacks, look_up
-from support import AAAA, OPTIONS, file_of_etc, kind_of, must, run, tell, timed
+from parts.names import (AGAIN, DENIED, NOISE, SLOW, V4, V6, Server, answers_of, finds, lacks, look_up,
+                         look_up_with_fault)
+from support import A, AAAA, OPTIONS, file_of_etc, kind_of, must, run, tell, timed
 
 HOSTS_FILE = (f"# a comment\n{V4} one.example One-Alias # two.example\n::5\ttwo.example\n192.0.2.2 two.example\n"
-              "192.0.2.2 TWO.example\nnonsense three.example\n")
+              "192.0.2.2 TWO.example\nnonsense three.example\n0.0.0.0 zero.example\n:: zero.example\n"
+              f"{V4} here.localhost localhost\n")
 SETUP = support.NETWORK + file_of_etc("hosts", HOSTS_FILE) + file_of_etc("resolv.conf", "") + """
 test -e /etc/resolv.conf
 ip address add fe80::77/64 dev here nodad
 """
 SETTINGS = pathlib.Path("/run/he/resolv.conf")
-ALONE, AGAIN = 250, 1_000  # milliseconds: a server is waited for alone, a query is sent again
+ALONE = 250  # milliseconds: a server is waited for alone
 # Of the loop that looks for a lost wake-up: the look-ups, and the milliseconds that one may take.
 LOOKUPS, LONGEST = (20_000, 50) if OPTIONS.full else (500, ALONE - 50)
 SEARCH = "domain no.example\nsearch other.x test\n"
+MOST_SECONDS = 0.5  # for a look-up in a file of hosts of 150,000 lines, on a machine that does other work too
 
 # What people write for a host: the addresses that are found or the line that is told, and the names of which a name
 # server is asked, with `search a.test`. The names are worked out by hand, of the RFCs that forbid to ask.
@@ -34,6 +40,7 @@ HOSTS = (
     (["fe80::1%lo", "[fe80::1%3]"], (["fe80::1"], []), []),
     (["::ffff:198.51.100.1"], ([], ["198.51.100.1"]), []),
     (["localhost", "www.LocalHost."], (["::1"], ["127.0.0.1"]), []),
+    (["here.localhost", "HERE.LocalHost"], ([], [V4]), []),
     (["fe80::1"], "a link-local address needs its interface: fe80::1%eth0", []),
     (["2001:db8::1%lo"], "2001:db8::1 is not link-local and has no interface: write it without '%'", []),
     (["fe80::1%a/b"], "not an interface after '%'", []),
@@ -42,6 +49,7 @@ HOSTS = (
     (["192.0.2.256"], "not a host name: it ends in a number", []),
     (["x.onion"], "names in .onion are reached through Tor alone", []),
     (["x.invalid"], "no name in .invalid exists", []),
+    (["both.corp.local", "both.CORP.Local."], ([V6], [V4]), ["both.corp.local"]),
     (["x.local"], "names in .local are not asked of name servers: try --resolver system", []),
     (["http://x/", "x:80"], "not a host name: ':'; write HOST and PORT apart", []),
     (["u@x"], "not a host name: '@'; write HOST and PORT apart", []),
@@ -52,12 +60,13 @@ HOSTS = (
 # order.
 SERVERS = {
     (0, 0): ["good", "down good", "lame good", "servfail good", "refused good", "bare good", "notimp good",
-             "formerr good", "garbage good", "servfail refused good", "old", "cut-off", "cut-off-strange", "strange"],
-    (ALONE, 270 - NOISE): ["dead good"],
+             "formerr good", "garbage good", "servfail refused good", "old", "older", "cut-off", "cut-off-strange",
+             "strange"],
+    (ALONE, 320 - NOISE): ["dead good"],
     (ALONE, ALONE): ["slow good", "servfail dead good", "other-id good"],
     (2 * ALONE, 2 * ALONE): ["dead dead good"],
     (1_000 * SLOW, 1_000 * SLOW): ["slow dead", "slow dead dead"],
-    (AGAIN, AGAIN): ["loses", "loses dead"],
+    (AGAIN, AGAIN): ["loses", "loses dead", "deaf"],
 }
 
 # Name servers of which none tells anything, what is told of them, AT being the address of the first, and the
@@ -82,6 +91,7 @@ def check_hosts_file():
     server_at("127.0.0.1")
     finds("one-alias", [], [V4])
     finds("two.EXAMPLE", ["::5"], ["192.0.2.2"])
+    finds("zero.example", ["::1"], ["127.0.0.1"])  # this machine
     finds("both.test", [V6], [V4])  # 127.0.0.1, where the file names no server
 
 
@@ -104,6 +114,7 @@ def check_search():
         ("", "both", ["both.other.x", "both.test"]), ("options ndots:2\n", "both.y", ["both.y.other.x", "both.y.test"]),
         ("", "both.y", ["both.y"]), ("", "both.x", ["both.x", "both.x.other.x", "both.x.test"]),
         ("", "both.x.", ["both.x"]), ("search last.x\n", "both", ["both.last.x", "both"]),
+        ("search . test\n", "both", ["both"]), ("search .other.x .test\n", "both", ["both.other.x", "both.test"]),
     ):
         SETTINGS.write_text(SEARCH + more)
         server.seen.clear()
@@ -112,6 +123,137 @@ def check_search():
         else:
             finds(host, [V6], [V4])
         tell(server.asked() == names, f"names for {host}", server.asked())
+
+
+def check_denied():
+    """A name that has an address of one family is not passed over, whatever its server says of the other."""
+    server = server_at("127.0.0.1")
+    SETTINGS.write_text("nameserver 127.0.0.1\nsearch first.test second.test\n")
+    for host, v6, v4 in DENIED:
+        server.seen.clear()
+        finds(host, v6, v4, ticks=lambda *ticks: max(ticks) < AGAIN)
+        tell(server.asked() == [f"{host}.first.test"], f"names for {host}", server.asked())
+
+
+def check_silent_once():
+    """A silent server is waited for alone once, however many names are asked for."""
+    dead, good = server_at("127.140.0.1", "dead"), server_at("127.140.0.2")
+    SETTINGS.write_text("nameserver 127.140.0.1\nnameserver 127.140.0.2\nsearch a.x b.x c.x test\n")
+    finds("both", [V6], [V4], ticks=lambda v6, v4: ALONE <= min(v6, v4) and max(v6, v4) < 2 * ALONE)
+    tell(len(dead.asked()) == 4 and dead.asked() == good.asked(), "each is asked", dead.asked(), good.asked())
+
+
+def check_unsent():
+    """Where a query can't be sent, the next server is asked at once."""
+    serve(141, "good good")
+    done = look_up_with_fault("sendto:error=EPERM:when=1", "both.test")
+    found = re.fullmatch(answers_of([V6], [V4]), done.stdout)
+    tell(found and max(map(int, found.groups())) < ALONE, "both answers come at once", done.stdout, done.stderr)
+
+
+def unreadable(path, *words):
+    """A run by who may not read the file."""
+    path.chmod(0)
+    try:
+        return run(OPTIONS.program, *words, user=65_534, group=65_534, timeout=support.TIMEOUT)
+    finally:
+        path.chmod(0o644)
+
+
+def check_unreadable():
+    """A file that is there and can't be read is a fault that names it, and no empty one."""
+    server_at("127.0.0.1")
+    SETTINGS.write_text("nameserver 127.0.0.1\n")
+    for path in (SETTINGS.with_name("hosts"), SETTINGS):
+        done = unreadable(path, "names", "both.test")
+        wanted = f"he: cannot read /etc/{path.name}: permission denied\n"
+        tell(done.returncode == 1 and not done.stdout and done.stderr == wanted, path.name, done.stdout, done.stderr)
+    done = unreadable(SETTINGS.with_name("hosts"), "names", V4)
+    tell(done.returncode == 0, "the file of hosts is not read for an address", done.stderr)
+
+
+def check_local():
+    """A name with one label in `.local` is asked for where the search list has a domain in it."""
+    server = server_at("127.0.0.1")
+    for search, asked in (("corp.local", ["both.local", "both.local.corp.local"]), ("Local a.x", ["both.local"])):
+        SETTINGS.write_text(f"nameserver 127.0.0.1\nsearch {search}\n")
+        server.seen.clear()
+        finds("both.local", [V6], [V4])
+        tell(server.asked() == asked[:1], f"names with `search {search}`", server.asked())
+    SETTINGS.write_text("nameserver 127.0.0.1\nsearch local.x\n")
+    lacks("both.local", "he: names in .local are not asked of name servers: try --resolver system\n")
+
+
+def check_options():
+    """`use-vc` asks over TCP alone, and `no-aaaa` for IPv4 alone."""
+    server = server_at("127.0.0.1")
+    SETTINGS.write_text("nameserver 127.0.0.1\noptions use-vc\n")
+    server.seen.clear()
+    finds("both.test", [V6], [V4])
+    tell(not server.seen, "no datagram leaves", server.seen)
+    SETTINGS.write_text("nameserver 127.0.0.1\noptions no-aaaa\n")
+    finds("both.test", [], [V4])
+    tell({kind_of(query) for _, query, _ in server.seen} == {A}, "A alone is asked for", server.asked())
+    done = look_up("both.test", "-v")
+    tell("AAAA not asked (option no-aaaa)\n" in done.stderr, "it is told", done.stderr)
+
+
+def check_environment():
+    """LOCALDOMAIN takes the place of the search list, and RES_OPTIONS counts after the options of the file."""
+    server = server_at("127.0.0.1")
+    SETTINGS.write_text("nameserver 127.0.0.1\nsearch a.x\noptions ndots:0\n")
+    for variables, asked in (({}, ["both"]), ({"RES_OPTIONS": "ndots:1"}, ["both.a.x", "both"]),
+                             ({"LOCALDOMAIN": "b.x test", "RES_OPTIONS": "ndots:1"}, ["both.b.x", "both.test"]),
+                             ({"LOCALDOMAIN": "", "RES_OPTIONS": "ndots:3"}, ["both"])):
+        server.seen.clear()
+        done = run(OPTIONS.program, "names", "both", env={**os.environ, **variables}, timeout=support.TIMEOUT)
+        tell(done.returncode == 0 and server.asked() == asked, f"names with {variables}", server.asked(), done.stderr)
+    done = run(OPTIONS.program, "connect", "-z", "-v", "both", "9", timeout=support.TIMEOUT,
+               env={**os.environ, "RES_OPTIONS": "no-aaaa"})
+    tell("AAAA not asked (option no-aaaa)\n" in done.stderr, "he connect reads it", done.stderr)
+
+
+def check_words():
+    """What is told of look-ups counts what is kept, and says who answered."""
+    server_at("127.0.0.1")
+    SETTINGS.write_text("nameserver 127.0.0.1\n")
+    for host, words, wanted in (("hundreds.test", (), "A answer: 256 addresses from 127.0.0.1\n"),
+                                ("both.test", ("--resolver", "system"),
+                                 "A answer: 1 address from the system's resolver\n"),
+                                ("one-alias", (), "A answer: 1 address, no name server asked\n")):
+        done = look_up(host, "-v", *words)
+        tell(done.returncode == 0 and wanted in done.stderr, f"{host} {words}", done.stderr)
+
+
+@timed
+def check_many_lines():
+    """A file of hosts of 150,000 lines is read once for a connection, and not for an address."""
+    path = SETTINGS.with_name("hosts")
+    before = path.read_text()
+    path.write_text(before + "".join(f"0.0.0.0 host-{n}.advertising.example.net\n" for n in range(150_000)))
+    try:
+        for command in ("names", "connect"):
+            words = ("-z", "one-alias", "9") if command == "connect" else ("one-alias",)
+            done = traced(command, *words)
+            tell(done.count('"/etc/hosts"') == 1, f"he {command} reads the file once", done)
+        must('"/etc/hosts"' not in traced("connect", "-z", V4, "9"), "it is not read for an address")
+        took = min(seconds_of("names", "one-alias") for _ in range(5))
+        tell(took < MOST_SECONDS, "seconds for a file of 150,000 lines", took)
+    finally:
+        path.write_text(before)
+
+
+def traced(*words):
+    support.needs("strace")
+    with tempfile.NamedTemporaryFile("r") as trace:
+        run("strace", "-f", "-qq", "-e", "openat", "-o", trace.name, OPTIONS.program, *words, timeout=support.TIMEOUT)
+        return trace.read()
+
+
+def seconds_of(*words):
+    before = time.monotonic()
+    run(OPTIONS.program, *words, timeout=support.TIMEOUT)
+    return time.monotonic() - before
 
 
 def check_again():

@@ -149,3 +149,20 @@ def check_pages():
     for given, those in [*(((), [text]) for text in texts), ((), every), (("--set", "attempt=100"), texts)]:
         faults = faults_of(given, those)
         tell(not faults, *given, f"{those[0]}{' ..' if len(those) > 1 else ''}:", *faults)
+
+
+def check_names():
+    """Whatever a file is called, its name on a page is the text of its heading, and no tag or attribute has any of it."""
+    folder = OPTIONS.folder / "names"
+    folder.mkdir()
+    names = ["<b>&amp;", "' onclick='x' id='y", '" id="z', "</h2><script>"]
+    texts = [folder / name.replace("/", "") for name in names]
+    for text in texts:
+        text.write_text("race 1\nend\n")
+    page = folder / "page.html"
+    done = run(HE, "draw", "--html", page, *texts)
+    shown = Page(page.read_text())
+    tell(done.returncode == 0 and not shown.faults and shown.files == [str(text) for text in texts],
+         done.stderr, shown.faults, shown.files)
+    tags = re.findall(r"<h2[^>]*>", page.read_text())
+    tell(tags == ["<h2>"] * len(texts), tags)

@@ -37,6 +37,36 @@ def check_kept_answers():
     must("exhausted" in support.run(HE, "replay", input=last).stdout, f"a record: {last!r}")
 
 
+@timed
+def check_ttl():
+    """An answer is kept no longer than its TTL."""
+    with Zone(ttl=1) as zone, Proxy("--resolver", zone.at) as proxy, serving(greet) as port:
+        for wait, queries in ((0, 2), (2.1, 4)):
+            time.sleep(wait)
+            proxy.ask("short.test.", port, seconds=SOON)
+            must(zone.asked("short") == queries, f"{zone.asked('short')} queries, not {queries}")
+
+
+def check_shared_label():
+    """What is kept of a host is no other host's, though their first labels are the same."""
+    with Zone() as zone, Proxy("--resolver", zone.at) as proxy, serving(greet) as port:
+        for so_far, name in enumerate(("same.one.test.", "same.two.test.", "same.test."), 1):
+            for _ in range(2):
+                proxy.ask(name, port, seconds=SOON)
+            must(zone.asked("same") == 2 * so_far, f"{name}: {zone.asked('same')} queries, not {2 * so_far}")
+
+
+def check_ids():
+    """The ids of queries are drawn from all 16 bits (RFC 5452 section 4.3)."""
+    count = 40
+    with Zone() as zone, Proxy("--resolver", zone.at) as proxy, ThreadPoolExecutor(count) as pool:
+        list(pool.map(lambda number: proxy.ask(f"id{number}.test.", 9, seconds=SOON), range(count)))
+        ids = [int.from_bytes(query[:2], "big") for _, query, _ in zone.seen]
+    must(len(ids) == 2 * count and len(set(ids)) > len(ids) - 5, sorted(ids))
+    for bit in range(16):
+        must(0 < sum(number >> bit & 1 for number in ids) < len(ids), f"bit {bit} is the same in each id")
+
+
 class Slow(Zone):
     """A zone that is told after 300 ms; `half` has no answer for IPv4."""
 
@@ -59,6 +89,9 @@ def check_shared_look_ups():
             with ThreadPoolExecutor(20) as pool:
                 return list(pool.map(reach, [name] * 20))
 
+        with ThreadPoolExecutor(8) as pool:  # (a look-up waits for none of another host)
+            took = list(pool.map(reach, [f"other{number}" for number in range(8)]))
+        must(sorted(took)[1] < 0.55, f"look-ups of several hosts at once: {took}")
         reach_at_once("minute")
         must(zone.asked("minute") == 2, f"{zone.asked('minute')} queries of 20 races at once, not 2")
         took = reach_at_once("none")
@@ -79,7 +112,7 @@ TWO = ["127.0.0.2", "127.0.0.3"]  # of this machine, which its kernel reaches fr
 
 def check_history():
     """Of addresses that the rules leave alike the one that is known goes first, where that counts, and its record says
-    so. The file has what was seen; a wrong line of it is passed over, and a file of something else is left alone."""
+    so. The file has what was seen; a wrong line of it is passed over."""
     with tempfile.TemporaryDirectory() as folder, Zone(*TWO, ttl=0) as zone, contextlib.ExitStack() as servers:
         path, port, now = pathlib.Path(folder, "known"), unused_port(), int(time.time())
 
@@ -109,8 +142,5 @@ def check_history():
             server.close()
             must(race(proxy)[0] == TWO[0], "a refused address won")
             must(re.fullmatch(rf"{TWO[0]} {FOUR} \d+ \d+\n", path.read_text()), f"a refused one: {path.read_text()!r}")
-        path.write_text("export PATH=/bin\n")
-        done = support.run(HE, "proxy", "--listen", f"{FOUR}:{unused_port()}", "--history", path, timeout=SOON)
-    must(done.returncode == 1 and str(path) in done.stderr, f"a file of something else: {done.stderr!r}")
 
 

@@ -9,27 +9,18 @@
 //! `NAME.check-all-json` are what a check writes as JSON. Each example is run in pieces of 1 byte, of 7 bytes and
 //! whole, a short one in every cut into two pieces too, and `replay` with 1, 2, 7 and 64 workers; each of its races is
 //! run as a future too, to the same transcript, and each of their attempts alone (`turns.rt`), and again with its
-//! answers coming while it runs (`resolving.rt`). Command lines are run beside them, over streams that may fail
-//! (`command_lines.rt`, `command_rows.rt`). A line names each run that differs, and the last three say how many there
-//! were. Where memory is refused to an example, the program ends and says so. Nothing is proved of this program but
-//! that it is safe and ends.
+//! answers coming while it runs (`resolving.rt`). Beside them command lines are run whose output can't be flushed
+//! (`flushes.rt`). A line names each run that differs, and the last three count them. Where memory is refused to an
+//! example, the program ends and says so. Nothing is proved of this program but that it is safe and ends.
 #![tactic(auto)]
 
-mod check_rows;
-mod command_lines;
-mod command_rows;
 mod example;
-mod glance_rows;
-mod group_rows;
-mod host_rows;
-mod refused_rows;
+mod flushes;
 mod resolving;
-mod telling_rows;
-mod text_rows;
 mod turns;
 
-use command_lines::run_command_lines;
 use example::{Counts, run_example};
+use flushes::run_flushes;
 use resolving::Heard;
 use std::{fs, io};
 
@@ -50,8 +41,8 @@ fn main(rt: HostRuntime) -> io::Result<()> {
     println!(rt;
         "races whose answers come while they run: {compared} compared, {drawn} at drawn ticks"
     )?;
-    let Counts { ran, differ } = run_command_lines(&rt, &rt)?;
-    println!(rt; "{ran} runs of command lines, {differ} differ")
+    let Counts { ran, differ } = run_flushes(&rt, &rt)?;
+    println!(rt; "{ran} runs whose output cannot be flushed, {differ} differ")
 }
 
 // The names of the examples, in order.

@@ -56,6 +56,10 @@ fn write_target(target: &Target, out: &mut Vec<u8>) -> io::Result<()> {
             out.extend_from_slice(interface)?;
         }
         Target::Loopback => out.extend_from_slice(b"this machine")?,
+        Target::InLoopback(name) => {
+            out.extend_from_slice(b"this machine, or what the file of hosts has for ")?;
+            out.extend_from_slice(name.as_bytes())?;
+        }
         Target::Multicast(name) => {
             out.extend_from_slice(b"multicast name ")?;
             out.extend_from_slice(name.as_bytes())?;

@@ -1,5 +1,5 @@
 -- What is kept of a host, and for how long it counts.
-use Rattle.std.specs.Prelude.{ℕ, ◌-◌, Bool, List, Option, Some, None, String, map, min, nat_lt, string_bytes, if◌then◌else◌}
+use Rattle.std.specs.Prelude.{ℕ, ◌-◌, ◌<◌, Bool, List, Option, Some, None, String, length, map, min, nat_lt, string_bytes, if◌then◌else◌}
 use Rattle.std.specs.Global.{Global}
 use Rattle.std.specs.Char.{to_ascii_lowercase}
 use Rattle.std.specs.Map.{lookup}
@@ -28,6 +28,11 @@ module _ {V : Type 0} where
   abbrev pub kept_of : AnswerCache V → List ℕ → Family → Option (Kept V)
   kept_of cache host V6 = kept_in cache.v6.entries (map to_ascii_lowercase host)
   kept_of cache host V4 = kept_in cache.v4.entries (map to_ascii_lowercase host)
+
+  -- fewer hosts are kept of the family than may be
+  abbrev pub has_room : AnswerCache V → Family → Type 0
+  has_room cache V6 = length cache.v6.entries < cache.v6.cap
+  has_room cache V4 = length cache.v4.entries < cache.v4.cap
 
   -- it counts for its seconds from when it was kept on
   abbrev pub counted : ℕ → Kept V → Option V

@@ -1,11 +1,11 @@
 //! The answers that are kept.
 
-ghost use Rattle.std.specs.Prelude.{◌≡◌, ◌⊎◌, IfOk, None, OnErr, OnOk, Some, false, map, string_bytes, ◌≢◌, []};
+ghost use Rattle.std.specs.Prelude.{◌≡◌, ◌<◌, ◌⊎◌, IfOk, None, OnErr, OnOk, Some, false, length, map, string_bytes, ◌≢◌, []};
 ghost use Rattle.std.specs.Char.{to_ascii_lowercase};
 ghost use Rattle.std.specs.Option.{option_copied};
 ghost use Rattle.std.specs.Str.{bytes_eq};
 ghost use Rattle.lru.specs.LruCache.{lru_cache};
-ghost use Rattle.he_cache.specs.Keeping.{answer_at, is_same, kept_in, kept_of, seconds_for};
+ghost use Rattle.he_cache.specs.Keeping.{answer_at, has_room, is_same, kept_in, kept_of, seconds_for};
 
 use he_addr::{Family, Memory};
 use lru::LruCache;
@@ -78,8 +78,8 @@ impl<V: Drop> AnswerCache<V> {
 
     /// Keeps what was found of this family of the host, from this second on, in place of what was kept of it before:
     /// for as many seconds as its TTL says, at most [`MOST_SECONDS`]; where it has none, as why there are no
-    /// addresses, [`SECONDS_WITHOUT_TTL`]. Where as many hosts are kept as may be, the one that was kept longest ago
-    /// is forgotten.
+    /// addresses, [`SECONDS_WITHOUT_TTL`]. What is kept of other hosts stays; but where there are as many of them as
+    /// may be, the one that was kept longest ago is forgotten.
     ///
     /// # Errors
     ///
@@ -97,6 +97,8 @@ impl<V: Drop> AnswerCache<V> {
         ensures other_hosts { (other : _) → is_same host.now other ≡ false
             → (kept_of self.new other family ≡ kept_of self.old other family)
             ⊎ (kept_of self.new other family ≡ None) }
+        ensures room { has_room self.old family → (other : _) → is_same host.now other ≡ false
+            → kept_of self.new other family ≡ kept_of self.old other family }
         ensures other_family { (other : _) → other ≢ family → (host : _) → kept_of self.new host other
             ≡ kept_of self.old host other }
         ensures same { OnErr result (self.new ≡ self.old) }
@@ -125,6 +127,9 @@ fn put<V: Drop>(
     ensures others { (other : _) → bytes_eq (string_bytes host) other ≡ false
         → (kept_in hosts.new.entries other ≡ kept_in hosts.old.entries other)
         ⊎ (kept_in hosts.new.entries other ≡ None) }
+    ensures room { length hosts.old.entries < hosts.old.cap → (other : _)
+        → bytes_eq (string_bytes host) other ≡ false
+        → kept_in hosts.new.entries other ≡ kept_in hosts.old.entries other }
     ensures same { OnErr result (hosts.new ≡ hosts.old) }
     ensures cap { hosts.new.cap ≡ hosts.old.cap }
 {

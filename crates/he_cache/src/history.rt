@@ -1,9 +1,10 @@
 //! What was seen of addresses when they were connected to (RFC 8305 section 4).
 
-ghost use Rattle.std.specs.Prelude.{◌≡◌, ◌==◌, IfOk, OnErr, OnOk, Some, [], length, nat_eq};
+ghost use Rattle.std.specs.Prelude.{◌≡◌, ◌==◌, ◌<◌, ◌⊎◌, IfOk, None, OnErr, OnOk, Some, [], false, length, nat_eq};
 ghost use Rattle.std.specs.Map.{remove_entry};
 ghost use Rattle.lru.specs.LruCache.{lru_cache};
 ghost use Rattle.he_addr.specs.Ip.{mapped_of};
+ghost use Rattle.he_addr.specs.declared.ip.Ip.{Ip};
 ghost use Rattle.he_cache.specs.Known.{counts, seen_of};
 
 use he_addr::{Ip, Memory};
@@ -61,14 +62,18 @@ impl History {
         })
     }
 
-    /// An address was connected to: takes what was seen in place of what was seen of it before. Where as many
-    /// addresses are known as may be, the one that was connected to longest ago is forgotten.
+    /// An address was connected to: takes what was seen in place of what was seen of it before. Of other addresses all
+    /// stays known; but where as many are known as may be, the one that was connected to longest ago is forgotten.
     ///
     /// # Errors
     ///
     /// `Memory`: all is as it was.
     pub fn learn(&mut self, seen: Seen) -> Result<(), Memory>
         ensures learnt { OnOk result (seen_of self.new seen.ip ≡ Some seen) }
+        ensures others { (other : Ip) → (mapped_of other == mapped_of seen.ip) ≡ false
+            → (seen_of self.new other ≡ seen_of self.old other) ⊎ (seen_of self.new other ≡ None) }
+        ensures room { length self.old.seen.entries < self.old.seen.cap → (other : Ip)
+            → (mapped_of other == mapped_of seen.ip) ≡ false → seen_of self.new other ≡ seen_of self.old other }
         ensures same { OnErr result (self.new ≡ self.old) }
         ensures most { self.new.seen.cap ≡ self.old.seen.cap }
     {

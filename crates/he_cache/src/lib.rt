@@ -9,8 +9,9 @@
 //!
 //! Proved: what is handed out is what was kept last of this host and family, and never after its time
 //! (`specs/Keeping.antt`); what is kept of another host changes nothing of this one's but that it may be forgotten,
-//! where as many hosts are kept as may be. What is known of an address is what was seen last, a failed attempt forgets
-//! it and no other, and it counts for a day and from the same source (`specs/Known.antt`); its line is read back
+//! and that only where as many hosts are kept as may be. What is known of an address is what was seen last, another
+//! one's connection changes nothing of it but in that way, a failed attempt forgets it and no other, and it counts for
+//! a day and from the same source (`specs/Known.antt`); its line is read back
 //! (`specs/KnownText.antt`). Only tested: that a wrong line is passed over, and the order of the lines.
 #![tactic(auto)]
 

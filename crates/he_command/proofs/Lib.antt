@@ -1,3 +1,6 @@
 mod Files
+mod Kept
+mod Service
 mod Shown
+mod Whole
 mod Written

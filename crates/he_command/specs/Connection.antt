@@ -10,6 +10,7 @@ use Rattle.he_connect.specs.declared.request.Lines.{Lines}
 use Rattle.he_connect.specs.declared.request.Lines.TheVariants as lines
 use Rattle.he_live.specs.declared.dialed.Dialed.{Dialed}
 use Rattle.he_names.specs.Ports.{IsNoPort, MeansPort}
+use Rattle.he_names.specs.declared.environment.Environment.{Environment}
 use Rattle.he_names.specs.declared.ports.PortFault.TheVariants.{Unknown}
 use Rattle.he_relay.specs.Relays.{Relays}
 use Rattle.he_relay.specs.declared.fault.RelayFault.{RelayFault}
@@ -20,23 +21,28 @@ use Rattle.he_request.specs.declared.resolver.Resolver.{Resolver}
 use Rattle.he_request.specs.declared.resolver.Resolver.TheVariants as resolvers
 use Rattle.he_resolver.specs.declared.choice.Choice.{Choice}
 use Rattle.he_resolver.specs.declared.choice.Choice.TheVariants as choices
+use Rattle.he_stream.specs.declared.stream.InputStream as inputs
 use Rattle.he_stream.specs.declared.stream.OutputStream as outputs
 use Rattle.he_tasks.specs.Status.{status_of}
-use Rattle.he_tasks.specs.Streams.{TookAll, TookPart, TookRounds, TookRoundsPart}
+use Rattle.he_tasks.specs.Streams.{TookRounds, TookRoundsPart}
 use Rattle.he_tasks.specs.declared.reports.TheConstants.{DONE, FAULT, NO_CONNECTION, USAGE}
+use Rattle.he_command.specs.Files.{WasRead, WasWritten}
 use Rattle.he_command.specs.Objects.{ShowsRace}
+use Rattle.he_command.specs.Records.{KeepsRecord}
 
--- the number of a port: that of a service is what a file of services gives it
-abbrev pub HasPort : Port → ℕ → Type 0
-HasPort (ports.Number own) number = number ≡ own
-HasPort (ports.Service name) number = (services : List ℕ) × MeansPort services name.now number
+-- the number of a port: that of a service is what the file of services gives it, which was read
+abbrev pub HasPort : (List ℕ → Type 0) → Port → ℕ → Type 0
+HasPort IsRead (ports.Number own) number = number ≡ own
+HasPort IsRead (ports.Service name) number =
+    (services : List ℕ) × IsRead services × MeansPort services name.now number
 
--- the status where a port has none: the line is wrong where a file of services has no such service, else that is a
--- fault of the file, or of memory
-abbrev pub LacksPort : Port → ℕ → Type 0
-LacksPort (ports.Number own) status = ⊥
-LacksPort (ports.Service name) status =
-    ((status ≡ USAGE) × (services : List ℕ) × IsNoPort services name.now Unknown) ⊎ (status ≡ FAULT)
+-- the status where a port has none: the line is wrong where the file of services, which was read, has no such service,
+-- else that is a fault of the file, or of memory
+abbrev pub LacksPort : (List ℕ → Type 0) → Port → ℕ → Type 0
+LacksPort IsRead (ports.Number own) status = ⊥
+LacksPort IsRead (ports.Service name) status =
+    ((status ≡ USAGE) × (services : List ℕ) × IsRead services × IsNoPort services name.now Unknown)
+    ⊎ (status ≡ FAULT)
 
 abbrev pub families_of : Option Family → Families
 families_of None = families.Both
@@ -51,9 +57,9 @@ choice_of resolvers.Configured = choices.Configured
 choice_of (resolvers.Server server) = choices.Server server
 choice_of resolvers.System = choices.System
 
--- the race that is asked for, at the port of this number
-abbrev pub race_of : Connection → ℕ → ConnectRequest
-race_of connection port =
+-- the race that is asked for, at the port of this number, by resolver settings that this environment amends
+abbrev pub race_of : Connection → ℕ → Environment → ConnectRequest
+race_of connection port environment =
     record {
       host = connection.host;
       port = port;
@@ -61,16 +67,10 @@ race_of connection port =
       settings = connection.settings;
       lines = lines_of connection.lines;
       resolver = choice_of connection.resolver;
+      environment = environment;
       explains = connection.explains;
       tells_steps = connection.tells_steps;
     }
-
--- the text of the record went to a file or to the output, or there is no place for it; or that failed, and the output
--- took a first part of it at most
-abbrev pub KeepsRecord : {O : Type 0} → outputs.Ghosts O → List ℕ → O → O → ℕ → Type 0
-KeepsRecord output text before after status =
-    ((status ≡ DONE) × ((after ≡ before) ⊎ TookAll output before after text))
-    ⊎ ((status ≡ FAULT) × ((after ≡ before) ⊎ TookPart output before after text))
 
 -- a connection was relayed, and the status tells how that ended
 abbrev pub RelaysTo : {O : Type 0} → outputs.Ghosts O → O → O → ℕ → Type 0
@@ -108,10 +108,12 @@ EndsRace output connection text kept won before after status =
 
 -- what comes of a connection: it has no port, its record has no place, or its race was not run, and the output is left
 -- alone; or a race was run for what is asked for, its record is kept, and then what it won is relayed
-abbrev pub MakesConnection : {O : Type 0} → outputs.Ghosts O → Connection → O → O → ℕ → Type 0
-MakesConnection {O} output connection before after status =
-    ((LacksPort connection.port status ⊎ (status ≡ FAULT)) × (after ≡ before))
-    ⊎ ((port : ℕ) × (text story : List ℕ) × (won : Option Dialed) × (between : O) × (kept : ℕ)
-    × HasPort connection.port port × IsRun (race_of connection port) text story won
-    × KeepsRecord output text before between kept
+abbrev pub MakesConnection : {F P O : Type 0} → inputs.Ghosts F → outputs.Ghosts P → outputs.Ghosts O → Connection → O
+    → O → ℕ → Type 0
+MakesConnection {F} {P} {O} file page output connection before after status =
+    ((LacksPort (WasRead file) connection.port status ⊎ (status ≡ FAULT)) × (after ≡ before))
+    ⊎ ((port : ℕ) × (environment : Environment) × (text story : List ℕ) × (won : Option Dialed) × (between : O)
+    × (kept : ℕ) × HasPort (WasRead file) connection.port port
+    × IsRun (race_of connection port environment) text story won
+    × KeepsRecord (WasWritten page) output connection.record text before between kept
     × EndsRace output connection text kept (is_some won) between after status)

@@ -1,5 +1,7 @@
 pub mod Connection
+pub mod Files
 pub mod Live
 pub mod Objects
 pub mod Proxies
+pub mod Records
 pub mod Run

@@ -12,6 +12,7 @@ use Rattle.he_stream.specs.declared.stream.OutputStream as outputs
 use Rattle.he_tasks.specs.Streams.{Gave, TookAll, TookPart}
 use Rattle.he_tasks.specs.declared.reports.TheConstants.{DONE, FAULT, NO_CONNECTION}
 use Rattle.he_command.specs.Connection.{LacksPort}
+use Rattle.he_command.specs.Files.{WasRead}
 
 -- the status of a live race: that there is no connection is told where one had to be made
 abbrev pub status_of_live : Bool → Result Outcome3 LiveFault → ℕ
@@ -55,4 +56,4 @@ abbrev pub RunsLive : {I F O : Type 0} → inputs.Ghosts I → inputs.Ghosts F �
     → ℕ → Type 0
 RunsLive input file output options first last before after status =
     RunsNamed input file output options options.file first last before after status
-    ⊎ (LacksPort options.port status × (last ≡ first) × (after ≡ before))
+    ⊎ (LacksPort (WasRead file) options.port status × (last ≡ first) × (after ≡ before))

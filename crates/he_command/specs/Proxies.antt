@@ -1,6 +1,7 @@
 -- What a line asks for of a proxy, as he_proxy has it.
 use Rattle.std.specs.Prelude.{◌≡◌, ℕ}
 use Rattle.std.specs.Option.{unwrap_or}
+use Rattle.he_names.specs.declared.environment.Environment.{Environment}
 use Rattle.he_proxy.specs.declared.request.LogForm.{LogForm}
 use Rattle.he_proxy.specs.declared.request.LogForm.TheVariants as forms
 use Rattle.he_proxy.specs.declared.request.ProxyRequest.{ProxyRequest}
@@ -27,7 +28,7 @@ abbrev pub status_of_proxy : Proxy → ℕ
 status_of_proxy proxy = status_by proxy.resolver
 
 -- what is served is what the line gives; where it doesn't say how many, the number that he_proxy has
-pub record IsServed (proxy : Proxy) (request : ProxyRequest) : Type 0 where
+pub record IsServed (proxy : Proxy) (environment : Environment) (request : ProxyRequest) : Type 0 where
   pub listen : request.listen.now ≡ proxy.listen.items
   pub allow : request.allow.now ≡ proxy.allow.items
   pub allows_private : request.allows_private ≡ proxy.allows_private
@@ -35,6 +36,7 @@ pub record IsServed (proxy : Proxy) (request : ProxyRequest) : Type 0 where
   pub settings : request.settings ≡ proxy.settings
   pub lines : request.lines ≡ lines_of proxy.lines
   pub resolver : request.resolver ≡ choice_of proxy.resolver
+  pub environment_is : request.environment ≡ environment
   pub records : request.record ≡ proxy.record
   pub record_most : request.record_most ≡ unwrap_or proxy.record_most DEFAULT_RECORDS
   pub history : request.history ≡ proxy.history

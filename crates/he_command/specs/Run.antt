@@ -48,6 +48,6 @@ RunsLine input file page output (Ok (requests.Proxy proxy)) first last before af
 RunsLine input file page output (Ok (requests.Names options)) first last before after status =
     (last ≡ first) × RunsNames output options.is_json before after status
 RunsLine input file page output (Ok (requests.Connect connection)) first last before after status =
-    MakesConnection output connection before after status
+    MakesConnection file page output connection before after status
 RunsLine input file page output (Err refusal) first last before after status =
     (last ≡ first) × Refuses output refusal before after status

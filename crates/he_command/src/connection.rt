@@ -1,6 +1,6 @@
 //! A connection that is made, recorded and relayed.
 ghost use Rattle.std.specs.Prelude.{◌≡◌, is_some};
-ghost use Rattle.he_command.specs.Connection.{EndsRace, EndsShown, EndsWon, KeepsRecord, MakesConnection, RelaysTo};
+ghost use Rattle.he_command.specs.Connection.{EndsRace, EndsShown, EndsWon, MakesConnection, RelaysTo};
 ghost use Rattle.he_command.specs.Objects.{ShowsRace};
 ghost use Rattle.he_tasks.specs.Status.{status_of};
 ghost use Rattle.he_tasks.specs.declared.reports.TheConstants.{FAULT};
@@ -9,11 +9,11 @@ use crate::objects::{race_object, show_object};
 use crate::port::number_of;
 use crate::race_request::race_of;
 use crate::record::{discard_record, keep_record, open_record};
-use crate::system::System;
+use crate::system::{System, Variables};
 use he_connect::{ConnectFault, ConnectRequest, FinishedRace, Lines, race};
 use he_relay::{DEFAULT_WAIT, RelayFault, over_socket, relay_standard};
 use he_request::Connection;
-use he_stream::{InputStream, OutputStream};
+use he_stream::{FromReader, InputStream, OutputStream, ToWriter};
 use he_tasks::reports::{report, report_of, report_path};
 use he_tasks::session::report_unwritten;
 use he_tasks::{DONE, FAULT, NO_CONNECTION, Session};
@@ -26,14 +26,16 @@ pub(crate) fn run_connect<R: System, I: InputStream, O: OutputStream + Send, F: 
     connection: &Connection<'_>,
     input: &mut I,
 ) -> u8
-    ensures { MakesConnection O.OutputStream connection.now session.old.output session.new.output result }
+    ensures { MakesConnection ⟦<FromReader<R::File> as InputStream>⟧ ⟦<ToWriter<R::File> as OutputStream>⟧
+        O.OutputStream connection.now session.old.output session.new.output result }
 {
     let (rt, alloc) = (session.system, session.alloc);
     let port = match number_of(session, connection.port) {
         Ok(port) => port,
         Err(status) => return status,
     };
-    let request = race_of(connection, port);
+    let variables = Variables::read(rt);
+    let request = race_of(connection, port, variables.environment());
     let place = match open_record(rt, alloc, connection.record) {
         Ok(place) => place,
         Err(error) => {

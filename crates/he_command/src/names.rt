@@ -6,10 +6,10 @@ ghost use Rattle.he_tasks.specs.Status.{status_of};
 
 use crate::objects::{names_object, show_object};
 use crate::race_request::choice_of;
-use crate::system::System;
+use crate::system::{System, Variables};
 use he_request::Names;
 use he_request::shown::shown;
-use he_resolver::{LookupReport, NamesFault, TellFault, Wanted, write_names};
+use he_resolver::{Environment, LookupReport, NamesFault, TellFault, Wanted, write_names};
 use he_stream::{OutputStream, ToWriter};
 use he_tasks::reports::{report, report_of};
 use he_tasks::{DONE, FAULT, Session};
@@ -41,15 +41,18 @@ fn find_names<R: System, O: OutputStream, F: Write>(
         return run_object(session, names, lookup);
     }
     let (rt, alloc) = (session.system, session.alloc);
-    let end = write_names(rt, alloc, &mut session.output, wanted_of(names), lookup);
+    let variables = Variables::read(rt);
+    let wanted = wanted_of(names, variables.environment());
+    let end = write_names(rt, alloc, &mut session.output, wanted, lookup);
     report_names(session, end, lookup, names)
 }
 
-fn wanted_of(names: Names<'_>) -> Wanted<'_> {
+fn wanted_of<'a>(names: Names<'a>, environment: Environment<'a>) -> Wanted<'a> {
     Wanted {
         host: names.host,
         only: None,
         choice: choice_of(names.resolver),
+        environment,
     }
 }
 
@@ -63,7 +66,9 @@ fn run_object<R: System, O: OutputStream, F: Write>(
 {
     let (rt, alloc) = (session.system, session.alloc);
     let mut lines = ToWriter::new(Vec::new(alloc));
-    let end = write_names(rt, alloc, &mut lines, wanted_of(names), lookup);
+    let variables = Variables::read(rt);
+    let wanted = wanted_of(names, variables.environment());
+    let end = write_names(rt, alloc, &mut lines, wanted, lookup);
     let status = report_names(session, end, lookup, names);
     if end.is_err() {
         return FAULT;

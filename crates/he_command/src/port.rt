@@ -1,14 +1,17 @@
 //! The port of a service.
 ghost use Rattle.std.specs.Prelude.{◌≡◌, IfErr, IfOk};
 ghost use Rattle.he_command.specs.Connection.{HasPort, LacksPort};
+ghost use Rattle.he_command.specs.Files.{WasRead};
 
 use crate::system::System;
 use he_names::{PortFault, read_port};
 use he_request::Port;
+use he_stream::{FromReader, InputStream, take_input};
 use he_tasks::reports::{report, report_of, report_path};
 use he_tasks::{Session, USAGE};
-use std::fs;
-use std::io::Write;
+use std::alloc::Global;
+use std::io::{ErrorKind, Write};
+use std::{fs, io};
 
 // The file of services (services(5)).
 const SERVICES: &str = "/etc/services";
@@ -18,8 +21,8 @@ pub(crate) fn number_of<R: System, O, F: Write>(
     session: &mut Session<'_, '_, R, O, F>,
     port: Port<'_>,
 ) -> Result<u16, u8>
-    ensures number { IfOk result (HasPort port.entry) }
-    ensures status { IfErr result (LacksPort port.entry) }
+    ensures number { IfOk result (HasPort (WasRead ⟦<FromReader<R::File> as InputStream>⟧) port.entry) }
+    ensures status { IfErr result (LacksPort (WasRead ⟦<FromReader<R::File> as InputStream>⟧) port.entry) }
     ensures output { session.new.output ≡ session.old.output }
 {
     let name = match port {
@@ -28,7 +31,7 @@ pub(crate) fn number_of<R: System, O, F: Write>(
     };
     let (rt, alloc) = (session.system, session.alloc);
     let faults = &mut session.faults;
-    let services = match fs::read(rt, SERVICES) {
+    let services = match read_file(rt, alloc, SERVICES) {
         Ok(services) => services,
         Err(error) => return Err(report_path(alloc, SERVICES, error, faults)),
     };
@@ -40,4 +43,21 @@ pub(crate) fn number_of<R: System, O, F: Write>(
         }
         Err(fault) => Err(report(fault, faults)),
     }
+}
+
+// What the file of this path gives, to its end.
+fn read_file<R: System>(rt: &R, alloc: Global, path: &str) -> io::Result<Vec<u8>>
+    ensures { IfOk result (λ bytes. WasRead ⟦<FromReader<R::File> as InputStream>⟧ bytes.items) }
+{
+    read_whole(alloc, FromReader::new(fs::open(rt, path)?))
+}
+
+fn read_whole<F: InputStream + Drop>(alloc: Global, mut file: F) -> io::Result<Vec<u8>>
+    ensures { IfOk result (λ bytes. WasRead F.InputStream bytes.items) }
+{
+    let given = take_input(alloc, &mut file)?;
+    if given.is_broken {
+        return Err(file.failure().unwrap_or(ErrorKind::Other.into()));
+    }
+    Ok(given.bytes)
 }

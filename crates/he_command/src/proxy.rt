@@ -4,9 +4,10 @@ ghost use Rattle.he_command.specs.Proxies.{IsServed, log_of, status_of_proxy};
 ghost use Rattle.he_tasks.specs.declared.reports.TheConstants.{FAULT};
 
 use crate::race_request::{choice_of, families_of, lines_of};
-use crate::system::System;
+use crate::system::{System, Variables};
 use he_proxy::{DEFAULT_RECORDS, DEFAULT_SESSIONS, LogForm, ProxyFault, ProxyRequest, serve};
 use he_request::{Proxy, Resolver, SessionLog};
+use he_resolver::Environment;
 use he_stream::OutputStream;
 use he_tasks::reports::{report, report_path};
 use he_tasks::{FAULT, Session, USAGE};
@@ -39,7 +40,8 @@ fn serve_clients<R: System, O: OutputStream, F: Write>(
     ensures status { result ≡ FAULT }
     ensures output { session.new.output ≡ session.old.output }
 {
-    let request = request_of(proxy);
+    let variables = Variables::read(session.system);
+    let request = request_of(proxy, variables.environment());
     match serve(session.system, session.alloc, &request, &mut session.faults) {
         Ok(()) => FAULT,
         Err(fault) => report_fault(session, fault, proxy),
@@ -58,7 +60,7 @@ fn report_fault<R, O: OutputStream, F: Write>(
 {
     let path = match fault {
         ProxyFault::Record(_) => proxy.record,
-        ProxyFault::History(_) | ProxyFault::NotHistory => proxy.history,
+        ProxyFault::History(_) => proxy.history,
         _ => None,
     };
     match path {
@@ -68,8 +70,11 @@ fn report_fault<R, O: OutputStream, F: Write>(
 }
 
 // What is served.
-fn request_of<'a>(proxy: &'a Proxy<'_>) -> ProxyRequest<'a>
-    ensures { IsServed proxy.now result }
+fn request_of<'a, 'p, 'q>(proxy: &'q Proxy<'p>, environment: Environment<'a>) -> ProxyRequest<'a>
+where
+    'p: 'a,
+    'q: 'a,
+    ensures { IsServed proxy.now environment.entry result }
 {
     ProxyRequest {
         listen: proxy.listen.as_slice(),
@@ -79,6 +84,7 @@ fn request_of<'a>(proxy: &'a Proxy<'_>) -> ProxyRequest<'a>
         settings: proxy.settings,
         lines: lines_of(proxy.lines),
         resolver: choice_of(proxy.resolver),
+        environment,
         record: proxy.record,
         record_most: proxy.record_most.unwrap_or(DEFAULT_RECORDS),
         history: proxy.history,

@@ -5,11 +5,17 @@ ghost use Rattle.he_command.specs.Connection.{choice_of, families_of, lines_of, 
 use he_addr::Family;
 use he_connect::{ConnectRequest, Families, Lines};
 use he_request::{Connection, Resolver};
-use he_resolver::Choice;
+use he_resolver::{Choice, Environment};
 
-// The race for a connection at this port.
-pub(crate) fn race_of<'a>(connection: &Connection<'a>, port: u16) -> ConnectRequest<'a>
-    ensures { result ≡ race_of connection.now port }
+// The race for a connection at this port, by resolver settings that this environment amends.
+pub(crate) fn race_of<'a, 'c>(
+    connection: &Connection<'c>,
+    port: u16,
+    environment: Environment<'a>,
+) -> ConnectRequest<'a>
+where
+    'c: 'a,
+    ensures { result ≡ race_of connection.now port environment.entry }
 {
     ConnectRequest {
         host: connection.host,
@@ -18,6 +24,7 @@ pub(crate) fn race_of<'a>(connection: &Connection<'a>, port: u16) -> ConnectRequ
         settings: connection.settings,
         lines: lines_of(connection.lines),
         resolver: choice_of(connection.resolver),
+        environment,
         explains: connection.explains,
         tells_steps: connection.tells_steps,
     }
@@ -34,7 +41,9 @@ pub(crate) fn families_of(only: Option<Family>) -> Families
 }
 
 // Which lines the races have.
-pub(crate) fn lines_of<'a>(path: Option<&'a str>) -> Lines<'a>
+pub(crate) fn lines_of<'a, 'c>(path: Option<&'c str>) -> Lines<'a>
+where
+    'c: 'a,
     ensures { result ≡ lines_of path.entry }
 {
     match path {
@@ -44,7 +53,7 @@ pub(crate) fn lines_of<'a>(path: Option<&'a str>) -> Lines<'a>
 }
 
 // The resolver that is asked.
-pub(crate) fn choice_of(resolver: Resolver) -> Choice
+pub(crate) fn choice_of<'a>(resolver: Resolver) -> Choice<'a>
     ensures { result ≡ choice_of resolver }
 {
     match resolver {

@@ -1,17 +1,18 @@
 //! The file of a race's record.
-ghost use Rattle.std.specs.Prelude.{◌≡◌};
-ghost use Rattle.he_command.specs.Connection.{KeepsRecord};
+ghost use Rattle.std.specs.Prelude.{IfOk, OnOk};
+ghost use Rattle.he_command.specs.Files.{WasWritten};
+ghost use Rattle.he_command.specs.Records.{IsPlaceOf, KeepsRecord};
 
 use crate::system::System;
 use he_files::{NewName, create_beside};
 use he_request::STANDARD;
-use he_stream::OutputStream;
+use he_stream::{OutputStream, ToWriter, write_whole};
 use he_tasks::reports::report_path;
 use he_tasks::session::put_all;
 use he_tasks::{DONE, Session};
 use std::alloc::Global;
 use std::io;
-use std::io::Write;
+use std::io::{ErrorKind, Write};
 use std::mem::drop;
 use std::rt::Files;
 
@@ -28,7 +29,9 @@ pub(crate) fn open_record<R: System>(
     rt: &R,
     alloc: Global,
     path: Option<&str>,
-) -> io::Result<RecordPlace<R::File>> {
+) -> io::Result<RecordPlace<R::File>>
+    ensures { IfOk result (IsPlaceOf path.entry) }
+{
     match path {
         None => Ok(RecordPlace::Nowhere),
         Some(STANDARD) => Ok(RecordPlace::Output),
@@ -47,20 +50,36 @@ pub(crate) fn discard_record<R: System>(rt: &R, place: RecordPlace<R::File>) {
     }
 }
 
-// Writes the record to the file that was made for it, and gives it its name. Where there is none the old file stays.
+// Writes the text of a record to the file that was made for it, and gives it its name. Where there is none the old
+// file stays.
 pub(crate) fn write_record<R: Files>(
     rt: &R,
-    mut file: R::File,
+    file: R::File,
     name: NewName,
-    record: &[u8],
-) -> io::Result<()> {
-    let written = file.write_all(record);
-    drop(file);
-    if record.is_empty() || written.is_err() {
-        name.discard(rt);
-        return written;
+    text: &[u8],
+) -> io::Result<()>
+    ensures { OnOk result (WasWritten ⟦<ToWriter<R::File> as OutputStream>⟧ text.now) }
+{
+    match fill_file(ToWriter::new(file), text) {
+        Ok(()) if text.is_empty() => {
+            name.discard(rt);
+            Ok(())
+        }
+        Ok(()) => name.keep(rt),
+        Err(error) => {
+            name.discard(rt);
+            Err(error)
+        }
     }
-    name.keep(rt)
+}
+
+fn fill_file<P: OutputStream + Drop>(mut file: P, text: &[u8]) -> io::Result<()>
+    ensures { OnOk result (WasWritten P.OutputStream text.now) }
+{
+    match write_whole(&mut file, text) {
+        Ok(()) => Ok(()),
+        Err(_) => Err(file.failure().unwrap_or(ErrorKind::Other.into())),
+    }
 }
 
 // Keeps the record of a race, and answers the exit status.
@@ -70,7 +89,9 @@ pub(crate) fn keep_record<R: System, O: OutputStream, F: Write>(
     place: RecordPlace<R::File>,
     text: &[u8],
 ) -> u8
-    ensures { KeepsRecord O.OutputStream text.now session.old.output session.new.output result }
+    requires { IsPlaceOf path place }
+    ensures { KeepsRecord (WasWritten ⟦<ToWriter<R::File> as OutputStream>⟧) O.OutputStream path.entry text.now
+        session.old.output session.new.output result }
 {
     match place {
         RecordPlace::Nowhere => DONE,

@@ -9,6 +9,7 @@ use crate::live::run_live;
 use crate::names::run_names;
 use crate::proxy::run_proxy;
 use crate::system::{System, columns_of};
+use crate::words::tell_short_timeout;
 use he_inputs::StreamFault;
 use he_request::shown::shown_lines;
 use he_request::{Refusal, Request, read_words};
@@ -34,6 +35,7 @@ pub fn run_words<'a, R: System, I: InputStream, O: OutputStream + Send, F: Write
         O.OutputStream line input.old input.new session.old.output session.new.output result }
 {
     let line = read_words(session.alloc, words, VERSION, columns_of(session.system));
+    tell_short_timeout(words, &line, &mut session.faults);
     run_line(session, line, input)
 }
 
@@ -71,7 +73,7 @@ fn refuse<R, O: OutputStream, F: Write>(
             Ok(text) => put_all(session, text.as_bytes(), false),
             Err(_) => report(StreamFault::Memory, &mut session.faults),
         },
-        Refusal::Words(_) | Refusal::Option(_) => {
+        Refusal::Words(_) | Refusal::Option(_) | Refusal::Meant(_) => {
             tell_refusal(session.alloc, refusal, &mut session.faults);
             USAGE
         }
@@ -81,9 +83,17 @@ fn refuse<R, O: OutputStream, F: Write>(
 // Says why a line is refused. Its words may control a terminal, so they are shown.
 fn tell_refusal<F: Write>(alloc: Global, refusal: &Refusal, faults: &mut F) {
     let text = format!(in alloc; "{refusal}");
-    let shown = text.and_then(|text| shown_lines(alloc, text.as_str()));
+    let shown = text.and_then(|text| shown_lines(alloc, of_program(text.as_str())));
     let _ = match shown {
-        Ok(shown) => faults.write_all(shown.as_bytes()),
-        Err(_) => writeln!(faults, "error: a word of the command line is wrong"),
+        Ok(shown) => write!(faults, "he: {shown}"),
+        Err(_) => writeln!(faults, "he: a word of the command line is wrong"),
     };
+}
+
+// A text of clap, or of this program, without the word that it begins with.
+fn of_program(text: &str) -> &str {
+    match text.strip_prefix("error: ") {
+        Some(rest) => rest,
+        None => text.strip_prefix("he: ").unwrap_or(text),
+    }
 }

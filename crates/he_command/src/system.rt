@@ -1,7 +1,7 @@
 //! What a run of the program is lent.
 
 use he_request::limits::{DEFAULT_WIDTH, LEAST_WIDTH, MOST_WIDTH};
-use he_resolver::SystemResolver;
+use he_resolver::{Environment, SystemResolver};
 use he_tasks::TaskSystem;
 use std::env;
 use std::net::Net;
@@ -25,5 +25,28 @@ pub fn columns_of<R: System>(rt: &R) -> u16 {
     match text.parse::<u16>() {
         Ok(columns) => columns.max(LEAST_WIDTH).min(MOST_WIDTH),
         Err(_) => DEFAULT_WIDTH,
+    }
+}
+
+// The variables of the environment that amend the resolver's settings.
+#[derive(Drop)]
+pub(crate) struct Variables {
+    local_domain: Option<String>,
+    res_options: Option<String>,
+}
+
+impl Variables {
+    pub(crate) fn read<R: System>(rt: &R) -> Variables {
+        Variables {
+            local_domain: env::var(rt, "LOCALDOMAIN").ok(),
+            res_options: env::var(rt, "RES_OPTIONS").ok(),
+        }
+    }
+
+    pub(crate) fn environment(&self) -> Environment<'_> {
+        Environment {
+            local_domain: self.local_domain.as_deref(),
+            res_options: self.res_options.as_deref(),
+        }
     }
 }

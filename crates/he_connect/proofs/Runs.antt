@@ -26,8 +26,8 @@ pub ran_so : (request : ConnectRequest) (start : Race) (to : Endpoint) (raced : 
 ran_so request start to raced (Ok run) replays goes of text story winner = record {
   recorded = raced.recorded;
   kept = replays.kept;
-  names = of.names;
-  asked = of.asked;
+  origin = of.origin;
+  comes = of.comes;
   answers = of.answers;
   report = raced.transcript;
   transcript = replays.transcript;
@@ -48,8 +48,8 @@ runs_for request asked tried start to run same runs =
     record {
       recorded = of.recorded;
       kept = of.kept;
-      names = of.names;
-      asked = of.asked;
+      origin = of.origin;
+      comes = of.comes;
       answers = of.answers;
       report = of.report;
       transcript = of.transcript;

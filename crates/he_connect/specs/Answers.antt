@@ -1,6 +1,6 @@
 -- What the race of a connection is told of its host while it runs: what the look-up tells, with the lines of this
 -- machine where they are to come.
-use Rattle.std.specs.Prelude.{ℕ, ◌≡◌, ◌⊎◌, ⊤, Bool, true, false, List, [], Option, Some, None, Ok, Err, is_some, length, map, min, string_bytes, take}
+use Rattle.std.specs.Prelude.{ℕ, ◌≡◌, ◌⊎◌, ⊤, Bool, true, false, List, [], Option, Some, None, Ok, Err, is_some, length, map, min, take}
 use Rattle.he_addr.specs.declared.ip.Family.{Family}
 use Rattle.he_addr.specs.declared.ip.Ip.{Ip}
 use Rattle.he_dns.specs.Texts.{HostName}
@@ -8,11 +8,12 @@ use Rattle.he_host.specs.Ways.{IsMachineTo}
 use Rattle.he_host.specs.declared.taken.TheConstants.{MOST_DESTINATIONS}
 use Rattle.he_names.specs.Answers.{cleaned}
 use Rattle.he_names.specs.Targets.{Means}
+use Rattle.he_names.specs.declared.environment.Environment.{Environment}
 use Rattle.he_names.specs.declared.target.Target.{Target}
-use Rattle.he_names.specs.declared.target.Target.TheVariants as targets
 use Rattle.he_race.specs.Heard.{AnswerLists, cleaned as cleaned_again}
-use Rattle.he_resolver.specs.Heard.{AreHeard, IsSound, Tells, Told, asked_names}
-use Rattle.he_resolver.specs.Plans.{IsPlan}
+use Rattle.he_resolver.specs.Heard.{AreHeard, Asked, BySystem, IsSound, Listed, Origin, Tells, Told, origin_of}
+use Rattle.he_resolver.specs.Known.{AsksSystem, IsKnown}
+use Rattle.he_resolver.specs.Plans.{IsPlanFor}
 use Rattle.he_resolver.specs.declared.choice.Choice.{Choice}
 use Rattle.he_resolver.specs.declared.lookup.Source.{Source}
 use Rattle.he_resolver.specs.declared.plan.QueryPlan.{QueryPlan}
@@ -49,42 +50,46 @@ module _ {R : Type 0} where
   IsOfLookup brings source family (Some answer) =
       (told : Told) × Tells source family told × IsToldOf brings told answer
 
-  -- a poll tells what the look-up tells for the family, which goes on asking for the same names
+  -- a poll tells what the look-up tells for the family, whose addresses come from where they came before
   pub record HearsLookup {F : Type 0} (old : HostAnswers R F) (family : Family) (told : Option AnswerLists)
       (new : HostAnswers R F) : Type 0 where
     pub brings : is_some new.machine ≡ is_some old.machine
-    pub names : asked_names new.lookup.source ≡ asked_names old.lookup.source
+    pub origin : origin_of new.lookup.source ≡ origin_of old.lookup.source
     pub sound : IsSound old.lookup.source → IsSound new.lookup.source
     pub tells : IsSound old.lookup.source → IsOfLookup (is_some old.machine) new.lookup.source family told
 
 -- ---- the record
 
--- the names that name servers are asked for a host: those that resolver(5) gives for it; none where none is asked
-abbrev pub AreNamesFor : Choice → Target → List HostName → Type 0
-AreNamesFor choice (targets.Name name) names =
-    (names ≡ [])
-    ⊎ ((settings : List ℕ) × (plan : QueryPlan) × IsPlan (string_bytes name) settings choice plan
-    × (names ≡ plan.names.items))
-AreNamesFor choice target names = names ≡ []
+-- where the answers for a host come from: of messages to the names that resolver(5) gives for it, where name servers
+-- are asked; of what is known of it by itself or by the file of hosts; of the system's resolver, where that is chosen
+abbrev pub IsOriginFor : Choice → Environment → Target → Origin → Type 0
+IsOriginFor choice environment target (Asked names) =
+    (plan : QueryPlan) × IsPlanFor choice environment target plan × (names ≡ plan.names.items)
+IsOriginFor choice environment target (Listed known) = IsKnown target (Some known)
+IsOriginFor choice environment target BySystem = AsksSystem choice target
 
 -- for the host that a text names
-abbrev pub AsksNames : List ℕ → Choice → List HostName → Type 0
-AsksNames text choice names = (target : Target) × Means text target × AreNamesFor choice target names
+abbrev pub ComesFrom : List ℕ → Choice → Environment → Origin → Type 0
+ComesFrom text choice environment origin =
+    (target : Target) × Means text target × IsOriginFor choice environment target origin
 
--- where name servers are asked for names, addresses are those of the family of all that a message answers for one of
--- them, each once; or there are none
-abbrev pub AreOfNames : List HostName → Family → List Ip → Type 0
-AreOfNames names family ips =
-    (ips ≡ []) ⊎ (names ≡ [])
-    ⊎ ((all : List Ip) × AreHeard names family all × (ips ≡ cleaned_again family (cleaned family all)))
+-- the addresses are those of the family of all that a message answers for one of the names, each once
+abbrev pub AreAnswered : List HostName → Family → List Ip → Type 0
+AreAnswered names family ips =
+    (all : List Ip) × AreHeard names family all × (ips ≡ cleaned_again family (cleaned family all))
+
+-- so; or those of the family of all that are known; or there are none. What the system's resolver has nobody can say.
+abbrev pub AreOf : Origin → Family → List Ip → Type 0
+AreOf (Asked names) family ips = (ips ≡ []) ⊎ AreAnswered names family ips
+AreOf (Listed known) family ips = (ips ≡ []) ⊎ (ips ≡ cleaned_again family (cleaned family known))
+AreOf BySystem family ips = ⊤
 
 -- a family that had no answer has none still, or such addresses
-abbrev pub IsOfNames : List HostName → Family → Option Reply → Option Reply → Type 0
-IsOfNames names family (Some given) later = ⊤
-IsOfNames names family None None = ⊤
-IsOfNames names family None (Some reply) = AreOfNames names family reply.addresses
+abbrev pub IsReplyOf : Origin → Family → Option Reply → Option Reply → Type 0
+IsReplyOf origin family (Some given) later = ⊤
+IsReplyOf origin family None None = ⊤
+IsReplyOf origin family None (Some reply) = AreOf origin family reply.addresses
 
 -- so have both families of a race
-abbrev pub AnswersOfNames : List HostName → Race → Race → Type 0
-AnswersOfNames names race later =
-    (family : Family) → IsOfNames names family (reply_of race family) (reply_of later family)
+abbrev pub AnswersOf : Origin → Race → Race → Type 0
+AnswersOf origin race later = (family : Family) → IsReplyOf origin family (reply_of race family) (reply_of later family)

@@ -4,7 +4,6 @@ use Rattle.std.specs.Prelude.{ℕ, ◌≡◌, ◌⊎◌, List, [], Bool, true, f
 use Rattle.he_addr.specs.declared.ip.Family.{Family}
 use Rattle.he_course.specs.Course.{IsCourse}
 use Rattle.he_course.specs.declared.course.Course.{Course}
-use Rattle.he_dns.specs.Texts.{HostName}
 use Rattle.he_timeline.specs.Race.{Race}
 use Rattle.he_live.specs.Dials.{goes_to}
 use Rattle.he_live.specs.declared.dialed.Dialed.{Dialed}
@@ -13,6 +12,8 @@ use Rattle.he_plan.specs.Transcript.{IsTranscript, Report}
 use Rattle.he_race.specs.Recording.{is_won}
 use Rattle.he_race.specs.Resolving.{KeepsGiven}
 use Rattle.he_race.specs.Winner.{GoesAt}
+use Rattle.he_resolver.specs.Heard.{Origin}
+use Rattle.he_resolver.specs.Known.{FindsKnown, items_of}
 use Rattle.he_resolver.specs.Scopes.{FindsScope}
 use Rattle.he_story.specs.Story.{Tells}
 use Rattle.he_write.specs.Written.{timeline_text}
@@ -20,7 +21,7 @@ use Rattle.he_connect.specs.declared.request.ConnectRequest.{ConnectRequest}
 use Rattle.he_connect.specs.declared.request.Families.{Families}
 use Rattle.he_connect.specs.declared.request.Families.TheVariants as families
 use Rattle.he_connect.specs.declared.setup.Setup.{Setup}
-use Rattle.he_connect.specs.Answers.{AnswersOfNames, AsksNames}
+use Rattle.he_connect.specs.Answers.{AnswersOf, ComesFrom}
 use Rattle.he_connect.specs.Start.{Starts}
 
 -- what explains a race, where that is asked for, is the story of its record's course
@@ -34,16 +35,16 @@ only_of families.Both = None
 only_of (families.Only family) = Some family
 
 -- a race that began so was run for the request: its record keeps what it began with and replays, and each answer that
--- was not given is of the names that are asked for the host; the text is that of the record, and the story, where that
--- is asked for, its own. There is a connection just where it was won, and it goes to the address of the line that won,
--- at the port, and over the interface where that is a link-local one
+-- was not given comes from where those of the host are to come from; the text is that of the record, and the story,
+-- where that is asked for, its own. There is a connection just where it was won, and it goes to the address of the
+-- line that won, at the port, and over the interface where that is a link-local one
 pub record RunsFrom (request : ConnectRequest) (start : Race) (to : Endpoint) (text story : List ℕ)
     (connection : Option Dialed) : Type 0 where
   pub recorded : Race
   pub kept : KeepsGiven start recorded
-  pub names : List HostName
-  pub asked : AsksNames request.host.now request.resolver names
-  pub answers : AnswersOfNames names start recorded
+  pub origin : Origin
+  pub comes : ComesFrom request.host.now request.resolver request.environment origin
+  pub answers : AnswersOf origin start recorded
   pub report : Report
   pub transcript : IsTranscript recorded report
   pub written : text ≡ timeline_text recorded
@@ -64,6 +65,10 @@ pub record Begins (request : ConnectRequest) (tried : Families) (start : Race) (
   pub starts : Starts lines request.settings tried start
   pub port : to.port ≡ request.port
   pub scope : FindsScope request.host.now to.scope
+
+-- what is known of the host of its request without asking
+abbrev pub KnowsHost : Setup → Type 0
+KnowsHost setup = FindsKnown setup.request.host.now setup.request.resolver (items_of setup.known)
 
 -- a race is set up so, for the request with the families that are tried
 pub record IsSetUp (request : ConnectRequest) (setup : Setup) : Type 0 where

@@ -6,6 +6,8 @@ use crate::fault::ConnectFault;
 use crate::request::{ConnectRequest, Families, Lines};
 use he_addr::Family;
 use he_host::families::can_use;
+use he_live::{Reason, Steps};
+use he_plan::Line;
 use std::alloc::AllocGlobal;
 use std::io::Write;
 use std::net::Net;
@@ -38,15 +40,54 @@ fn usable(six: bool, four: bool) -> Families {
     }
 }
 
+fn version_of(family: Family) -> &'static str {
+    match family {
+        Family::V6 => "IPv6",
+        Family::V4 => "IPv4",
+    }
+}
+
+// Appends a line for each family whose network was not reached, where this machine has no way for the family.
+pub(crate) fn write_unusable<R: Files + Net + AllocGlobal>(
+    rt: &R,
+    attempts: &[Line],
+    steps: &Steps,
+    out: &mut Vec<u8>,
+) -> Result<(), ConnectFault> {
+    for family in [Family::V6, Family::V4] {
+        if lacks_network(attempts, steps, family) && !can_use(rt, family)? {
+            let version = version_of(family);
+            let line = format!(in rt.alloc();
+                "he: this machine has no {version} address or route beyond its links\n"
+            )?;
+            out.extend_from_slice(line.as_bytes())?;
+        }
+    }
+    Ok(())
+}
+
+// Whether an attempt of the family failed since its network is not reached.
+fn lacks_network(attempts: &[Line], steps: &Steps, family: Family) -> bool {
+    for attempt in attempts {
+        if attempt.ip.family() == family
+            && steps.reason_of(attempt.place) == Reason::NetworkUnreachable
+        {
+            return true;
+        }
+    }
+    false
+}
+
 // Says which family is not asked for, and why.
 pub(crate) fn tell_unasked<F: Write>(wanted: Families, tried: Families, faults: &mut F) {
     let Families::Only(family) = tried else {
         return;
     };
-    let (record, version, option) = match family {
-        Family::V6 => ("A", "IPv4", "-6"),
-        Family::V4 => ("AAAA", "IPv6", "-4"),
+    let (record, without, option) = match family {
+        Family::V6 => ("A", Family::V4, "-6"),
+        Family::V4 => ("AAAA", Family::V6, "-4"),
     };
+    let version = version_of(without);
     let _ = if wanted == tried {
         writeln!(faults, "he: 0 ms: {record} not asked ({option})")
     } else {

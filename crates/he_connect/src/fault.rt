@@ -1,7 +1,7 @@
 //! Why no race was run.
 use he_host::machine::MachineFault;
 use he_inputs::{InputFault, NotOneRace};
-use he_live::LiveFault;
+use he_live::{LiveFault, Reason};
 use he_resolver::NamesFault;
 use he_words::TextFault;
 use std::alloc::{AllocError, AllocFailed};
@@ -26,6 +26,9 @@ pub enum ConnectFault {
     /// The host has no address, or it cannot be looked up.
     #[error("{0}")]
     Name(NamesFault),
+    /// The process or the machine has as many files open as it may.
+    #[error("too many open files")]
+    Files,
     /// The sockets' event loop could not be made or failed, or the clock did.
     #[error("cannot run the sockets")]
     Runtime,
@@ -90,6 +93,7 @@ impl From<LiveFault> for ConnectFault {
     fn from(fault: LiveFault) -> ConnectFault {
         match fault {
             LiveFault::Memory => ConnectFault::Memory,
+            LiveFault::Files => ConnectFault::Files,
             _ => ConnectFault::Runtime,
         }
     }
@@ -98,8 +102,9 @@ impl From<LiveFault> for ConnectFault {
 // Of the event loop.
 impl From<io::Error> for ConnectFault {
     fn from(error: io::Error) -> ConnectFault {
-        match error.kind() {
-            io::ErrorKind::OutOfMemory => ConnectFault::Memory,
+        match Reason::of(&error) {
+            Reason::OutOfMemory => ConnectFault::Memory,
+            Reason::TooManyFiles | Reason::TooManyFilesInSystem => ConnectFault::Files,
             _ => ConnectFault::Runtime,
         }
     }

@@ -14,8 +14,9 @@
 //!   to its transcript; the story that is asked for is that of this record; there is a connection exactly where this
 //!   race was won, and it was asked for at the address of the line that won and the port, and where that address is a
 //!   link-local one over the interface that stands with the host (`IsRun` in `specs/Races`).
-//! - Where name servers are asked, each answer of that record that the race did not begin with has the addresses of
-//!   the family that a message answers for a name that is to be asked for the host, or none (`specs/Answers`).
+//! - Each answer of that record that the race did not begin with has the addresses of the family that a message
+//!   answers for a name that is to be asked for the host, where name servers are asked; those that are known of the
+//!   host, where they are; or none (`specs/Answers`).
 //! - The race gets what the look-up answers for a family; where the lines of this machine are to come, with the
 //!   machine of what the kernel answers for the first 32 of its addresses (`HearsLookup` in `specs/Answers`).
 //!

@@ -10,21 +10,30 @@ use std::net::Net;
 use std::rt::Files;
 use std::{fs, io};
 
+// Where a race goes before it begins: the addresses that are known without a look-up, and the number of the interface
+// of a link-local one.
+#[derive(Clone, Copy)]
+pub(crate) struct Destinations<'a> {
+    pub(crate) known: Option<&'a [Ip]>,
+    pub(crate) scope: u32,
+}
+
 // The lines of this machine or of a file, of which the last one is ended where it isn't. Where the host's addresses
-// are known without a look-up, the kernel is asked for the ways to them, to a link-local one over the interface of the
-// number. Else there are none: they come with the addresses, while the race runs.
+// are known without a look-up, the kernel is asked for the ways to them, to a link-local one over its interface; a
+// remark is appended for what can't be read or asked. Else there are none: they come with the addresses, while the
+// race runs.
 pub(crate) fn read_lines_of<R: Files + Net + AllocGlobal>(
     rt: &R,
     alloc: Global,
     lines: Lines<'_>,
-    known: Option<&[Ip]>,
-    scope: u32,
+    to: Destinations<'_>,
+    remarks: &mut Vec<u8>,
 ) -> Result<Vec<u8>, ConnectFault> {
     match lines {
         Lines::Machine => {
             let mut text = Vec::new(alloc);
-            if let Some(ips) = known {
-                let machine = find_machine_to(rt, ips, scope)?;
+            if let Some(ips) = to.known {
+                let machine = find_machine_to(rt, ips, to.scope, remarks)?;
                 write_host(&machine, &mut text)?;
             }
             Ok(text)

@@ -3,8 +3,9 @@ ghost use Rattle.std.specs.Prelude.{◌≡◌, IfOk};
 ghost use Rattle.he_write.specs.Written.{timeline_text};
 ghost use Rattle.he_resolver.specs.Begins.{BeginsFor};
 ghost use Rattle.he_resolver.specs.Heard.{IsSound};
-ghost use Rattle.he_connect.specs.Races.{IsExplained, IsRun, RunsFrom, only_of};
+ghost use Rattle.he_connect.specs.Races.{IsExplained, IsRun, KnowsHost, RunsFrom, only_of};
 
+use crate::families::write_unusable;
 use crate::fault::ConnectFault;
 use crate::kernel::write_other_sources;
 use crate::request::{ConnectRequest, Lines};
@@ -80,6 +81,7 @@ where
     F: Write,
     R: Threads + Wait + Clock + RandomSource + AllocGlobal + Net + Files + Sync,
     R: SystemResolver + Copy + Send + 'static,
+    requires known { KnowsHost setup.now }
     ensures race { IfOk result (λ run. RunsFrom setup.now.request setup.now.start setup.now.to run.text.items
         run.story.items run.connection) }
 {
@@ -88,7 +90,7 @@ where
     let why = LookupFaults::new(alloc)?;
     let steps = Steps::new(alloc)?;
     let telling = Telling::new(alloc, faults, &setup.request);
-    let lookup = look_up(rt, alloc, &handle, &setup.request)?;
+    let lookup = look_up(rt, alloc, &handle, setup)?;
     let machine = if setup.brings_lines { Some(rt) } else { None };
     let source = HostAnswers::new(alloc, lookup, machine, why.share()?, &telling)?;
     let request = ResolvingRequest {
@@ -100,7 +102,7 @@ where
     end_with(rt, alloc, setup, why.families(), &steps, raced)
 }
 
-/// A look-up of the host, which waits in the event loop.
+/// A look-up of the host, which waits in the event loop: of what is known of it by the set-up, or by asking.
 ///
 /// # Errors
 ///
@@ -109,26 +111,32 @@ pub fn look_up<'h, R>(
     rt: &'h R,
     alloc: Global,
     handle: &'h Handle,
-    request: &ConnectRequest<'_>,
+    setup: &Setup<'_>,
 ) -> Result<Lookup<'h, R>, ConnectFault>
 where
     R: Threads + Wait + Clock + RandomSource + AllocGlobal + Net + Files + Sync,
     R: SystemResolver + Copy + Send + 'static,
-    ensures begins { IfOk result (λ lookup. BeginsFor request.now.host.now request.now.resolver (only_of
-        request.now.families) lookup.source) }
+    requires known { KnowsHost setup.now }
+    ensures begins { IfOk result (λ lookup. BeginsFor setup.now.request.host.now setup.now.request.resolver
+        setup.now.request.environment (only_of setup.now.request.families) lookup.source) }
     ensures sound { IfOk result (λ lookup. IsSound lookup.source) }
 {
-    let (reactor, timers) = (handle.reactor(), handle.time());
-    let wanted = Wanted {
-        host: request.host,
-        only: request.families.only(),
-        choice: request.resolver,
-    };
-    Ok(Lookup::new(rt, alloc, reactor, timers, wanted)?)
+    match &setup.known {
+        Some(known) => Ok(Lookup::of_known(rt, alloc, Vec::from_slice(alloc, known)?)?),
+        None => {
+            let wanted = Wanted {
+                host: setup.request.host,
+                only: setup.request.families.only(),
+                choice: setup.request.resolver,
+                environment: setup.request.environment,
+            };
+            Ok(Lookup::new(rt, alloc, handle, wanted)?)
+        }
+    }
 }
 
 // What is handed out of the race.
-fn end_with<R: Net>(
+fn end_with<R: Files + Net + AllocGlobal>(
     rt: &R,
     alloc: Global,
     setup: &Setup<'_>,
@@ -158,7 +166,7 @@ fn end_with<R: Net>(
     })
 }
 
-fn texts_of<R: Net>(
+fn texts_of<R: Files + Net + AllocGlobal>(
     rt: &R,
     alloc: Global,
     setup: &Setup<'_>,
@@ -176,10 +184,12 @@ fn texts_of<R: Net>(
     let story = explain(alloc, request.explains, &raced.recorded)?;
     let mut told = Vec::new(alloc);
     if request.tells_steps || request.lines == Lines::Machine {
-        write_other_sources(rt, setup.to.scope, raced, &mut told)?;
+        let is_own = request.lines == Lines::Machine;
+        write_other_sources(rt, setup.to.scope, is_own, raced, &mut told)?;
     }
     if raced.winner.is_none() && why.nameless(request.families).is_none() {
         write_tried(alloc, request, raced, steps, why, &mut told)?;
+        write_unusable(rt, raced.transcript.attempts(), steps, &mut told)?;
     }
     Ok(RaceTexts { text, story, told })
 }

@@ -3,6 +3,7 @@ ghost use Rattle.std.specs.Prelude.{◌≡◌};
 ghost use Rattle.he_connect.specs.Races.{only_of};
 
 use he_addr::Family;
+use he_names::Environment;
 use he_resolver::Choice;
 use he_timeline::Settings;
 
@@ -46,7 +47,9 @@ pub struct ConnectRequest<'a> {
     pub settings: Settings,
     pub lines: Lines<'a>,
     /// Which resolver is asked for the host's addresses.
-    pub resolver: Choice,
+    pub resolver: Choice<'a>,
+    /// By which the file of resolver settings is amended.
+    pub environment: Environment<'a>,
     /// Whether the race is explained.
     pub explains: bool,
     /// Whether each step is reported as it happens.
@@ -65,6 +68,7 @@ impl<'a> ConnectRequest<'a> {
             settings: self.settings,
             lines: self.lines,
             resolver: self.resolver,
+            environment: self.environment,
             explains: self.explains,
             tells_steps: self.tells_steps,
         }

@@ -1,12 +1,13 @@
 //! What the race of a connection is run with.
 ghost use Rattle.std.specs.Prelude.{IfOk};
-ghost use Rattle.he_connect.specs.Races.{IsSetUp};
+ghost use Rattle.he_connect.specs.Races.{IsSetUp, KnowsHost};
 
 use crate::families::{families_to_try, tell_unasked};
 use crate::fault::ConnectFault;
-use crate::lines::read_lines_of;
+use crate::lines::{Destinations, read_lines_of};
 use crate::request::{ConnectRequest, Lines};
 use crate::start::start_race;
+use he_addr::Ip;
 use he_live::Endpoint;
 use he_resolver::{find_known, find_scope};
 use he_timeline::Timeline;
@@ -22,11 +23,14 @@ pub struct Setup<'a> {
     pub request: ConnectRequest<'a>,
     pub start: Timeline,
     pub to: Endpoint,
+    /// The addresses of the host that are known without asking: of the host itself or of the file of hosts.
+    pub known: Option<Vec<Ip>>,
     /// Whether the lines of this machine come with the addresses.
     pub brings_lines: bool,
 }
 
-/// Reads the lines of the race, and which families are tried; says which is not, where that is asked for.
+/// Reads what is known of the host, the lines of the race, and which families are tried; says which is not, where that
+/// is asked for, and which files of this machine can't be read.
 ///
 /// # Errors
 ///
@@ -40,15 +44,22 @@ pub fn set_up<'a, R, F>(
 where
     R: Files + Net + AllocGlobal,
     F: Write,
-    ensures { IfOk result (IsSetUp request.now) }
+    ensures setup { IfOk result (IsSetUp request.now) }
+    ensures known { IfOk result KnowsHost }
 {
-    let known = find_known(rt, alloc, request.host)?;
+    let known = find_known(rt, alloc, request.host, request.resolver)?;
     let scope = find_scope(rt, alloc, request.host)?;
     let tried = families_to_try(rt, request, known.is_some())?;
     if request.tells_steps || request.explains {
         tell_unasked(request.families, tried, faults);
     }
-    let lines = read_lines_of(rt, alloc, request.lines, known.as_deref(), scope)?;
+    let to = Destinations {
+        known: known.as_deref(),
+        scope,
+    };
+    let mut remarks = Vec::new(alloc);
+    let lines = read_lines_of(rt, alloc, request.lines, to, &mut remarks)?;
+    let _ = faults.write_all(remarks.as_slice());
     Ok(Setup {
         start: start_race(alloc, request.settings, tried, &lines)?,
         request: request.with_families(tried),
@@ -57,5 +68,6 @@ where
             scope,
         },
         brings_lines: request.lines == Lines::Machine && known.is_none(),
+        known,
     })
 }

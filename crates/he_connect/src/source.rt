@@ -176,25 +176,28 @@ where
         let ips = told?;
         let known = nothing_known(self.alloc, &ips)?;
         match self.machine {
-            Some(rt) => with_lines(rt, family, &ips, known),
+            Some(rt) => with_lines(rt, family, &ips, known, &self.watcher),
             None => Ok(Answer::without_lines(known)),
         }
     }
 }
 
 // The addresses with the lines of this machine by which the rules take the kernel's sources.
-fn with_lines<R: Net + Files + AllocGlobal>(
+fn with_lines<R: Net + Files + AllocGlobal, W: LookupWatcher>(
     rt: &R,
     family: Family,
     ips: &[Ip],
     known: Vec<Known>,
+    watcher: &W,
 ) -> Result<Answer, NamesFault>
     ensures known { IfOk result (λ answer. answer.known ≡ known) }
     ensures lines { IfOk result (λ answer. HasLines true ips.now (lists_of answer)) }
 {
-    let Ok(machine) = find_machine_of(rt, family, ips) else {
+    let mut remarks = Vec::new(rt.alloc());
+    let Ok(machine) = find_machine_of(rt, family, ips, &mut remarks) else {
         return Err(NamesFault::Memory);
     };
+    watcher.tell_remarks(remarks.as_slice());
     Ok(Answer {
         known,
         sources: Vec::from_slice(rt.alloc(), machine.sources())?,

@@ -13,10 +13,16 @@ use std::io::Write;
 pub trait LookupWatcher: Drop {
     /// Takes what happened since the last call, at the race's tick.
     fn tell_lookup(&self, log: &LookupLog, tick: u64);
+
+    /// Takes lines about files of this machine that can't be read, and destinations that the kernel can't be asked
+    /// for.
+    fn tell_remarks(&self, remarks: &[u8]);
 }
 
 impl LookupWatcher for Quiet {
     fn tell_lookup(&self, _log: &LookupLog, _tick: u64) {}
+
+    fn tell_remarks(&self, _remarks: &[u8]) {}
 }
 
 // Tells each step in a line, where that is asked for. What cannot be written is passed over.
@@ -54,9 +60,20 @@ impl<'h, 'f, F: Write> LookupWatcher for &'h Telling<'f, F> {
             }
         }
     }
+
+    fn tell_remarks(&self, remarks: &[u8]) {
+        self.write_lines(remarks);
+    }
 }
 
 impl<'f, F: Write> Telling<'f, F> {
+    fn write_lines(&self, lines: &[u8]) {
+        if let Some(faults) = self.faults.replace(None) {
+            let _ = faults.write_all(lines);
+            self.faults.set(Some(faults));
+        }
+    }
+
     fn tell_event(&self, event: LookupEvent, tick: u64) {
         if let Some(faults) = self.faults.replace(None) {
             let _ = writeln!(faults, "he: {tick} ms: {event}");
@@ -74,10 +91,7 @@ impl<'f, F: Write> Watcher for Telling<'f, F> {
         if write_step(step, &mut line).is_err() {
             return;
         }
-        if let Some(faults) = self.faults.replace(None) {
-            let _ = faults.write_all(line.as_slice());
-            self.faults.set(Some(faults));
-        }
+        self.write_lines(line.as_slice());
     }
 }
 

@@ -101,16 +101,26 @@ fn write_attempts(
     Ok(())
 }
 
-// That no address was tried: none came in time, or none that came can be.
+// That no address was tried: none came in time, no attempt began in time at one that came, or none that came can be.
 fn write_none(recorded: &Timeline, out: &mut Vec<u8>) -> Result<(), Memory> {
-    if recorded.answer(Family::V6).is_some() && recorded.answer(Family::V4).is_some() {
+    if has_usable(recorded, Family::V6) || has_usable(recorded, Family::V4) {
+        out.extend_from_slice(b": no attempt began in ")?;
+    } else if recorded.answer(Family::V6).is_some() && recorded.answer(Family::V4).is_some() {
         out.extend_from_slice(b": no usable address")?;
         return Ok(());
+    } else {
+        out.extend_from_slice(b": no address came in ")?;
     }
-    out.extend_from_slice(b": no address came in ")?;
     write_number(recorded.settings().limit(), out)?;
     out.extend_from_slice(b" ms")?;
     Ok(())
+}
+
+fn has_usable(recorded: &Timeline, family: Family) -> bool {
+    match recorded.answer(family) {
+        Some((_, ips)) => ips.iter().any(|ip| ip.is_usable()),
+        None => false,
+    }
 }
 
 fn write_attempt(attempt: Line, steps: &Steps, out: &mut Vec<u8>) -> Result<(), Memory> {

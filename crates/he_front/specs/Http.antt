@@ -1,10 +1,11 @@
 -- What a client of HTTP asks for: the head of a request (RFC 9112 section 3).
-use Rattle.std.specs.Prelude.{◌≡◌, ◌≢◌, ◌≤◌, IfSome, ℕ, Bool, List, Option, codes, drop, find, map}
+use Rattle.std.specs.Prelude.{◌≡◌, ◌≢◌, ◌≤◌, IfSome, ℕ, Bool, true, false, List, Option, codes, count_by, drop, find, map, nat_le}
 use Rattle.std.specs.Char.{to_ascii_lowercase}
 use Rattle.std.specs.Option.{option_map}
 use Rattle.std.specs.Str.{bytes_eq}
 use Rattle.httparse.specs.Grammar.{HasNoRequest, MayBecomeRequest, ReadsRequest, RequestHead}
 use Rattle.httparse.specs.declared.spans.HeaderSpan.{HeaderSpan}
+use Rattle.httparse.specs.declared.spans.Span.{Span}
 use Rattle.httparse.specs.Spans.{IsWithin, RequestOverflows, name_and_value, span_bytes}
 use Rattle.he_front.specs.declared.http.Head.{Head}
 use Rattle.he_front.specs.declared.http.Head.TheVariants as heads
@@ -18,7 +19,8 @@ use Rattle.he_front.specs.declared.http.TheConstants.{MOST_FIELDS}
 abbrev pub IsMethod : List ℕ → Method → Type 0
 IsMethod method methods.Connect = method ≡ codes "CONNECT"
 IsMethod method methods.Get = method ≡ codes "GET"
-IsMethod method methods.Other = (method ≢ codes "CONNECT") × (method ≢ codes "GET")
+IsMethod method methods.Head = method ≡ codes "HEAD"
+IsMethod method methods.Other = (method ≢ codes "CONNECT") × (method ≢ codes "GET") × (method ≢ codes "HEAD")
 
 -- a field's name counts in any case of letters (RFC 9110 section 5.1)
 abbrev pub is_named : List ℕ → List ℕ → Bool
@@ -32,14 +34,34 @@ value_of name fields = option_map (λ field. field.1) (find (λ field. is_named 
 abbrev pub field_named : List ℕ → List ℕ → List HeaderSpan → Option HeaderSpan
 field_named octets name fields = find (λ field. is_named name (span_bytes octets field.name)) fields
 
--- what is asked for: a tunnel to this target; this target, of this host; or something else
+-- how many fields have this name
+abbrev pub count_of : List ℕ → List (List ℕ × List ℕ) → ℕ
+count_of name fields = count_by (λ field. is_named name field.0) fields
+
+abbrev pub count_named : List ℕ → List ℕ → List HeaderSpan → ℕ
+count_named octets name fields = count_by (λ field. is_named name (span_bytes octets field.name)) fields
+
+-- more than one field Host, so that the request is none (RFC 9112 section 3.2)
+abbrev pub has_two_hosts : RequestHead → Bool
+has_two_hosts request = nat_le 2 (count_of (codes "host") (map name_and_value request.fields))
+
+-- the target, and the value of the field Host, stand here
+abbrev pub HasTarget : List ℕ → RequestHead → Span → Option Span → Type 0
+HasTarget octets request target host =
+    (span_bytes octets target ≡ request.target)
+    × (option_map (span_bytes octets) host ≡ value_of (codes "host") (map name_and_value request.fields))
+
+-- what is asked for: a tunnel to this target; this target, of this host, with or without the body; or something else
 abbrev pub AsksFor : List ℕ → RequestHead → Head → Type 0
 AsksFor octets request (heads.Tunnel target) =
-    IsMethod request.method methods.Connect × (span_bytes octets target ≡ request.target)
+    (has_two_hosts request ≡ false) × IsMethod request.method methods.Connect
+    × (span_bytes octets target ≡ request.target)
 AsksFor octets request (heads.Get target host) =
-    IsMethod request.method methods.Get × (span_bytes octets target ≡ request.target)
-    × (option_map (span_bytes octets) host ≡ value_of (codes "host") (map name_and_value request.fields))
-AsksFor octets request heads.Other = IsMethod request.method methods.Other
+    (has_two_hosts request ≡ false) × IsMethod request.method methods.Get × HasTarget octets request target host
+AsksFor octets request (heads.Head target host) =
+    (has_two_hosts request ≡ false) × IsMethod request.method methods.Head × HasTarget octets request target host
+AsksFor octets request heads.TwoHosts = has_two_hosts request ≡ true
+AsksFor octets request heads.Other = (has_two_hosts request ≡ false) × IsMethod request.method methods.Other
 
 -- the octets begin with a head that asks for this, and ends here
 abbrev pub HasHead : List ℕ → Head → ℕ → Type 0
@@ -50,6 +72,8 @@ HasHead octets head len =
 abbrev pub LiesWithin : ℕ → Head → Type 0
 LiesWithin n (heads.Tunnel target) = IsWithin n target
 LiesWithin n (heads.Get target host) = IsWithin n target × IfSome host (IsWithin n)
+LiesWithin n (heads.Head target host) = IsWithin n target × IfSome host (IsWithin n)
+LiesWithin n heads.TwoHosts = Unit {0}
 LiesWithin n heads.Other = Unit {0}
 
 abbrev pub IsReadWithin : ℕ → ReadHead → Type 0

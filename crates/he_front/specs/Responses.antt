@@ -29,9 +29,9 @@ status_text status phrase = codes "HTTP/1.1 " ++ (decimal status ++ (codes " " +
 unfoldable pub media_text : List ℕ → List ℕ
 media_text media = codes "Content-Type: " ++ (media ++ codes "\r\n")
 
--- its length, and that the connection is closed after it
+-- its length, that nothing keeps it (RFC 9111 section 5.2.2.5), and that the connection is closed after it
 unfoldable pub len_text : ℕ → List ℕ
-len_text len = codes "Content-Length: " ++ (decimal len ++ codes "\r\nConnection: close\r\n\r\n")
+len_text len = codes "Content-Length: " ++ (decimal len ++ codes "\r\nCache-Control: no-store\r\nConnection: close\r\n\r\n")
 
 -- what stands before a body of so many octets
 unfoldable pub head_text : ℕ → List ℕ → List ℕ → ℕ → List ℕ

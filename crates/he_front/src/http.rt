@@ -1,9 +1,9 @@
 // What a client of HTTP asks for (RFC 9112 section 3; a tunnel: RFC 9110 section 9.3.6).
 
-ghost use Rattle.std.specs.Prelude.{◌≡◌, All, IfSome, length, map};
+ghost use Rattle.std.specs.Prelude.{◌≡◌, All, IfSome, length, map, nat_le};
 ghost use Rattle.std.specs.Option.{option_map};
 ghost use Rattle.httparse.specs.Spans.{header_bytes, span_bytes, IsHeaderWithin, IsRequestOf, IsRequestWithin, IsWithin};
-ghost use Rattle.he_front.specs.Http.{HasHead, IsMethod, IsReadWithin, LiesWithin, ReadsHead, field_named, is_named, value_of};
+ghost use Rattle.he_front.specs.Http.{HasHead, IsMethod, IsReadWithin, LiesWithin, ReadsHead, count_named, field_named, is_named, value_of};
 
 use httparse::Status;
 use httparse::spans::{EMPTY_HEADER_SPAN, HeaderSpan, RequestSpans, Span, parse_request};
@@ -16,8 +16,12 @@ pub const MOST_FIELDS: usize = 64;
 pub enum Head {
     /// CONNECT, and where its target stands.
     Tunnel(Span),
-    /// GET: where its target stands, and the value of its first field Host.
+    /// GET: where its target stands, and the value of its field Host.
     Get(Span, Option<Span>),
+    /// HEAD: the same.
+    Head(Span, Option<Span>),
+    /// A request of any method with more than one field Host (RFC 9112 section 3.2).
+    TwoHosts,
     /// Another method.
     Other,
 }
@@ -37,6 +41,7 @@ pub enum ReadHead {
 enum Method {
     Connect,
     Get,
+    Head,
     Other,
 }
 
@@ -47,6 +52,8 @@ fn method_of(method: &[u8]) -> Method
         Method::Connect
     } else if method == b"GET".as_slice() {
         Method::Get
+    } else if method == b"HEAD".as_slice() {
+        Method::Head
     } else {
         Method::Other
     }
@@ -74,14 +81,31 @@ fn head_of(octets: &[u8], fields: &[HeaderSpan], spans: &RequestSpans) -> Head
     ensures head { HasHead octets.now result spans.now.len }
     ensures within { LiesWithin (length octets.now) result }
 {
+    let given = &fields[..spans.headers];
+    if has_two(octets, given, b"host") {
+        return Head::TwoHosts;
+    }
+    let host = value_named(octets, given, b"host");
     match method_of(spans.method.of(octets)) {
         Method::Connect => Head::Tunnel(spans.path),
-        Method::Get => {
-            let host = value_named(octets, &fields[..spans.headers], b"host");
-            Head::Get(spans.path, host)
-        }
+        Method::Get => Head::Get(spans.path, host),
+        Method::Head => Head::Head(spans.path, host),
         Method::Other => Head::Other,
     }
+}
+
+// Whether more than one field has this name.
+fn has_two(octets: &[u8], fields: &[HeaderSpan], name: &[u8]) -> bool
+    requires { All (IsHeaderWithin (length octets.now)) fields.now }
+    ensures { result ≡ nat_le 2 (count_named octets.now name.now fields.now) }
+{
+    let mut count = 0usize;
+    for field in fields {
+        if is_named(field.name.of(octets), name) {
+            count += 1;
+        }
+    }
+    count >= 2
 }
 
 // Where the value of the first field of this name stands.

@@ -152,7 +152,10 @@ fn write_len<A: Allocator + Copy>(len: usize, out: &mut Vec<u8, A>) -> Result<()
 {
     write_octets(b"Content-Length: ", out)?;
     write_number(len as u64, out)?;
-    write_octets(b"\r\nConnection: close\r\n\r\n", out)
+    write_octets(
+        b"\r\nCache-Control: no-store\r\nConnection: close\r\n\r\n",
+        out,
+    )
 }
 
 /// Appends the proxy auto-config text that sends a browser's requests to this address and port by SOCKS 5, and

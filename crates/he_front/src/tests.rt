@@ -134,7 +134,7 @@ fn a_response_has_its_reason(rt: HostRuntime) -> Result<(), Fail> {
         out.as_slice()
             == b"HTTP/1.1 200 Connection established\r\n\r\n\
         HTTP/1.1 504 Gateway Timeout\r\nContent-Type: text/plain\r\nContent-Length: 10\r\n\
-        Connection: close\r\n\r\nno answer\n"
+        Cache-Control: no-store\r\nConnection: close\r\n\r\nno answer\n"
                 .as_slice()
     );
     Ok(())

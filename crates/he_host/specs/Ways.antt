@@ -1,8 +1,9 @@
 -- The machine by which the rules take the sources that the kernel takes (RFC 6724 section 5).
-use Rattle.std.specs.Prelude.{◌≡◌, ◌++◌, Bool, true, false, not, if◌then◌else◌, List, [], ◌∷◌, find, map, Option, Some, None, Result, Ok, Err, option_map}
+use Rattle.std.specs.Prelude.{◌≡◌, ◌++◌, Bool, true, false, not, if◌then◌else◌, List, [], ◌∷◌, count_by, find, map, nat_le, Option, Some, None, Result, Ok, Err, option_map}
 use Rattle.std.specs.List.{list_any}
+use Rattle.std.specs.Option.{option_map_or}
 use Rattle.he_addr.specs.declared.ip.Ip.{Ip}
-use Rattle.he_addr.specs.Ip.{mapped_of, same_ip}
+use Rattle.he_addr.specs.Ip.{is_v6, mapped_of, same_ip}
 use Rattle.he_addr.specs.Prefix.{PrefixBits}
 use Rattle.he_select.specs.declared.policy.Row.{Row}
 use Rattle.he_select.specs.Hosts.{HostLists}
@@ -89,3 +90,11 @@ IsMachineOf ways host =
 -- the machine of what the kernel answered for these destinations
 abbrev pub IsMachineTo : List Ip → HostLists → Type 0
 IsMachineTo ips host = (ways : List Way) × (map (λ way. way.to) ways ≡ ips) × IsMachineOf ways host
+
+-- the kernel takes an IPv4 source, which it does for IPv4 destinations alone
+abbrev pub is_v4_way : Way → Bool
+is_v4_way way = option_map_or (λ ip. not (is_v6 ip)) way.from false
+
+-- Rule 9 (RFC 6724 section 6) compares destinations of one family with their sources: two of IPv4 have one.
+abbrev pub compares_v4 : List Way → Bool
+compares_v4 ways = nat_le 2 (count_by is_v4_way ways)

@@ -6,7 +6,7 @@ use crate::if_inet6::{make_source, read_address_line};
 use crate::ipv4_route::read_v4_line;
 use crate::kernel::{NO_SCOPE, ROOT_SERVER_V4, ROOT_SERVER_V6, ask_source};
 use crate::lines::read_lines;
-use crate::machine::MachineFault;
+use crate::machine::{MachineFault, is_absent};
 use crate::taken::read_link_in;
 use he_addr::prefix::V6_BITS;
 use he_addr::{Family, Ip};
@@ -22,38 +22,50 @@ const MOST_BYTES: u64 = 8_192;
 // The scope of a link and of the loopback interface (RFC 6724 section 3.1).
 const LINK_SCOPE: u8 = 2;
 
-// The first bytes of a file, up to a line's end; none where it isn't there.
-fn read_head<R: FileSystem + AllocGlobal>(rt: &R, path: &str) -> Result<Vec<u8>, MachineFault> {
+// The first bytes of a file, up to a line's end; none where it isn't there, and None where it can't be read.
+fn read_head<R: FileSystem + AllocGlobal>(
+    rt: &R,
+    path: &str,
+) -> Result<Option<Vec<u8>>, MachineFault> {
     let mut head = Vec::new(rt.alloc());
-    if let Ok(file) = File::open(rt, path) {
-        file.take(MOST_BYTES).read_to_end(&mut head)?;
+    match File::open(rt, path) {
+        Ok(file) => {
+            file.take(MOST_BYTES).read_to_end(&mut head)?;
+        }
+        Err(error) if is_absent(&error) => {}
+        Err(_) => return Ok(None),
     }
     let end = head.iter().rposition(|byte| *byte == b'\n').unwrap_or(0);
     head.truncate(end);
-    Ok(head)
+    Ok(Some(head))
 }
 
 fn is_wide(ip: Ip) -> bool {
     ip.is_usable() && ip.scope() > LINK_SCOPE
 }
 
-// Whether an IPv6 address beyond the scope of a link is in use, on a network.
+// Whether an IPv6 address beyond the scope of a link is in use, on a network, or may be: a file can't be read.
 fn has_v6_network<R: FileSystem + AllocGlobal>(rt: &R) -> Result<bool, MachineFault> {
-    let text = read_head(rt, "/proc/net/if_inet6")?;
+    let Some(text) = read_head(rt, "/proc/net/if_inet6")? else {
+        return Ok(true);
+    };
+    let mut remarks = Vec::new(rt.alloc());
     for line in read_lines(rt.alloc(), &text)?.iter() {
         if let Some(read) = read_address_line(line.text) {
-            let source = make_source(read, read_link_in(rt, line.text)?);
+            let source = make_source(read, read_link_in(rt, line.text, &mut remarks)?);
             if source.is_ok_and(|source| source.plen < V6_BITS && is_wide(source.ip)) {
                 return Ok(true);
             }
         }
     }
-    Ok(false)
+    Ok(!remarks.is_empty())
 }
 
-// Whether there is an IPv4 route that leads to a network.
+// Whether there is an IPv4 route that leads to a network, or may be: the file can't be read.
 fn has_v4_network<R: FileSystem + AllocGlobal>(rt: &R) -> Result<bool, MachineFault> {
-    let text = read_head(rt, "/proc/net/route")?;
+    let Some(text) = read_head(rt, "/proc/net/route")? else {
+        return Ok(true);
+    };
     for line in read_lines(rt.alloc(), &text)?.iter() {
         if let Some(read) = read_v4_line(line.text) {
             if !read.nowhere && is_wide(Ip::V4(read.destination)) {
@@ -66,7 +78,8 @@ fn has_v4_network<R: FileSystem + AllocGlobal>(rt: &R) -> Result<bool, MachineFa
 
 /// Whether this machine can use a family: it has a source of it beyond loopback and the scope of a link, and a way
 /// (AI_ADDRCONFIG of RFC 3493 section 6.1, with a route beside the address). The kernel is asked from where it reaches
-/// the internet, which sends nothing; where it does not, a network of this machine's own will do.
+/// the internet, which sends nothing; where it does not, a network of this machine's own will do. Where the files of
+/// these can't be read, it counts as one that can be used.
 ///
 /// # Errors
 ///

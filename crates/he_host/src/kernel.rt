@@ -2,11 +2,13 @@
 //
 // Proved is that it is safe and ends; what the system answers is in no contract.
 
-ghost use Rattle.std.specs.Prelude.{◌≡◌};
+ghost use Rattle.std.specs.Prelude.{◌≡◌, IfOk};
 
 use crate::ways::Way;
-use he_addr::Ip;
 use he_addr::prefix::V4_BITS;
+use he_addr::{Ip, Memory, write_ip};
+use std::alloc::AllocGlobal;
+use std::io;
 use std::io::ErrorKind;
 use std::net::{
     IpAddr, Ipv4Addr, Ipv6Addr, Net, SocketAddr, SocketAddrV4, SocketAddrV6, UdpSocket,
@@ -45,25 +47,76 @@ fn any_of(ip: Ip) -> IpAddr {
     }
 }
 
-/// The source that the kernel takes for an address; `None` where it has no way to it. To a link-local address of IPv6
-/// the way is over the interface of this number (RFC 4007 section 6), and without one there is none.
+// Linux's numbers of the errors of a socket that isn't made: this machine has no addresses of the family.
+const EAFNOSUPPORT: i32 = 97;
+
+const EADDRNOTAVAIL: i32 = 99;
+
+// Linux's numbers of the errors of connect(2) that say nothing of a way: there is no port or no memory.
+const EAGAIN: i32 = 11;
+
+const ENOMEM: i32 = 12;
+
+const ENOBUFS: i32 = 105;
+
+/// The source that the kernel takes for an address; `None` where it has no way to it, or can't be asked. To a
+/// link-local address of IPv6 the way is over the interface of this number (RFC 4007 section 6), and without one there
+/// is none.
 pub fn ask_source<R: Net>(rt: &R, ip: Ip, scope: u32) -> Option<Ip> {
-    let socket = UdpSocket::bind(rt, (any_of(ip), 0u16)).ok()?;
-    socket.connect(socket_address(ip, scope)).ok()?;
-    match socket.local_addr().ok()?.ip() {
-        IpAddr::V4(source) => Some(Ip::V4(source.to_bits())),
-        IpAddr::V6(source) => Some(Ip::V6(source.to_bits())),
-    }
+    try_source(rt, ip, scope).unwrap_or(None)
 }
 
-/// What the kernel answers for a destination, as [`ask_source`] says.
-pub fn ask_way<R: Net>(rt: &R, to: Ip, scope: u32) -> Way
-    ensures { result.to ≡ to }
-{
-    Way {
-        to,
-        from: ask_source(rt, to, scope),
+// The source, as `ask_source` says, or why the kernel can't be asked.
+fn try_source<R: Net>(rt: &R, ip: Ip, scope: u32) -> io::Result<Option<Ip>> {
+    let socket = match UdpSocket::bind(rt, (any_of(ip), 0u16)) {
+        Ok(socket) => socket,
+        Err(error) => return none_where(is_without_family(&error), error),
+    };
+    if let Err(error) = socket.connect(socket_address(ip, scope)) {
+        return none_where(!is_want(&error), error);
     }
+    Ok(Some(match socket.local_addr()?.ip() {
+        IpAddr::V4(source) => Ip::V4(source.to_bits()),
+        IpAddr::V6(source) => Ip::V6(source.to_bits()),
+    }))
+}
+
+fn none_where(is_answer: bool, error: io::Error) -> io::Result<Option<Ip>> {
+    if is_answer { Ok(None) } else { Err(error) }
+}
+
+fn is_without_family(error: &io::Error) -> bool {
+    matches!(error.raw_os_error(), Some(EAFNOSUPPORT | EADDRNOTAVAIL))
+}
+
+fn is_want(error: &io::Error) -> bool {
+    matches!(error.raw_os_error(), Some(EAGAIN | ENOMEM | ENOBUFS))
+}
+
+/// What the kernel answers for a destination, as [`ask_source`] says; where it can't be asked, a remark is appended.
+///
+/// # Errors
+///
+/// [`Memory`]: an allocation was refused.
+pub fn ask_way<R: Net + AllocGlobal>(
+    rt: &R,
+    to: Ip,
+    scope: u32,
+    remarks: &mut Vec<u8>,
+) -> Result<Way, Memory>
+    ensures { IfOk result (λ way. way.to ≡ to) }
+{
+    let from = match try_source(rt, to, scope) {
+        Ok(from) => from,
+        Err(error) => {
+            remarks.extend_from_slice(b"he: the kernel can't be asked for the way to ")?;
+            write_ip(to, remarks)?;
+            let why = format!(in rt.alloc(); ": {error}\n")?;
+            remarks.extend_from_slice(why.as_bytes())?;
+            None
+        }
+    };
+    Ok(Way { to, from })
 }
 
 // Whether it is the broadcast address of a network of this machine: the kernel connects to one only where that is

@@ -57,18 +57,42 @@ impl From<io::Error> for MachineFault {
     }
 }
 
-// The bytes of a file; none where it isn't there.
+// Linux's numbers of the errors for which a file has nothing to say: it isn't there, its interface isn't there any
+// more, a part of its path is no directory, and the interface is down, so that it has no carrier.
+const ENOENT: i32 = 2;
+
+const ENODEV: i32 = 19;
+
+const ENOTDIR: i32 = 20;
+
+const EINVAL: i32 = 22;
+
+// Whether there is no such file, or it has nothing to say.
+pub(crate) fn is_absent(error: &io::Error) -> bool {
+    matches!(
+        error.raw_os_error(),
+        Some(ENOENT | ENODEV | ENOTDIR | EINVAL)
+    )
+}
+
+// The bytes of a file; none where it isn't there. A file that is there and can't be read has none, and a remark.
 pub(crate) fn read_if_there<R: FileSystem + AllocGlobal>(
     rt: &R,
     path: &str,
+    remarks: &mut Vec<u8>,
 ) -> Result<Vec<u8>, MachineFault> {
-    match fs::read(rt, path) {
-        Ok(bytes) => Ok(bytes),
-        Err(error) => match MachineFault::from(error) {
-            MachineFault::Memory => Err(MachineFault::Memory),
-            MachineFault::NoFiles => Ok(Vec::new(rt.alloc())),
-        },
+    let error = match fs::read(rt, path) {
+        Ok(bytes) => return Ok(bytes),
+        Err(error) => error,
+    };
+    if error.kind() == io::ErrorKind::OutOfMemory {
+        return Err(MachineFault::Memory);
     }
+    if !is_absent(&error) {
+        let line = format!(in rt.alloc(); "he: cannot read {path}: {error}\n")?;
+        remarks.extend_from_slice(line.as_bytes())?;
+    }
+    Ok(Vec::new(rt.alloc()))
 }
 
 // An interface with its name, before it is lent.
@@ -82,19 +106,21 @@ fn read_sysfs<R: FileSystem + AllocGlobal>(
     rt: &R,
     name: &str,
     file: &str,
+    remarks: &mut Vec<u8>,
 ) -> Result<Vec<u8>, MachineFault> {
     let path = format!(in rt.alloc(); "/sys/class/net/{name}/{file}")?;
-    read_if_there(rt, path.as_str())
+    read_if_there(rt, path.as_str(), remarks)
 }
 
 pub(crate) fn read_link_of<R: FileSystem + AllocGlobal>(
     rt: &R,
     name: &str,
+    remarks: &mut Vec<u8>,
 ) -> Result<Link, MachineFault> {
-    let ifindex = read_sysfs(rt, name, "ifindex")?;
-    let flags = read_sysfs(rt, name, "flags")?;
-    let carrier = read_sysfs(rt, name, "carrier")?;
-    let kind = read_sysfs(rt, name, "type")?;
+    let ifindex = read_sysfs(rt, name, "ifindex", remarks)?;
+    let flags = read_sysfs(rt, name, "flags", remarks)?;
+    let carrier = read_sysfs(rt, name, "carrier", remarks)?;
+    let kind = read_sysfs(rt, name, "type", remarks)?;
     Ok(make_link(Sysfs {
         ifindex: &ifindex,
         flags: &flags,
@@ -111,14 +137,17 @@ fn name_in<'t>(line: &'t [u8]) -> Option<&'t str> {
 }
 
 // The interfaces that `/proc/net/dev` names.
-fn read_interfaces<R: FileSystem + AllocGlobal>(rt: &R) -> Result<Vec<Named>, MachineFault> {
+fn read_interfaces<R: FileSystem + AllocGlobal>(
+    rt: &R,
+    remarks: &mut Vec<u8>,
+) -> Result<Vec<Named>, MachineFault> {
     let text = fs::read(rt, "/proc/net/dev")?;
     let mut interfaces = Vec::new(rt.alloc());
     for line in read_lines(rt.alloc(), &text)?.iter() {
         if let Some(name) = name_in(line.text) {
             interfaces.push(Named {
                 name: Vec::from_slice(rt.alloc(), name.as_bytes())?,
-                link: read_link_of(rt, name)?,
+                link: read_link_of(rt, name, remarks)?,
             })?;
         }
     }
@@ -307,7 +336,8 @@ fn ask_host<R: Net + AllocGlobal>(
     Ok(found)
 }
 
-/// Appends the lines of this machine, and a line for each thing that it has no place for or that is a guess.
+/// Appends the lines of this machine, and a line for each thing that it has no place for or that is a guess, and for
+/// each file that is there and can't be read.
 ///
 /// # Errors
 ///
@@ -317,7 +347,7 @@ pub fn write_machine<R: FileSystem + Net + AllocGlobal>(
     lines: &mut Vec<u8>,
     remarks: &mut Vec<u8>,
 ) -> Result<(), MachineFault> {
-    let named = read_interfaces(rt)?;
+    let named = read_interfaces(rt, remarks)?;
     let mut interfaces = Vec::new(rt.alloc());
     for interface in named.iter() {
         interfaces.push(Interface {
@@ -325,9 +355,9 @@ pub fn write_machine<R: FileSystem + Net + AllocGlobal>(
             link: interface.link,
         })?;
     }
-    let if_inet6 = read_if_there(rt, "/proc/net/if_inet6")?;
+    let if_inet6 = read_if_there(rt, "/proc/net/if_inet6", remarks)?;
     let fib_trie = fs::read(rt, "/proc/net/fib_trie")?;
-    let ipv6_route = read_if_there(rt, "/proc/net/ipv6_route")?;
+    let ipv6_route = read_if_there(rt, "/proc/net/ipv6_route", remarks)?;
     let route = fs::read(rt, "/proc/net/route")?;
     let files = Files {
         if_inet6: &if_inet6,

@@ -26,7 +26,10 @@ failed : (Given : List ℕ → Bool → Type 0) (Whole Part : List ℕ → Type 
 failed Given Whole Part Kept changes own told fault (inl e) given kept =
     let at : Lives Given Whole Part Kept changes told (Err faults.Runtime) = (own, given, kept) in
     subst (λ (f : LiveFault). Lives Given Whole Part Kept changes told (Err f)) (sym e) at
-failed Given Whole Part Kept changes own told fault (inr e) given kept =
+failed Given Whole Part Kept changes own told fault (inr (inl e)) given kept =
+    let at : Lives Given Whole Part Kept changes told (Err faults.Files) = (own, given, kept) in
+    subst (λ (f : LiveFault). Lives Given Whole Part Kept changes told (Err f)) (sym e) at
+failed Given Whole Part Kept changes own told fault (inr (inr e)) given kept =
     let at : Lives Given Whole Part Kept changes told (Err faults.Memory) = kept in
     subst (λ (f : LiveFault). Lives Given Whole Part Kept changes told (Err f)) (sym e) at
 

@@ -14,10 +14,19 @@ use Rattle.he_live.specs.Reasons.{AreFailed}
 use Rattle.he_live.specs.declared.recording.LiveReport.{LiveReport}
 use Rattle.he_live.specs.declared.fault.LiveFault.{LiveFault}
 use Rattle.he_live.specs.declared.fault.LiveFault.TheVariants as faults
+use Rattle.he_live.specs.declared.reason.Reason.{Reason}
+use Rattle.he_live.specs.declared.reason.Reason.TheVariants.{OutOfMemory, TooManyFiles, TooManyFilesInSystem}
 
--- what may go wrong with a race itself: its runtime, or memory
+-- what may go wrong with a race itself: its runtime, descriptors, or memory
 abbrev pub IsRunFault : LiveFault → Type 0
-IsRunFault fault = (fault ≡ faults.Runtime) ⊎ (fault ≡ faults.Memory)
+IsRunFault fault = (fault ≡ faults.Runtime) ⊎ ((fault ≡ faults.Files) ⊎ (fault ≡ faults.Memory))
+
+-- the fault of an event loop that can't be made or fails, by the system's error
+abbrev pub run_fault : Reason → LiveFault
+run_fault TooManyFiles = faults.Files
+run_fault TooManyFilesInSystem = faults.Files
+run_fault OutOfMemory = faults.Memory
+run_fault reason = faults.Runtime
 
 -- the text of a race that was run, what is told of it, and how it ended: the text is a transcript and then the record,
 -- which has the race's settings, policy, host, answers and what is known from earlier, and replays to this transcript
@@ -76,6 +85,7 @@ Lives Given Whole Part Kept changes told (Err faults.Read) = GivesNone Given (on
 Lives Given Whole Part Kept changes told (Err faults.Write) =
     (text : List ℕ) × (result : Outcome3) × GivesText Given changes text told result × Part text
 Lives Given Whole Part Kept changes told (Err faults.Runtime) = (race : Race) × GivesOne Given race × Kept
+Lives Given Whole Part Kept changes told (Err faults.Files) = (race : Race) × GivesOne Given race × Kept
 Lives Given Whole Part Kept changes told (Err faults.Memory) = Kept
 
 -- after a fault before the race was run to its end, what is told is as it was

@@ -32,10 +32,11 @@ impl Dialing {
 
     // Ready once the connection stands, or with why it does not.
     //
-    // The system is asked first: a socket has a peer's address only where it is connected, also where the event loop
-    // has not looked at it yet, as after a stop. Before the event loop has seen a socket it counts as writable. A
-    // send of no byte tells: while the connection is being made it would block, so that the loop waits for its end,
-    // and where it failed it tells the fault, which the system tells once.
+    // The system is asked first, also where the event loop has not looked at the socket yet, as after a stop: a socket
+    // has a peer's address only where it is connected, and its error is that of a connection that failed. An ICMP
+    // error that comes during connect(2), as from this machine's own firewall, is there alone: no send reports it.
+    // Before the event loop has seen a socket it counts as writable. A send of no byte would block while the
+    // connection is being made, so that the loop waits for its end.
     pub(crate) fn poll_connected(&mut self, cx: &mut Context<'_>) -> Poll<io::Result<()>>
         ensures waits { OnPending result (Covers cx.new (λ source. source ≡ stream_writable self.new.watched)) }
         ensures same { self.new.to ≡ self.old.to }
@@ -43,6 +44,9 @@ impl Dialing {
     {
         if self.kept.peer_addr().is_ok() {
             return Poll::Ready(Ok(()));
+        }
+        if let Ok(Some(error)) = self.kept.take_error() {
+            return Poll::Ready(Err(error));
         }
         match self.watched.poll_write(cx, &[]) {
             Poll::Pending => Poll::Pending,

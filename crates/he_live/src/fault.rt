@@ -1,8 +1,10 @@
 //! Why a live race gave nothing.
 ghost use Rattle.std.specs.Prelude.{◌≡◌};
 ghost use Rattle.he_live.specs.declared.fault.LiveFault.TheVariants.{Memory};
-ghost use Rattle.he_live.specs.Live.{IsRunFault, fault_of_input};
+ghost use Rattle.he_live.specs.Live.{IsRunFault, fault_of_input, run_fault};
+ghost use Rattle.he_live.specs.Reasons.{reason_of};
 
+use crate::reason::Reason;
 use he_inputs::{InputFault, NotOneRace};
 use he_words::TextFault;
 use std::alloc::AllocError;
@@ -24,6 +26,9 @@ pub enum LiveFault {
     /// A step of the output failed or took no byte, the flush failed, or the bound of steps was reached.
     #[error("cannot write the output")]
     Write,
+    /// The process or the machine has as many files open as it may.
+    #[error("too many open files")]
+    Files,
     /// The sockets' event loop could not be made or failed, or the clock did.
     #[error("cannot run the sockets")]
     Runtime,
@@ -41,11 +46,12 @@ impl From<AllocError> for LiveFault {
 }
 
 impl From<io::Error> for LiveFault {
-    ghost from_gives = { λ _ fault. IsRunFault fault };
+    ghost from_gives = { λ error fault. (fault ≡ run_fault (reason_of error)) × IsRunFault fault };
 
     fn from(error: io::Error) -> LiveFault {
-        match error.kind() {
-            io::ErrorKind::OutOfMemory => LiveFault::Memory,
+        match Reason::of(&error) {
+            Reason::TooManyFiles | Reason::TooManyFilesInSystem => LiveFault::Files,
+            Reason::OutOfMemory => LiveFault::Memory,
             _ => LiveFault::Runtime,
         }
     }

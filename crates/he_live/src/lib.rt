@@ -40,7 +40,7 @@
 //! - What [`live_race`] gives replays, whatever the sockets and the clock did: its transcript is the one that the
 //!   rules of a race make of its record; the record has the given settings, policy, host, answers and what is known of
 //!   addresses from earlier; and there is a winner's stream exactly where the race was won (`Replays` of `he_race`).
-//!   Its faults are `Runtime` and `Memory` alone.
+//!   Its faults are `Runtime`, `Files` and `Memory` alone.
 //! - The winner's connection was asked for at the address of the transcript's line that won and the given port, over
 //!   the given interface where that is a link-local address of IPv6, and over none else (`goes_to` in `specs/Dials`).
 //! - What [`resolving_race_on`] gives replays likewise, for every source: its record has the given settings, policy
@@ -70,6 +70,7 @@ pub mod racing;
 pub mod reason;
 pub mod recording;
 pub mod sockets;
+mod start;
 pub mod steps;
 
 pub use clock::LiveTicker;

@@ -20,23 +20,24 @@ use std::alloc::{AllocGlobal, Allocator, Global};
 use std::net::Net;
 use std::random::RandomSource;
 use std::sync::Wait;
-use std::time::{Clock, Instant};
+use std::time::Clock;
 use tokio::runtime::LocalRuntime;
 
 /// Races the addresses of the timeline's answers at the port, each connected to by TCP when the rules of a race say so
 /// (RFC 8305 sections 4 and 5), and answers the first connection, the transcript and the record.
 ///
-/// A tick is a millisecond since the call. An answer counts as come at its tick; one that is there already has tick 0.
-/// Of the timeline its settings, policy, host, answers and what is known of addresses from earlier are looked at
-/// alone: what each address does, and where the client was late, is what the record says. Replayed, the record gives
-/// the transcript. What happens to attempts is noted in `steps`, which is new for each race.
+/// A tick is a millisecond since the first turn. An answer counts as come at its tick; one that is there already has
+/// tick 0. Of the timeline its settings, policy, host, answers and what is known of addresses from earlier are looked
+/// at alone: what each address does, and where the client was late, is what the record says. Replayed, the record
+/// gives the transcript. What happens to attempts is noted in `steps`, which is new for each race.
 ///
 /// The losers are closed before the call returns. The winner goes to the address of the transcript's line that won, at
 /// the port. Its stream is the caller's as if `TcpStream::connect` had made it: its reads and writes wait.
 ///
 /// # Errors
 ///
-/// - `Runtime` where the event loop cannot be made or fails, or the clock fails.
+/// - `Runtime` where the event loop cannot be made or fails, or the clock fails; `Files` where no descriptor is left
+///   for it.
 /// - `Memory` where an allocation was refused, and the race cannot go on without it.
 ///
 /// A socket that cannot be made, as where no descriptor is left, is an attempt that fails, and so is a connection that
@@ -55,10 +56,8 @@ where
     ensures winner { IfOk result (WinnerGoes (goes_to (at_port port))) }
     ensures fault { IfErr result IsRunFault }
 {
-    // The timers count milliseconds from when the event loop is made, so a start just before makes both tick as one.
-    let start = Instant::now(rt)?;
     let mut runtime = LocalRuntime::new(rt)?;
-    race_from(start, rt, alloc, &mut runtime, timeline, port, steps)
+    live_race_on(rt, alloc, &mut runtime, timeline, port, steps)
 }
 
 /// The same over an event loop of the caller's.
@@ -81,32 +80,11 @@ where
     ensures winner { IfOk result (WinnerGoes (goes_to (at_port port))) }
     ensures fault { IfErr result IsRunFault }
 {
-    let start = Instant::now(rt)?;
-    race_from(start, rt, alloc, runtime, timeline, port, steps)
-}
-
-// The race of which `start` is tick 0.
-fn race_from<R, A>(
-    start: Instant,
-    rt: &R,
-    alloc: Global,
-    runtime: &mut LocalRuntime,
-    timeline: &Timeline<A>,
-    port: u16,
-    steps: &Steps,
-) -> Result<Raced<Dialed>, LiveFault>
-where
-    R: Wait + Clock + RandomSource + AllocGlobal + Net,
-    A: Allocator,
-    ensures replays { IfOk result (Replays timeline.now) }
-    ensures winner { IfOk result (WinnerGoes (goes_to (at_port port))) }
-    ensures fault { IfErr result IsRunFault }
-{
     // A handle of its own, since the run borrows the event loop.
     let handle = runtime.handle().clone()?;
     let to = Endpoint::at_port(port);
     let connector = TcpConnector::new(rt, handle.reactor(), to, steps.share()?);
-    let ticker = LiveTicker::new(rt, handle.time(), start, steps.share()?, Quiet);
+    let ticker = LiveTicker::new(rt, handle.time(), steps.share()?, Quiet);
     let race = RaceFuture::new(alloc, timeline, connector, ticker)?;
     match runtime.block_on(rt, race)? {
         Ok(raced) => Ok(raced),
@@ -153,7 +131,6 @@ where
         (unrecorded request.entry.timeline.now) raced.recorded) }
     ensures fault { IfErr result IsRunFault }
 {
-    let start = Instant::now(rt)?;
     let handle = runtime.handle().clone()?;
     let ResolvingRequest {
         timeline,
@@ -161,7 +138,7 @@ where
         to,
     } = request;
     let connector = TcpConnector::new(rt, handle.reactor(), to, steps.share()?);
-    let ticker = LiveTicker::new(rt, handle.time(), start, steps.share()?, watcher);
+    let ticker = LiveTicker::new(rt, handle.time(), steps.share()?, watcher);
     let race = ResolvingRace::new(alloc, timeline, connector, source, ticker)?;
     let ended = runtime.block_on(rt, race);
     steps.tell_new(watcher);

@@ -62,7 +62,7 @@ impl LiveReport {
 /// - `Read` where a step of the input failed before a fault of the text was found, or the bound of 4,294,967,296 steps
 ///   was reached.
 /// - `OneRace` where nothing is wrong with the input, but it has no race, or more than one.
-/// - `Runtime` and `Memory` as `live_race`, and `Memory` where an allocation was refused.
+/// - `Runtime`, `Files` and `Memory` as `live_race`, and `Memory` where an allocation was refused.
 /// - `Write` where a step of the output failed or took no byte, the flush failed, or the bound of 4,294,967,296 steps
 ///   was reached.
 pub fn live<R, I, O>(

@@ -123,6 +123,11 @@ impl Steps {
         self.share()
     }
 
+    /// How many attempts there are so far that have room for their steps.
+    pub fn attempts(&self) -> usize {
+        self.shared.attempts.get()
+    }
+
     // The tick at which the last attempt began, once one did.
     pub(crate) fn last_begun(&self) -> Option<u64> {
         self.shared.begun.get()

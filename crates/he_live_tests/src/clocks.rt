@@ -80,7 +80,7 @@ end
 // More readings than the race makes.
 const MOST_READINGS: u64 = 1000;
 
-// The start of the race, its first turn and its last: the event loop reads the clock besides.
+// When the event loop is made, at the first turn and at the last one: the event loop reads the clock besides.
 const LEAST_READINGS: u64 = 3;
 
 // Whether the race is ended by its limit.

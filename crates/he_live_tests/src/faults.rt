@@ -147,8 +147,8 @@ fn used_up(rt: &HostRuntime) -> Result<Option<Vec<File>>, Fail> {
     Ok(None)
 }
 
-// Where no event loop can be made, `live` says so, and writes nothing.
-const NO_RUNTIME: Row = (EXHAUSTED, Streams::Whole, Err(LiveFault::Runtime), b"", 0);
+// Where no descriptor is left for an event loop, `live` says so, and writes nothing.
+const NO_RUNTIME: Row = (EXHAUSTED, Streams::Whole, Err(LiveFault::Files), b"", 0);
 
 // An attempt that gets no descriptor.
 const NOT_BEGUN: Wanted<'static> = Wanted {

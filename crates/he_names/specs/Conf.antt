@@ -1,7 +1,7 @@
 -- What a file of resolver settings says (resolver(5)): on each line a keyword, which begins the line, and then its
 -- values.
-use Rattle.std.specs.Prelude.{ℕ, List, [], ◌∷◌, Option, None, codes, drop, filter, fold, length, map, max, min, nat_lt, take, if◌then◌else◌}
-use Rattle.std.specs.List.{filter_map, flat_map}
+use Rattle.std.specs.Prelude.{ℕ, ◌&&◌, Bool, List, [], ◌∷◌, Option, None, codes, drop, false, filter, fold, length, map, max, min, nat_lt, take, if◌then◌else◌}
+use Rattle.std.specs.List.{filter_map, flat_map, list_any}
 use Rattle.std.specs.Option.{option_to_list}
 use Rattle.std.specs.Str.{bytes_eq}
 use Rattle.he_addr.specs.declared.ip.Ip.TheVariants.{V4}
@@ -79,3 +79,13 @@ numbers_in name text = flat_map (numbers_of name) (entries_of text)
 -- the last of them, or else the default, brought into its range
 abbrev pub option_in : List ℕ → ℕ → ℕ → ℕ → List ℕ → ℕ
 option_in name least default most text = max least (min most (last_of default (numbers_in name text)))
+
+-- ---- options without a number
+
+abbrev pub sets : List ℕ → List (List ℕ) → Bool
+sets name [] = false
+sets name (keyword ∷ options) = bytes_eq keyword (codes "options") && list_any (bytes_eq name) options
+
+-- whether an entry of options has the name
+abbrev pub has_option : List ℕ → List ℕ → Bool
+has_option name text = list_any (sets name) (entries_of text)

@@ -1,11 +1,16 @@
 -- The lines of a file of the system, and the fields of a line. Texts are lists of bytes.
-use Rattle.std.specs.Prelude.{ℕ, ◌==◌, ◌||◌, Bool, List, filter, length, map, nat_lt}
+use Rattle.std.specs.Prelude.{ℕ, ◌==◌, ◌||◌, Bool, List, filter, length, map, nat_lt, position, take}
 use Rattle.std.specs.List.{slice_split}
+use Rattle.std.specs.Option.{option_map_or}
 use Rattle.std.specs.Borrow.{Bor}
 
 -- the texts that references point to
 abbrev pub texts : List (Bor (List ℕ)) → List (List ℕ)
 texts references = map (λ reference. reference.now) references
+
+-- a text up to the first such byte
+abbrev pub before : ℕ → List ℕ → List ℕ
+before mark text = option_map_or (λ at. take at text) (position (λ byte. byte == mark) text) text
 
 -- a space, a tab, or a carriage return, which may stand before a line feed
 abbrev pub is_blank : ℕ → Bool

@@ -1,5 +1,6 @@
 pub mod Answers
 pub mod Conf
+pub mod Environment
 pub mod Fields
 pub mod Hosts
 pub mod Literals

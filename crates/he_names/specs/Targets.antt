@@ -13,7 +13,7 @@ use Rattle.he_names.specs.declared.target.Target.{Target}
 use Rattle.he_names.specs.declared.target.Target.TheVariants as targets
 use Rattle.he_names.specs.Literals.{is_interface, is_on_link, literal_in, unmapped}
 use Rattle.he_names.specs.Numeric.{ends_in_number, numeric_address}
-use Rattle.he_names.specs.Special.{special_use}
+use Rattle.he_names.specs.Special.{is_localhost, special_use}
 
 -- ---- an address
 
@@ -46,9 +46,17 @@ abbrev pub IsName : List ℕ → List ℕ → Type 0
 IsName text name =
     (literal_in text ≡ None) × (sign_in text ≡ None) × (domain_to_ascii lists.URL text ≡ Some name)
 
--- this machine; a name that multicast DNS finds; any other that doesn't end in a number
+-- localhost, which is this machine, or a name in it (RFC 6761 section 6.3)
+abbrev pub MeansHere : List ℕ → Target → Type 0
+MeansHere name targets.Loopback = is_localhost name ≡ true
+MeansHere name (targets.InLoopback given) = (is_localhost name ≡ false) × (string_bytes given ≡ name)
+MeansHere name other = ⊥
+
+-- this machine or a name in localhost; a name that multicast DNS finds; any other that doesn't end in a number
 abbrev pub MeansNamed : List ℕ → Target → Type 0
-MeansNamed name targets.Loopback = special_use name ≡ Some uses.Localhost
+MeansNamed name targets.Loopback = (special_use name ≡ Some uses.Localhost) × MeansHere name targets.Loopback
+MeansNamed name (targets.InLoopback given) =
+    (special_use name ≡ Some uses.Localhost) × MeansHere name (targets.InLoopback given)
 MeansNamed name (targets.Multicast given) = (special_use name ≡ Some uses.Local) × (string_bytes given ≡ name)
 MeansNamed name (targets.Name given) =
     (special_use name ≡ None) × (ends_in_number name ≡ false) × (string_bytes given ≡ name)

@@ -2,12 +2,11 @@
 
 ghost use Rattle.std.specs.Prelude.{◌≡◌, IfOk, codes, map};
 ghost use Rattle.std.specs.Option.{option_map, option_to_list};
-ghost use Rattle.std.specs.Str.{bytes_eq};
 ghost use Rattle.he_names.specs.Fields.{texts};
 ghost use Rattle.he_names.specs.Literals.{zoned_of};
-ghost use Rattle.he_names.specs.Conf.{domains_of, entry_of, last_of, last_search, number_behind, numbers_behind, numbers_in, numbers_of, option_in, search_in, server_of, servers_in};
+ghost use Rattle.he_names.specs.Conf.{domains_of, entry_of, has_option, last_of, last_search, number_behind, numbers_behind, numbers_in, numbers_of, option_in, search_in, server_of, servers_in, sets};
 
-use crate::fields::{fields, is_blank, lines};
+use crate::fields::{fields, has_text, is_blank, is_text, lines};
 use crate::limits::{
     DEFAULT_ATTEMPTS, DEFAULT_NDOTS, DEFAULT_TIMEOUT, LEAST_ATTEMPTS, LEAST_TIMEOUT, MOST_ATTEMPTS,
     MOST_DOMAINS, MOST_NDOTS, MOST_SERVERS, MOST_TIMEOUT,
@@ -121,6 +120,50 @@ pub fn read_attempts<A: Allocator + Copy>(alloc: A, text: &[u8]) -> Result<u64, 
     Ok(attempts.min(MOST_ATTEMPTS).max(LEAST_ATTEMPTS))
 }
 
+/// Whether the servers are asked over TCP alone (`use-vc`).
+///
+/// # Errors
+///
+/// [`Memory`] where an allocation was refused.
+pub fn read_use_vc<A: Allocator + Copy>(alloc: A, text: &[u8]) -> Result<bool, Memory>
+    ensures { IfOk result (λ set. set ≡ has_option (codes "use-vc") text.now) }
+{
+    has_option(alloc, text, b"use-vc")
+}
+
+/// Whether no name server is asked for addresses of IPv6 (`no-aaaa`).
+///
+/// # Errors
+///
+/// [`Memory`] where an allocation was refused.
+pub fn read_no_aaaa<A: Allocator + Copy>(alloc: A, text: &[u8]) -> Result<bool, Memory>
+    ensures { IfOk result (λ set. set ≡ has_option (codes "no-aaaa") text.now) }
+{
+    has_option(alloc, text, b"no-aaaa")
+}
+
+// Whether the file has the option.
+fn has_option<A: Allocator + Copy>(alloc: A, text: &[u8], name: &[u8]) -> Result<bool, Memory>
+    ensures { IfOk result (λ has. has ≡ has_option name.now text.now) }
+{
+    let lines = lines(alloc, text)?;
+    let mut has = false;
+    for line in &lines {
+        let entry = entry(alloc, line)?;
+        has = has || sets(entry.as_slice(), name);
+    }
+    Ok(has)
+}
+
+fn sets(entry: &[&[u8]], name: &[u8]) -> bool
+    ensures { result ≡ sets name.now (texts entry.now) }
+{
+    match entry {
+        [keyword, options @ ..] => is_text(keyword, b"options") && has_text(options, name),
+        [] => false,
+    }
+}
+
 // The last number of the file that an option of this name has.
 fn last_option<A: Allocator + Copy>(
     alloc: A,
@@ -218,10 +261,4 @@ fn number_behind(option: &[u8], name: &[u8]) -> Option<u64>
     ensures { result ≡ number_behind name.now option.now }
 {
     read_number(option.strip_prefix(name)?)
-}
-
-fn is_text(a: &[u8], b: &[u8]) -> bool
-    ensures { result ≡ bytes_eq a.now b.now }
-{
-    a == b
 }

@@ -1,20 +1,20 @@
 //! The file of hosts.
 
-ghost use Rattle.std.specs.Prelude.{◌≡◌, ◌==◌, IfOk, position};
+ghost use Rattle.std.specs.Prelude.{◌≡◌, IfOk};
 ghost use Rattle.std.specs.List.{list_any};
 ghost use Rattle.std.specs.Str.{str_eq_ignore_ascii_case};
 ghost use Rattle.he_names.specs.Fields.{texts};
 ghost use Rattle.he_names.specs.Hosts.{given_by, hosts_in, line_gives, uncommented};
 
-use crate::fields::{fields, lines};
-use he_addr::{Family, Ip, Memory, read_ip_of};
+use crate::fields::{before, fields, lines};
+use he_addr::{Ip, Memory, read_ip};
 use std::alloc::Allocator;
 
 const COMMENT: u8 = b'#';
 
-/// The addresses of the family that a file of hosts has for a name, line by line (hosts(5)): an address stands first
-/// on its line, then the names that it has, and a number sign begins a comment. Names are compared without case. A
-/// line that is none is passed over, and so is an address with a zone.
+/// The addresses of both families that a file of hosts has for a name, line by line (hosts(5)): an address stands
+/// first on its line, then the names that it has, and a number sign begins a comment. Names are compared without case.
+/// A line that is none is passed over, and so is an address with a zone.
 ///
 /// # Errors
 ///
@@ -23,14 +23,13 @@ pub fn read_hosts<A: Allocator + Copy>(
     alloc: A,
     text: &[u8],
     name: &[u8],
-    family: Family,
 ) -> Result<Vec<Ip, A>, Memory>
-    ensures { IfOk result (λ found. found.items ≡ hosts_in family name.now text.now) }
+    ensures { IfOk result (λ found. found.items ≡ hosts_in name.now text.now) }
 {
     let lines = lines(alloc, text)?;
     let mut found = Vec::new(alloc);
     for line in &lines {
-        if let Some(ip) = read_line(alloc, line, name, family)? {
+        if let Some(ip) = read_line(alloc, line, name)? {
             found.push(ip)?;
         }
     }
@@ -39,23 +38,18 @@ pub fn read_hosts<A: Allocator + Copy>(
 
 // The address that a line gives to the name.
 #[tactic(auto, unfolding(crate::specs::Hosts::line_gives))]
-fn read_line<A: Allocator + Copy>(
-    alloc: A,
-    line: &[u8],
-    name: &[u8],
-    family: Family,
-) -> Result<Option<Ip>, Memory>
-    ensures { IfOk result (λ found. found ≡ line_gives family name.now line.now) }
+fn read_line<A: Allocator + Copy>(alloc: A, line: &[u8], name: &[u8]) -> Result<Option<Ip>, Memory>
+    ensures { IfOk result (λ found. found ≡ line_gives name.now line.now) }
 {
     let fields = fields(alloc, without_comment(line))?;
-    Ok(given_by(fields.as_slice(), name, family))
+    Ok(given_by(fields.as_slice(), name))
 }
 
-fn given_by(fields: &[&[u8]], name: &[u8], family: Family) -> Option<Ip>
-    ensures { result ≡ given_by family name.now (texts fields.now) }
+fn given_by(fields: &[&[u8]], name: &[u8]) -> Option<Ip>
+    ensures { result ≡ given_by name.now (texts fields.now) }
 {
     match fields {
-        [address, names @ ..] if has_name(names, name) => read_ip_of(family, address),
+        [address, names @ ..] if has_name(names, name) => read_ip(address),
         _ => None,
     }
 }
@@ -72,18 +66,9 @@ fn is_same_name(name: &[u8], other: &[u8]) -> bool
     name.eq_ignore_ascii_case(other)
 }
 
-fn find(text: &[u8], mark: u8) -> Option<usize>
-    ensures { result ≡ position (λ byte. byte == mark) text.now }
-{
-    text.iter().position(|byte| *byte == mark)
-}
-
 // The line up to its comment.
 pub(crate) fn without_comment(line: &[u8]) -> &[u8]
     ensures { result.now ≡ uncommented line.now }
 {
-    match find(line, COMMENT) {
-        Some(at) => &line[..at],
-        None => line,
-    }
+    before(line, COMMENT)
 }

@@ -4,8 +4,10 @@
 //! Proved, for all bytes:
 //!
 //! - [`read_hosts`]: the addresses that a file of hosts has for a name (`specs/Hosts`).
-//! - [`read_servers`], [`read_search`], [`read_ndots`], [`read_timeout`], [`read_attempts`]: the servers, the search
-//! list and the numbers of a file of settings, with their defaults and bounds (`specs/Conf`).
+//! - [`read_servers`], [`read_search`], [`read_ndots`], [`read_timeout`], [`read_attempts`], [`read_use_vc`],
+//! [`read_no_aaaa`]: the servers, the search list and the options of a file of settings, with their defaults and
+//! bounds (`specs/Conf`).
+//! - [`amend`]: the lines by which the environment amends it (`specs/Environment`).
 //! - [`names_to_ask`]: which names are asked for a host, and in which order (`specs/Order`).
 //! - [`clean_of`]: a family's addresses, none of them twice, at most 256; [`Found`]: both families' answers, of which
 //! one has an address, and the two lines of a timeline that state them (`specs/Answers`).
@@ -15,6 +17,7 @@
 
 pub mod answers;
 pub mod conf;
+pub mod environment;
 mod fields;
 pub mod found;
 pub mod hosts;
@@ -27,11 +30,14 @@ pub mod special;
 pub mod target;
 
 pub use answers::clean_of;
-pub use conf::{read_attempts, read_ndots, read_search, read_servers, read_timeout};
+pub use conf::{
+    read_attempts, read_ndots, read_no_aaaa, read_search, read_servers, read_timeout, read_use_vc,
+};
+pub use environment::{Environment, amend};
 pub use found::Found;
 pub use hosts::read_hosts;
 pub use literals::{ZonedIp, read_literal};
 pub use order::names_to_ask;
 pub use ports::{PortFault, read_port};
-pub use special::SpecialUse;
+pub use special::{SpecialUse, serves_local};
 pub use target::{HostFault, Target, read_host};

@@ -1,11 +1,12 @@
 //! Addresses as people write them for a host.
 
-ghost use Rattle.std.specs.Prelude.{◌≡◌, ◌==◌, position};
+ghost use Rattle.std.specs.Prelude.{◌≡◌};
 ghost use Rattle.std.specs.List.{list_any};
 ghost use Rattle.std.specs.Option.{option_map};
 ghost use Rattle.he_addr.specs.Reading.{cut_in};
 ghost use Rattle.he_names.specs.Literals.{between, is_bracketed, is_interface, is_no_interface_byte, is_on_link, literal_in, of_v6, unmapped, zoned_in, zoned_of};
 
+use crate::fields::find;
 use crate::limits::MOST_INTERFACE_BYTES;
 use he_addr::{Family, Ip, read_ip, read_ip_of};
 
@@ -75,12 +76,6 @@ fn is_bracketed(text: &[u8]) -> bool
     ensures { result ≡ is_bracketed text.now }
 {
     text.len() >= 2 && text[0] == OPEN && text[text.len() - 1] == CLOSE
-}
-
-fn find(text: &[u8], mark: u8) -> Option<usize>
-    ensures { result ≡ position (λ byte. byte == mark) text.now }
-{
-    text.iter().position(|byte| *byte == mark)
 }
 
 // What stands before the first mark, and what stands after it.

@@ -1,8 +1,9 @@
 //! The names that are asked for a host.
 
-ghost use Rattle.std.specs.Prelude.{◌≡◌, ◌++◌, [], ◌∷◌, IfOk, OnOk, map};
+ghost use Rattle.std.specs.Prelude.{◌≡◌, ◌++◌, [], ◌∷◌, IfOk, OnOk, filter, if◌then◌else◌, map, not};
+ghost use Rattle.std.specs.List.{list_any};
 ghost use Rattle.he_names.specs.Fields.{texts};
-ghost use Rattle.he_names.specs.Order.{dots, is_absolute, names_of, within};
+ghost use Rattle.he_names.specs.Order.{dots, is_absolute, is_root, names_of, undotted, within};
 
 use he_addr::Memory;
 use std::alloc::Allocator;
@@ -10,7 +11,8 @@ use std::alloc::Allocator;
 const DOT: u8 = b'.';
 
 /// The names that are asked for a host, in their order (resolver(5)): one that a dot ends as it is alone; any other
-/// also in each domain of the search list, before that where it has at least so many dots, else after it.
+/// also in each domain of the search list, before that where it has at least so many dots, else after it. A dot that
+/// begins a domain is dropped, and in the domain `.` the name is asked for as it is.
 ///
 /// # Errors
 ///
@@ -29,10 +31,10 @@ pub fn names_to_ask<A: Allocator + Copy>(
         push_host(alloc, host, &mut names)?;
     } else if ndots <= dots(host) {
         push_host(alloc, host, &mut names)?;
-        push_within(alloc, host, search, &mut names)?;
+        push_below(alloc, host, search, &mut names)?;
     } else {
         push_within(alloc, host, search, &mut names)?;
-        push_host(alloc, host, &mut names)?;
+        push_last(alloc, host, search, &mut names)?;
     }
     Ok(names)
 }
@@ -56,6 +58,41 @@ fn push_host<A: Allocator + Copy>(
         ≡ map (λ name. name.items) names.old.items ++ host.now ∷ []) }
 {
     names.push(Vec::from_slice(alloc, host)?)?;
+    Ok(())
+}
+
+// The host as it is, unless the root is on the search list.
+fn push_last<A: Allocator + Copy>(
+    alloc: A,
+    host: &[u8],
+    search: &[&[u8]],
+    names: &mut Vec<Vec<u8, A>, A>,
+) -> Result<(), Memory>
+    ensures { OnOk result (map (λ name. name.items) names.new.items
+        ≡ map (λ name. name.items) names.old.items
+        ++ (if list_any is_root (texts search.now) then [] else host.now ∷ [])) }
+{
+    if has_root(search) {
+        return Ok(());
+    }
+    push_host(alloc, host, names)
+}
+
+// The host in each domain but the root.
+fn push_below<A: Allocator + Copy>(
+    alloc: A,
+    host: &[u8],
+    search: &[&[u8]],
+    names: &mut Vec<Vec<u8, A>, A>,
+) -> Result<(), Memory>
+    ensures { OnOk result (map (λ name. name.items) names.new.items ≡ map (λ name. name.items) names.old.items
+        ++ map (within host.now) (filter (λ domain. not (is_root domain)) (texts search.now))) }
+{
+    for domain in search {
+        if !is_root(domain) {
+            names.push(name_within(alloc, host, domain)?)?;
+        }
+    }
     Ok(())
 }
 
@@ -83,12 +120,36 @@ fn name_within<A: Allocator + Copy>(
     ensures { IfOk result (λ name. name.items ≡ within host.now domain.now) }
 {
     let mut name = Vec::from_slice(alloc, host)?;
+    if is_root(domain) {
+        return Ok(name);
+    }
     name.push(DOT)?;
-    name.extend_from_slice(domain)?;
+    name.extend_from_slice(undotted(domain))?;
     Ok(name)
 }
 
-fn dots(name: &[u8]) -> u64
+fn undotted(domain: &[u8]) -> &[u8]
+    ensures { result.now ≡ undotted domain.now }
+{
+    match domain {
+        [DOT, rest @ ..] => rest,
+        _ => domain,
+    }
+}
+
+fn is_root(domain: &[u8]) -> bool
+    ensures { result ≡ is_root domain.now }
+{
+    undotted(domain).is_empty()
+}
+
+fn has_root(search: &[&[u8]]) -> bool
+    ensures { result ≡ list_any is_root (texts search.now) }
+{
+    search.iter().any(|domain| is_root(domain))
+}
+
+pub(crate) fn dots(name: &[u8]) -> u64
     ensures { result ≡ dots name.now }
 {
     name.iter().filter(|byte| **byte == DOT).count() as u64

@@ -1,13 +1,11 @@
 //! Ports, by number or by the name of a service.
 
-ghost use Rattle.std.specs.Prelude.{◌≡◌, IfErr, IfOk};
-ghost use Rattle.std.specs.List.{list_any};
-ghost use Rattle.std.specs.Str.{bytes_eq};
+ghost use Rattle.std.specs.Prelude.{◌≡◌, ◌==◌, IfErr, IfOk, not, position};
 ghost use Rattle.he_names.specs.Fields.{texts};
-ghost use Rattle.he_names.specs.Ports.{IsNoPort, MeansPort, is_decimal, line_port, port_given, port_in, ports_of, tcp_port};
+ghost use Rattle.he_names.specs.Ports.{IsNoPort, MeansPort, is_decimal, line_port, port_given, port_in, ports_of, tcp_port, unsigned, without_zeros};
 ghost use Rattle.he_names.specs.declared.ports.PortFault.TheVariants as faults;
 
-use crate::fields::{fields, lines};
+use crate::fields::{fields, has_text, is_text, lines};
 use crate::hosts::without_comment;
 use crate::limits::{LEAST_PORT, MOST_PORT};
 use crate::literals::cut;
@@ -17,6 +15,8 @@ use std::alloc::{AllocError, AllocFailed, Allocator};
 use thiserror::Error;
 
 const SLASH: u8 = b'/';
+
+const PLUS: u8 = b'+';
 
 /// Why a text names no port.
 #[derive(Clone, Copy, Debug, PartialEq, Eq, Error)]
@@ -40,12 +40,12 @@ impl From<AllocError> for PortFault {
     }
 }
 
-/// The port that a text names: a number from 1 to 65535, or a service over TCP of a file of services (services(5)), by
-/// its name or another name of it; of several lines the first counts.
+/// The port that a text names: a number from 1 to 65535, as strtoul(3) reads it, or a service over TCP of a file of
+/// services (services(5)), by its name or another name of it; of several lines the first counts.
 ///
 /// # Errors
 ///
-/// `Range` where the text has digits alone and is no port; `Unknown` where no line has the service; `Memory`.
+/// `Range` where the text is a number and no port; `Unknown` where no line has the service; `Memory`.
 pub fn read_port<A: Allocator + Copy>(
     alloc: A,
     services: &[u8],
@@ -55,7 +55,7 @@ pub fn read_port<A: Allocator + Copy>(
     ensures fault { IfErr result (IsNoPort services.now text.now) }
 {
     if is_decimal(text) {
-        return match port_in(text) {
+        return match port_in(unsigned(text)) {
             Some(port) => Ok(port),
             None => Err(PortFault::Range),
         };
@@ -70,14 +70,39 @@ pub fn read_port<A: Allocator + Copy>(
 fn is_decimal(text: &[u8]) -> bool
     ensures { result ≡ is_decimal text.now }
 {
-    !text.is_empty() && are_digits(text)
+    let digits = unsigned(text);
+    !digits.is_empty() && are_digits(digits)
+}
+
+fn unsigned(text: &[u8]) -> &[u8]
+    ensures { result.now ≡ unsigned text.now }
+{
+    match text {
+        [PLUS, digits @ ..] => digits,
+        _ => text,
+    }
+}
+
+fn find_digit(digits: &[u8]) -> Option<usize>
+    ensures { result ≡ position (λ byte. not (byte == 48)) digits.now }
+{
+    digits.iter().position(|byte| *byte != b'0')
+}
+
+fn without_zeros(digits: &[u8]) -> &[u8]
+    ensures { result.now ≡ without_zeros digits.now }
+{
+    match find_digit(digits) {
+        Some(at) => &digits[at..],
+        None => &[],
+    }
 }
 
 #[tactic(auto, unfolding(crate::specs::Ports::port_in))]
-fn port_in(text: &[u8]) -> Option<u16>
-    ensures { result ≡ port_in text.now }
+fn port_in(digits: &[u8]) -> Option<u16>
+    ensures { result ≡ port_in digits.now }
 {
-    let number = read_number(text)?;
+    let number = read_number(without_zeros(digits))?;
     if (LEAST_PORT..=MOST_PORT).contains(&number) {
         Some(number as u16)
     } else {
@@ -131,21 +156,9 @@ fn port_given(fields: &[&[u8]], service: &[u8]) -> Option<u16>
     ensures { result ≡ port_given service.now (texts fields.now) }
 {
     match fields {
-        [name, port, names @ ..] if is_text(service, name) || has_name(names, service) => {
+        [name, port, names @ ..] if is_text(service, name) || has_text(names, service) => {
             tcp_port(port)
         }
         _ => None,
     }
-}
-
-fn has_name(names: &[&[u8]], service: &[u8]) -> bool
-    ensures { result ≡ list_any (bytes_eq service.now) (texts names.now) }
-{
-    names.iter().any(|name| is_text(service, name))
-}
-
-fn is_text(a: &[u8], b: &[u8]) -> bool
-    ensures { result ≡ bytes_eq a.now b.now }
-{
-    a == b
 }

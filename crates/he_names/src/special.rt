@@ -1,12 +1,24 @@
 //! Domain names of special use.
 
-ghost use Rattle.std.specs.Prelude.{◌≡◌};
-ghost use Rattle.he_names.specs.Special.{is_within, special_use};
+ghost use Rattle.std.specs.Prelude.{◌≡◌, [], IfOk, codes};
+ghost use Rattle.std.specs.List.{list_any};
+ghost use Rattle.std.specs.Str.{str_eq_ignore_ascii_case};
+ghost use Rattle.he_names.specs.Conf.{last_of};
+ghost use Rattle.he_names.specs.Fields.{texts};
+ghost use Rattle.he_names.specs.Special.{is_localhost, is_multicast, is_of_local, is_within, special_use};
 
-use crate::numeric::body_of;
+use crate::fields::is_text;
+use crate::numeric::{body_of, labels};
+use crate::order::dots;
+use he_addr::Memory;
+use std::alloc::Allocator;
 use thiserror::Error;
 
 const DOT: u8 = b'.';
+
+const LOCALHOST: &[u8] = b"localhost";
+
+const LOCAL: &[u8] = b"local";
 
 /// A domain name that no name server is asked for, by the domain that it is or lies in.
 #[derive(Clone, Copy, Debug, PartialEq, Eq, Error)]
@@ -14,7 +26,7 @@ pub enum SpecialUse {
     /// `localhost`: this machine (RFC 6761 section 6.3).
     #[error("names in .localhost are of this machine")]
     Localhost,
-    /// `local`: names on the link, which multicast DNS finds (RFC 6762 section 3).
+    /// `local`, or one label in it: a name on the link, which multicast DNS finds (RFC 6762 section 3).
     #[error("names in .local are not asked of name servers: try --resolver system")]
     Local,
     /// `onion`: services of Tor (RFC 7686).
@@ -31,9 +43,9 @@ pub(crate) fn special_use(name: &[u8]) -> Option<SpecialUse>
     ensures { result ≡ special_use name.now }
 {
     let body = body_of(name);
-    if is_within(body, b"localhost") {
+    if is_within(body, LOCALHOST) {
         Some(SpecialUse::Localhost)
-    } else if is_within(body, b"local") {
+    } else if is_multicast(body) {
         Some(SpecialUse::Local)
     } else if is_within(body, b"onion") {
         Some(SpecialUse::Onion)
@@ -42,6 +54,52 @@ pub(crate) fn special_use(name: &[u8]) -> Option<SpecialUse>
     } else {
         None
     }
+}
+
+// Whether a name in small letters is `localhost` itself; a dot may end it.
+pub(crate) fn is_localhost(name: &[u8]) -> bool
+    ensures { result ≡ is_localhost name.now }
+{
+    is_text(body_of(name), LOCALHOST)
+}
+
+fn is_multicast(name: &[u8]) -> bool
+    ensures { result ≡ is_multicast name.now }
+{
+    is_within(name, LOCAL) && dots(name) <= 1
+}
+
+/// Whether a domain of the search list is `local` or lies in it: then the name servers know names with one label in
+/// `local` too.
+///
+/// # Errors
+///
+/// [`Memory`] where an allocation was refused.
+pub fn serves_local<A: Allocator + Copy>(alloc: A, search: &[&[u8]]) -> Result<bool, Memory>
+    ensures { IfOk result (λ serves. serves ≡ list_any is_of_local (texts search.now)) }
+{
+    let mut serves = false;
+    for domain in search {
+        let labels = labels(alloc, domain)?;
+        serves = serves || is_last_local(&labels);
+    }
+    Ok(serves)
+}
+
+// Whether the last label is `local`.
+fn is_last_local(labels: &[&[u8]]) -> bool
+    ensures { result ≡ str_eq_ignore_ascii_case (last_of [] (texts labels.now)) (codes "local") }
+{
+    match labels {
+        [.., last] => is_local(last),
+        [] => false,
+    }
+}
+
+fn is_local(label: &[u8]) -> bool
+    ensures { result ≡ str_eq_ignore_ascii_case label.now (codes "local") }
+{
+    label.eq_ignore_ascii_case(LOCAL)
 }
 
 fn is_within(name: &[u8], domain: &[u8]) -> bool

@@ -2,13 +2,13 @@
 
 ghost use Rattle.std.specs.Prelude.{◌≡◌, IfErr, IfOk, OnOk, false, string_bytes};
 ghost use Rattle.he_names.specs.Literals.{zoned_of};
-ghost use Rattle.he_names.specs.Targets.{IsUnfit, Means, MeansAt, MeansNamed, IsNumeric, UnfitAt, UnfitNamed, is_name_byte, sign_in};
+ghost use Rattle.he_names.specs.Targets.{IsUnfit, Means, MeansAt, MeansHere, MeansNamed, IsNumeric, UnfitAt, UnfitNamed, is_name_byte, sign_in};
 ghost use Rattle.he_names.specs.Numeric.{ends_in_number};
 ghost use Rattle.he_names.specs.declared.target.HostFault.TheVariants as faults;
 
 use crate::literals::{ZonedIp, is_interface, is_on_link, read_literal, unmapped};
 use crate::numeric::{address_of, ends_in_number, labels};
-use crate::special::{SpecialUse, special_use};
+use crate::special::{SpecialUse, is_localhost, special_use};
 use he_addr::Ip;
 use idna::{AsciiDenyList, Errors, domain_to_ascii_cow};
 use std::alloc::{AllocError, Global};
@@ -22,10 +22,14 @@ pub enum Target {
     Address(Ip),
     /// A link-local address of IPv6 (RFC 4291 section 2.5.6), and the name or the number of its interface.
     OnLink(Ip, Vec<u8>),
-    /// This machine: `localhost` and what lies in it (RFC 6761 section 6.3). No name server is asked.
+    /// This machine: `localhost` (RFC 6761 section 6.3).
     Loopback,
-    /// A name in `local`, which multicast DNS finds (RFC 6762): the system's resolver may know it, no name server
-    /// does.
+    /// A name in `localhost`, in ASCII and in small letters: this machine, unless the file of hosts has it. No name
+    /// server is asked (RFC 6761 section 6.3).
+    InLoopback(String),
+    /// `local` or a name with one label in it, which multicast DNS finds (RFC 6762): the system's resolver may know
+    /// it, and a name server only where the search list has a domain in `local`
+    /// ([`serves_local`](crate::serves_local)).
     Multicast(String),
     /// Any other name, in ASCII and in small letters (UTS 46).
     Name(String),
@@ -151,13 +155,24 @@ fn target_named(alloc: Global, name: String) -> Result<Target, HostFault>
     ensures fault { IfErr result (UnfitNamed (string_bytes name)) }
 {
     match special_use(name.as_bytes()) {
-        Some(SpecialUse::Localhost) => return Ok(Target::Loopback),
+        Some(SpecialUse::Localhost) => return Ok(target_here(name)),
         Some(SpecialUse::Local) => return Ok(Target::Multicast(name)),
         Some(special) => return Err(HostFault::Special(special)),
         None => {}
     }
     check_end(alloc, name.as_bytes())?;
     Ok(Target::Name(name))
+}
+
+// What a name in `localhost` names.
+fn target_here(name: String) -> Target
+    ensures { MeansHere (string_bytes name) result }
+{
+    if is_localhost(name.as_bytes()) {
+        Target::Loopback
+    } else {
+        Target::InLoopback(name)
+    }
 }
 
 // Refuses a name that ends in a number.

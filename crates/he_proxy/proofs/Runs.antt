@@ -13,8 +13,8 @@ use Rattle.he_race.specs.declared.live.Raced.{Raced}
 use Rattle.he_sessions.specs.declared.racer.Won.{Won}
 use Rattle.he_timeline.specs.Race.{Race}
 use Rattle.he_proxy.specs.Dials.{GoesTo}
-use Rattle.he_proxy.specs.Races.{AsksFor, HandsOut, IsReachOf, IsWonAt, IsWonBy, RunsFrom, Wins}
-use Rattle.he_proxy.specs.declared.access.Place.{Place}
+use Rattle.he_proxy.specs.Races.{AsksFor, HandsOut, IsReachOf, IsWonBy, RunsFrom, Wins}
+use Rattle.he_access.specs.declared.reach.Place.{Place}
 use Rattle.he_proxy.specs.declared.access.Reach.{Reach}
 use Rattle.he_proxy.specs.declared.dial.Joined.{Joined}
 use Rattle.he_proxy.specs.declared.request.ProxyRequest.{ProxyRequest}
@@ -47,12 +47,6 @@ wins_so proxy places client host port request setup reach gives asks reaches set
   };
 }
 wins_so proxy places client host port request setup reach gives asks reaches set runs (Err ended) out = tt
-
--- what is won by a client of this proxy is won by some client of some proxy
-pub won_at : (proxy : ProxyRequest) (places : List Place) (client : SocketAddr) (host : List ℕ) (port : ℕ)
-    (end : Result Won Ended) → IfOk end (IsWonBy proxy places client host port) → IfOk end (IsWonAt host port)
-won_at proxy places client host port (Ok won) by = record { proxy = proxy; places = places; client = client; by = by }
-won_at proxy places client host port (Err ended) by = tt
 
 pub at_ok : {A E : Type 0} (P Q : A → Type 0) → ((a : A) → P a → Q a) → (r : Result A E) → IfOk r P → IfOk r Q
 at_ok P Q f (Ok a) h = f a h

@@ -1,13 +1,22 @@
 -- Where connections go that stay in the event loop.
-use Rattle.std.specs.Prelude.{IsTrue}
+use Rattle.std.specs.Prelude.{◌≡◌, ℕ, Option, Some, None, Result, Ok, Err}
+use Rattle.std.specs.declared.io.Error.{Error}
+use Rattle.tokio.specs.Net.{stream_writable}
+use Rattle.tokio.specs.declared.net.stream.TcpStream.{TcpStream}
 use Rattle.he_addr.specs.declared.ip.Ip.{Ip}
 use Rattle.he_live.specs.Dials.{IsSocketOf}
 use Rattle.he_live.specs.declared.endpoint.Endpoint.{Endpoint}
-use Rattle.he_proxy.specs.Access.{may_reach}
+use Rattle.he_proxy.specs.Access.{Reaches}
 use Rattle.he_proxy.specs.declared.access.Reach.{Reach}
 use Rattle.he_proxy.specs.declared.dial.Joined.{Joined}
 
 -- the connection was asked for at the address and the endpoint's port, which the client's races reach
 pub record GoesTo (reach : Reach) (to : Endpoint) (ip : Ip) (joined : Joined) : Type 0 where
   pub socket : IsSocketOf ip to joined.to
-  pub reached : IsTrue (may_reach reach ip to.port)
+  pub reached : Reaches reach ip to.port
+
+-- a connection that is being made waits to be writable
+abbrev pub DialNeeds : Option (Result TcpStream Error) → ℕ → Type 0
+DialNeeds (Some (Ok stream)) source = source ≡ stream_writable stream
+DialNeeds (Some (Err error)) source = ⊥
+DialNeeds None source = ⊥

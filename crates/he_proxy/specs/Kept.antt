@@ -1,5 +1,5 @@
 -- What is known of a host by the answers that are kept, and how its look-up begins then.
-use Rattle.std.specs.Prelude.{ℕ, ◌≡◌, ◌⊎◌, ◌++◌, List, [], Option, Some, Ok}
+use Rattle.std.specs.Prelude.{ℕ, ◌≡◌, ◌⊎◌, ◌++◌, List, [], Option, Some}
 use Rattle.std.specs.Global.{Vec}
 use Rattle.std.specs.Option.{option_map}
 use Rattle.he_addr.specs.declared.ip.Family.{Family}
@@ -7,8 +7,9 @@ use Rattle.he_addr.specs.declared.ip.Family.TheVariants as families
 use Rattle.he_addr.specs.declared.ip.Ip.{Ip}
 use Rattle.he_cache.specs.Keeping.{answer_at, kept_of}
 use Rattle.he_cache.specs.declared.cache.AnswerCache.{AnswerCache}
+use Rattle.he_connect.specs.Races.{only_of}
+use Rattle.he_connect.specs.declared.request.ConnectRequest.{ConnectRequest}
 use Rattle.he_resolver.specs.Begins.{BeginsFor}
-use Rattle.he_resolver.specs.declared.choice.Choice.{Choice}
 use Rattle.he_resolver.specs.declared.lookup.Source.{Source}
 use Rattle.he_resolver.specs.declared.lookup.Source.TheVariants as sources
 
@@ -34,6 +35,7 @@ pub record AreKept (cache : AnswerCache (Vec Ip)) (now : ℕ) (host : List ℕ) 
 
 -- the look-up begins as that of the host does, or it tells addresses that are kept (that these are the host's is a
 -- clause of what is kept, which the loop shares, so none of this can say it)
-abbrev pub BeginsBy : {R : Type 0} → List ℕ → Choice → Option Family → Source R → Type 0
-BeginsBy text choice only source =
-    BeginsFor text choice only source ⊎ ((known : Vec Ip) × (source ≡ sources.Known (Ok known)))
+abbrev pub BeginsBy : {R : Type 0} → ConnectRequest → Source R → Type 0
+BeginsBy request source =
+    BeginsFor request.host.now request.resolver request.environment (only_of request.families) source
+    ⊎ ((known : Vec Ip) × (source ≡ sources.Known known))

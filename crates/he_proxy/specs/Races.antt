@@ -1,5 +1,5 @@
 -- What a race hands out to the session that asked for it.
-use Rattle.std.specs.Prelude.{ℕ, ◌≡◌, ◌||◌, ⊤, Bool, List, Some, Result, Ok, Err, IfOk, slice_get}
+use Rattle.std.specs.Prelude.{ℕ, ◌≡◌, ⊤, Bool, List, Some, Result, Ok, Err, IfOk, slice_get}
 use Rattle.std.specs.Net.Socket.{socket_ip}
 use Rattle.std.specs.declared.net.socket_addr.SocketAddr.{SocketAddr}
 use Rattle.std.specs.Global.{Global}
@@ -20,9 +20,8 @@ use Rattle.he_addr.specs.Text.{ip_of}
 use Rattle.he_live.specs.declared.endpoint.Endpoint.{Endpoint}
 use Rattle.he_race.specs.Resolving.{ReplaysGiven}
 use Rattle.he_race.specs.Winner.{WinnerGoes}
-use Rattle.he_proxy.specs.Access.{is_within, loopback_networks}
 use Rattle.he_proxy.specs.Dials.{GoesTo}
-use Rattle.he_proxy.specs.declared.access.Place.{Place}
+use Rattle.he_access.specs.declared.reach.Place.{Place}
 use Rattle.he_proxy.specs.declared.access.Reach.{Reach}
 use Rattle.he_proxy.specs.declared.dial.Joined.{Joined}
 use Rattle.he_proxy.specs.declared.request.ProxyRequest.{ProxyRequest}
@@ -58,12 +57,14 @@ pub record AsksFor (proxy : ProxyRequest) (host : List ℕ) (port : ℕ) (reques
   pub settings : request.settings ≡ proxy.settings
   pub lines : request.lines ≡ proxy.lines
   pub resolver : request.resolver ≡ proxy.resolver
+  pub environment : request.environment ≡ proxy.environment
 
--- what the races of a client reach: all but the proxy itself where the client is of this machine or private addresses
--- are reached by others too, else what is public
+-- what the races of a client reach: the places of the proxy are these, the client is this one, and private addresses
+-- are allowed to clients from elsewhere where the proxy allows them
 pub record IsReachOf (places : List Place) (allows : Bool) (client : SocketAddr) (reach : Reach) : Type 0 where
   pub own : reach.own.now ≡ places
-  pub wide : reach.is_wide ≡ (allows || is_within (ip_of (socket_ip client)) loopback_networks)
+  pub of_client : reach.client.ip ≡ ip_of (socket_ip client)
+  pub allowed : reach.allows_private ≡ allows
 
 -- the race that is set up was run: its record keeps what it began with and replays to its transcript, and its
 -- connection goes to the address of the line that won, at the endpoint, where the client's races reach that
@@ -87,13 +88,6 @@ pub record IsWonBy (proxy : ProxyRequest) (places : List Place) (client : Socket
   pub reach : Reach
   pub reaches : IsReachOf places proxy.allows_private client reach
   pub winner : IsWonFor request reach won
-
--- the same, for some client of some proxy
-pub record IsWonAt (host : List ℕ) (port : ℕ) (won : Won) : Type 0 where
-  pub proxy : ProxyRequest
-  pub places : List Place
-  pub client : SocketAddr
-  pub by : IsWonBy proxy places client host port won
 
 -- whatever it ends with, a winner that is handed out is so
 abbrev pub Wins : (Won → Type 0) → (Result Won Ended → Type 0) → Type 0

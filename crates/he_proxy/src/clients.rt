@@ -18,7 +18,7 @@ use tokio::time::{Handle, Sleep};
 const REST: u64 = 1_000;
 
 // And where as many sessions begin as may.
-const WAIT: u64 = 50;
+const WAIT: u64 = 5;
 
 // How many clients one poll turns away.
 const MOST_TURNED_AWAY: u32 = 64;

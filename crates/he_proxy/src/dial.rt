@@ -2,16 +2,19 @@
 ghost use Rattle.std.specs.Prelude.{◌≡◌, IfOk};
 ghost use Rattle.futures.specs.Poll.{IfReady, OnPending};
 ghost use Rattle.futures.specs.Task.{Covers, Keeps};
+ghost use Rattle.tokio.specs.Net.{stream_writable};
+ghost use Rattle.he_proxy.specs.Dials.{DialNeeds};
 
 use crate::access::{Reach, ip_of};
-use futures::Future;
 use futures::task::{Context, Poll};
 use he_addr::Ip;
 use he_live::{Endpoint, Reason, Step, StepKind, Steps, socket_of};
 use he_race::{AttemptFault, Connector, Trial};
-use std::io;
+use he_relay::keep_alive;
 use std::net::{Net, SocketAddr};
-use tokio::net::{ConnectFuture, TcpStream};
+use std::os::fd::OwnedFd;
+use std::{io, net};
+use tokio::net::TcpStream;
 use tokio::reactor::Handle;
 
 /// A connection, with the address, the port and the interface that it was asked for.
@@ -80,7 +83,7 @@ impl<'h, N: Net> Connector for LoopConnector<'h, N> {
 
     // An address that is not reached is an attempt that can't begin.
     fn begin(&mut self, place: usize, ip: Ip, now: u64) -> Result<LoopTrial, AttemptFault> {
-        if !self.reach.has(ip, self.to.port) {
+        if !self.reach.has(self.net, ip, self.to) {
             return Err(AttemptFault::Begin);
         }
         let Ok(steps) = self.steps.for_attempt() else {
@@ -91,7 +94,7 @@ impl<'h, N: Net> Connector for LoopConnector<'h, N> {
             place,
             ip,
             to,
-            dialing: TcpStream::connect(self.net, to, self.reactor),
+            dialing: Some(begin_dialing(self.net, self.reactor, to)),
             steps,
         };
         trial.note(now, StepKind::Began);
@@ -105,7 +108,8 @@ pub struct LoopTrial {
     place: usize,
     ip: Ip,
     to: SocketAddr,
-    dialing: ConnectFuture,
+    // None once its end was given.
+    dialing: Option<io::Result<TcpStream>>,
     steps: Steps,
 }
 
@@ -124,9 +128,9 @@ impl Trial for LoopTrial {
     type Conn = Joined;
 
     ghost use Rattle.std.specs.Prelude.{⊤, None, ◌≡◌};
-    ghost use Rattle.tokio.specs.Net.{connect_state, ConnectNeeds};
+    ghost use Rattle.he_proxy.specs.Dials.{DialNeeds};
 
-    ghost needs = { λ trial. ConnectNeeds (connect_state trial.dialing) };
+    ghost needs = { λ trial. DialNeeds trial.dialing };
 
     ghost polls = { λ _ _ _ _. ⊤ };
 
@@ -135,7 +139,7 @@ impl Trial for LoopTrial {
     ghost may_give = { λ trial joined. joined.to ≡ trial.to };
 
     fn poll_trial(&mut self, now: u64, cx: &mut Context<'_>) -> Poll<Result<Joined, AttemptFault>> {
-        match self.dialing.poll(cx) {
+        match poll_dialing(&mut self.dialing, cx) {
             Poll::Pending => Poll::Pending,
             Poll::Ready(Ok(stream)) => {
                 self.note(now, StepKind::Connected);
@@ -153,5 +157,58 @@ impl Trial for LoopTrial {
 
     fn due(&self) -> Option<u64> {
         None
+    }
+}
+
+// Begins a connection whose remote's vanishing is noticed once it is made.
+fn begin_dialing<N: Net>(net: &N, reactor: &Handle, to: SocketAddr) -> io::Result<TcpStream> {
+    let socket = mio::net::TcpStream::connect(net, to)?;
+    keep_alive(&socket);
+    let socket = net::TcpStream::from(OwnedFd::from(socket));
+    TcpStream::from_std(socket, reactor)
+}
+
+fn poll_dialing(
+    dialing: &mut Option<io::Result<TcpStream>>,
+    cx: &mut Context<'_>,
+) -> Poll<io::Result<TcpStream>>
+    ensures registered { OnPending result (Covers cx.new (DialNeeds dialing.new)) }
+    ensures kept { Keeps cx.old cx.new }
+{
+    let mut stream = match dialing.take() {
+        Some(Ok(stream)) => stream,
+        Some(Err(error)) => return Poll::Ready(Err(error)),
+        None => return Poll::Ready(Err(io::ErrorKind::NotConnected.into())),
+    };
+    match poll_connected(&mut stream, cx) {
+        Poll::Ready(Ok(())) => Poll::Ready(Ok(stream)),
+        Poll::Ready(Err(error)) => Poll::Ready(Err(error)),
+        Poll::Pending => {
+            *dialing = Some(Ok(stream));
+            Poll::Pending
+        }
+    }
+}
+
+// Ready once it is connected, or with why it can't be. A write of nothing says so: it would wait until then.
+fn poll_connected(stream: &mut TcpStream, cx: &mut Context<'_>) -> Poll<io::Result<()>>
+    ensures same { stream.new ≡ stream.old }
+    ensures registered { OnPending result (Covers cx.new (λ s. s ≡ stream_writable stream.new)) }
+    ensures kept { Keeps cx.old cx.new }
+{
+    match stream.poll_write_ready(cx) {
+        Poll::Pending => return Poll::Pending,
+        Poll::Ready(Err(error)) => return Poll::Ready(Err(error)),
+        Poll::Ready(Ok(())) => {}
+    }
+    match stream.try_write(&[]) {
+        Ok(_) => Poll::Ready(Ok(())),
+        Err(error) if error.kind() == io::ErrorKind::WouldBlock => {
+            match stream.poll_write_ready(cx) {
+                Poll::Pending => Poll::Pending,
+                Poll::Ready(_) => cx.yield_now(),
+            }
+        }
+        Err(error) => Poll::Ready(Err(error)),
     }
 }

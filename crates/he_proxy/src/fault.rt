@@ -1,10 +1,10 @@
 //! Why a proxy doesn't serve.
 
+use crate::cause::Cause;
 use he_connect::ConnectFault;
 use he_live::Reason;
 use std::alloc::{AllocError, AllocFailed};
 use std::io;
-use std::io::ErrorKind;
 use std::net::SocketAddr;
 use thiserror::Error;
 
@@ -13,22 +13,22 @@ use thiserror::Error;
 pub enum ProxyFault {
     /// The address can't be listened at.
     #[error("cannot listen at {0}: {1}")]
-    Listen(SocketAddr, ErrorKind),
+    Listen(SocketAddr, Cause),
     /// The address is open to others, and nobody else is allowed.
     #[error("{0} is open to other machines: say which may come by --allow NETWORK")]
     Open(SocketAddr),
     /// The directory of the records can't be made or read.
-    #[error("cannot keep records there: {0}")]
-    Record(ErrorKind),
+    #[error("cannot keep records there (--record): {0}")]
+    Record(Cause),
     /// The file of what is known of addresses can't be read or written.
-    #[error("cannot keep there what is known of addresses: {0}")]
-    History(ErrorKind),
-    /// That file is one of something else.
-    #[error("is left as it is: no line is ADDRESS SOURCE MILLISECONDS SECOND, so it is no history")]
-    NotHistory,
+    #[error("cannot keep what is known of addresses there (--history): {0}")]
+    History(Cause),
     /// The lines of the races can't be read.
     #[error("{0}")]
     Lines(ConnectFault),
+    /// The process or the machine has as many files open as it may.
+    #[error("too many open files")]
+    Files,
     /// The sockets' event loop could not be made or failed.
     #[error("cannot run the sockets")]
     Runtime,
@@ -52,8 +52,9 @@ impl<T: Drop> From<AllocFailed<T>> for ProxyFault {
 // Of the event loop.
 impl From<io::Error> for ProxyFault {
     fn from(error: io::Error) -> ProxyFault {
-        match error.kind() {
-            io::ErrorKind::OutOfMemory => ProxyFault::Memory,
+        match Reason::of(&error) {
+            Reason::TooManyFiles | Reason::TooManyFilesInSystem => ProxyFault::Files,
+            Reason::OutOfMemory => ProxyFault::Memory,
             _ => ProxyFault::Runtime,
         }
     }

@@ -5,23 +5,28 @@ ghost use Rattle.he_proxy.specs.Races.{IsWinner, IsWonOf};
 
 use crate::access::Reach;
 use crate::dial::Joined;
-use crate::known::KnownAddresses;
+use crate::facts::{Facts, SessionFacts};
+use crate::giving_up::{GivenUp, given_up_at};
+use crate::known::{KnownAddresses, Learnt};
+use crate::lost::Lost;
 use crate::recent::{Recent, Shown};
 use crate::record::{RecordName, Records};
 use crate::sockets::{Noted, SharedLoop};
-use he_addr::Memory;
+use he_addr::{Ip, Memory};
 use he_connect::Families;
 use he_course::Course;
 use he_front::Ended;
-use he_live::Reason;
+use he_host::kernel::NO_SCOPE;
+use he_live::Endpoint;
 use he_plan::{Line, Mark, Outcome3, Transcript};
 use he_race::Raced;
-use he_resolver::NamesFault;
 use he_sessions::{Winner, Won};
 use he_timeline::Timeline;
 use he_write::write_timeline;
-use std::alloc::{AllocGlobal, Global};
+use std::alloc::{AllocError, AllocGlobal, Global};
+use std::cell::Cell;
 use std::mem::drop;
+use std::net::{Net, SocketAddr};
 use std::random::RandomSource;
 use std::rt::Files;
 use std::time::Clock;
@@ -36,6 +41,12 @@ pub struct Keeping<'h, R> {
     pub recent: &'h Recent,
     /// Where what it says of addresses is kept.
     pub known: &'h KnownAddresses,
+    /// Where what the log says of it is noted.
+    pub facts: &'h SessionFacts,
+    /// Who asked for it.
+    pub client: SocketAddr,
+    /// The client that left last while its race ran.
+    pub left: &'h Cell<Option<SocketAddr>>,
     /// When it began, as the name of its record has it.
     pub began: String,
     pub host: String,
@@ -45,16 +56,39 @@ pub struct Keeping<'h, R> {
     pub families: Families,
 }
 
-impl<'h, R: Clock + Files + RandomSource + AllocGlobal + Copy> Keeping<'h, R> {
-    /// Keeps the record of the race and what it says of addresses, and hands out its winner, or why there is none.
+impl<'h, R: Clock + Files + RandomSource + AllocGlobal + Net + Copy> Keeping<'h, R> {
+    /// Where the race's client has left, has the race end when it is polled next.
+    pub fn hear_leaving(&self) {
+        if self.left.get() == Some(self.client) {
+            self.left.set(None);
+            self.noted.progress.leave();
+        }
+    }
+
+    /// Keeps the record of the race and what it says of addresses, and hands out its winner, or why there is none. Of
+    /// a race that was given up it keeps the record up to there, and hands out nothing.
     pub fn end(&self, raced: Raced<Joined>) -> Result<Won, Ended>
         ensures { IfOk result (IsWonOf raced) }
     {
-        let ended = self.ended(&raced.transcript);
+        match self.noted.progress.given_up() {
+            Some(tick) => {
+                let _ = self.give_up(&raced, tick);
+                drop(raced);
+                Err(Ended::TimedOut)
+            }
+            None => self.hand_out(raced),
+        }
+    }
+
+    // Keeps the race that ended, and hands out its winner, or why there is none.
+    fn hand_out(&self, raced: Raced<Joined>) -> Result<Won, Ended>
+        ensures { IfOk result (IsWonOf raced) }
+    {
         let winner = winner_of(self.shared.alloc, &raced);
-        let _ = self.keep(&raced.recorded);
+        let lost = self.lost(&winner, &raced.transcript);
         let source = raced.winner.as_ref().and_then(Joined::source);
-        self.known.learn(self.shared.rt, &raced.transcript, source);
+        self.learn(&raced.recorded, &raced.transcript, source);
+        self.keep(&raced.recorded, &raced.transcript, lost, None);
         let Raced {
             transcript,
             recorded,
@@ -67,31 +101,71 @@ impl<'h, R: Clock + Files + RandomSource + AllocGlobal + Copy> Keeping<'h, R> {
                 stream: joined.into_stream(),
                 winner,
             }),
-            (Err(Memory), joined) => {
-                drop(joined);
-                Err(Ended::Failed)
-            }
             (_, joined) => {
                 drop(joined);
-                Err(ended)
+                Err(lost.unwrap_or(Lost::ProxyFailed).ended())
             }
         }
     }
 
-    // Keeps the record, where records are kept. Where it can't be written, the session goes on, and the log says why.
-    fn keep(&self, recorded: &Timeline) -> Result<(), Memory> {
-        let Some(records) = self.records else {
-            return Ok(());
+    // Keeps the race that was given up at the tick.
+    fn give_up(&self, raced: &Raced<Joined>, tick: u64) -> Result<(), Memory> {
+        let kept = given_up_at(self.shared.alloc, &raced.recorded, &raced.transcript, tick)?;
+        if let Some(kept) = kept {
+            let GivenUp {
+                recorded,
+                transcript,
+            } = kept;
+            self.learn(&recorded, &transcript, None);
+            self.keep(&recorded, &transcript, None, Some(tick));
+            drop(transcript);
+            self.show(recorded);
+        }
+        Ok(())
+    }
+
+    // Takes what the race says of addresses.
+    fn learn(&self, recorded: &Timeline, transcript: &Transcript, source: Option<Ip>) {
+        let learnt = Learnt {
+            source,
+            delay: recorded.settings().attempt(),
         };
+        self.known.learn(self.shared.rt, transcript, learnt);
+    }
+
+    // Keeps the record, where records are kept, and notes what the log says of the race.
+    fn keep(
+        &self,
+        recorded: &Timeline,
+        transcript: &Transcript,
+        lost: Option<Lost>,
+        given_up: Option<u64>,
+    ) {
+        let alloc = self.shared.alloc;
+        let mut facts = Facts::none(alloc);
+        facts.began = String::from_str(alloc, self.began.as_str()).ok();
+        facts.record = self.record(recorded);
+        facts.names = transcript.attempts().first().map(|line| line.tick);
+        if lost.is_some() || given_up.is_some() {
+            facts.tried = tried_in(alloc, transcript.attempts());
+        }
+        facts.lost = lost;
+        facts.given_up = given_up;
+        self.facts.note(self.client, facts);
+    }
+
+    // Writes the record, where records are kept; gives the name of its file. Where it can't be written, the session
+    // goes on, and the log says why.
+    fn record(&self, recorded: &Timeline) -> Option<String> {
+        let records = self.records?;
         let mut text = Vec::new(self.shared.alloc);
-        write_timeline(recorded, &mut text)?;
+        write_timeline(recorded, &mut text).ok()?;
         let name = RecordName {
             began: self.began.as_str(),
             host: self.host.as_str(),
             port: self.port,
         };
-        records.keep(self.shared.rt, name, text.as_slice());
-        Ok(())
+        records.keep(self.shared.rt, name, text.as_slice())
     }
 
     // Shows the race on the page of the last ones.
@@ -103,59 +177,67 @@ impl<'h, R: Clock + Files + RandomSource + AllocGlobal + Copy> Keeping<'h, R> {
         }
     }
 
-    // How a race without a winner ended: why no name server told an address, or of its attempts what says most.
-    fn ended(&self, transcript: &Transcript) -> Ended {
-        if let Some(fault) = self.noted.why.families().nameless(self.families) {
-            return nameless_end(fault);
-        }
-        let attempts = transcript.attempts();
-        for told in TELLING {
-            if attempts.iter().any(|line| self.end_of(*line) == told) {
-                return told;
-            }
-        }
-        match transcript.result() {
-            Outcome3::Limit(_) => Ended::TimedOut,
-            _ if attempts.is_empty() => Ended::NoHost,
-            _ => Ended::Failed,
+    // Why a race has no winner, where it has none.
+    fn lost(
+        &self,
+        winner: &Result<Option<Winner>, Memory>,
+        transcript: &Transcript,
+    ) -> Option<Lost> {
+        match winner {
+            Ok(Some(_)) => None,
+            Ok(None) => Some(self.lost_of(transcript)),
+            Err(Memory) => Some(Lost::ProxyFailed),
         }
     }
 
-    fn end_of(&self, line: Line) -> Ended {
-        if !self.reach.has(line.ip, self.port) {
-            return Ended::Forbidden;
+    // Why there is no address, or of the attempts what says most.
+    fn lost_of(&self, transcript: &Transcript) -> Lost {
+        if let Some(fault) = self.noted.why.families().nameless(self.families) {
+            return Lost::of_names(fault);
+        }
+        let attempts = transcript.attempts();
+        for lost in TELLING {
+            if attempts.iter().any(|line| self.lost_by(*line) == lost) {
+                return lost;
+            }
+        }
+        match transcript.result() {
+            Outcome3::Limit(_) => Lost::TimedOut,
+            _ if attempts.is_empty() => Lost::NoAddress,
+            _ => Lost::ProxyFailed,
+        }
+    }
+
+    fn lost_by(&self, line: Line) -> Lost {
+        let to = Endpoint {
+            port: self.port,
+            scope: NO_SCOPE,
+        };
+        if !self.reach.has(self.shared.rt, line.ip, to) {
+            return Lost::Forbidden;
         }
         match line.mark {
-            Mark::Failed(_) => end_by(self.noted.steps.reason_of(line.place)),
-            _ => Ended::TimedOut,
+            Mark::Failed(_) => Lost::of_attempt(self.noted.steps.reason_of(line.place)),
+            _ => Lost::TimedOut,
         }
     }
 }
 
 // What attempts can end with, what says most of the target first.
-const TELLING: [Ended; 5] = [
-    Ended::Forbidden,
-    Ended::Refused,
-    Ended::TimedOut,
-    Ended::NoHost,
-    Ended::NoNetwork,
+const TELLING: [Lost; 6] = [
+    Lost::Forbidden,
+    Lost::AllFailed,
+    Lost::TimedOut,
+    Lost::Unreachable,
+    Lost::NoNetwork,
+    Lost::NoDescriptor,
 ];
 
-fn end_by(reason: Reason) -> Ended {
-    match reason {
-        Reason::Refused | Reason::Reset => Ended::Refused,
-        Reason::TimedOut => Ended::TimedOut,
-        Reason::NetworkUnreachable | Reason::NetworkDown | Reason::NoFamily => Ended::NoNetwork,
-        reason if reason.is_local() => Ended::Failed,
-        _ => Ended::NoHost,
-    }
-}
-
-/// How a session ends whose host has no address.
-pub fn nameless_end(fault: NamesFault) -> Ended {
-    match fault {
-        NamesFault::Memory | NamesFault::Runtime => Ended::Failed,
-        _ => Ended::NoHost,
+// The addresses of the attempts, each once; none where memory is refused.
+fn tried_in(alloc: Global, lines: &[Line]) -> Vec<Ip> {
+    match lines.iter().map(|line| line.ip).collect(alloc) {
+        Ok(tried) => tried,
+        Err(AllocError) => Vec::new(alloc),
     }
 }
 

@@ -1,23 +1,30 @@
 //! The log: a line for each session.
+ghost use Rattle.std.specs.Prelude.{◌≡◌, ◌++◌, OnOk};
+ghost use Rattle.std.specs.List.{list_all};
+ghost use Rattle.he_proxy.specs.Log.{is_bare_byte, value_text};
 
-use crate::access::Place;
+use crate::access::socket_at;
+use crate::cause::Cause;
+use crate::facts::Facts;
+use crate::output::Output;
 use crate::request::LogForm;
 use crate::stamp::stamp_now;
+use he_access::reach::Place;
 use he_addr::{Memory, write_ip, write_number};
 use he_front::Ended;
 use he_print::write_string;
-use he_sessions::{SessionEnd, Winner};
+use he_sessions::{Ending, SessionEnd, Winner};
 use std::alloc::Global;
-use std::cell::Cell;
-use std::io::{ErrorKind, Write};
+use std::io::Write;
+use std::net::SocketAddr;
 use std::time::Clock;
 
-/// Where the log's lines go. What can't be written is passed over.
+/// The log, and where its lines go.
 #[derive(Drop)]
 pub struct Log<F: Drop> {
     alloc: Global,
     form: LogForm,
-    out: Cell<Option<F>>,
+    out: Output<F>,
 }
 
 impl<F: Write + Drop> Log<F> {
@@ -25,39 +32,66 @@ impl<F: Write + Drop> Log<F> {
         Log {
             alloc,
             form,
-            out: Cell::new(Some(out)),
+            out: Output::new(alloc, out),
         }
     }
 
     /// Writes the line of a session that has ended: `time=2026-11-26T16:34:40.123Z client=127.0.0.1:53422
-    /// host=example.org port=443 winner=2001:db8::1 ms=23 lost=0 sent=517 received=4096 end=closed`, or an object with
-    /// the same members. A text with spaces is quoted.
-    pub fn tell<R: Clock>(&self, rt: &R, end: &SessionEnd<'_>) {
+    /// host=example.org port=443 start=2026-11-26T16:34:39.871Z names=21 winner=2001:db8::1 ms=23 lost=0 sent=517
+    /// received=4096 end=closed`, or an object with the same members.
+    pub fn tell<R: Clock>(&self, rt: &R, end: &SessionEnd<'_>, facts: &Facts) {
+        if let Some(line) = self.begin_line(rt)
+            && let Ok(line) = line_of(self.alloc, end, facts, line)
+        {
+            self.out.write(line.as_slice());
+        }
+    }
+
+    /// Writes the line of a client that is turned away, since it is not served.
+    pub fn tell_turned_away<R: Clock>(&self, rt: &R, client: SocketAddr) {
+        if let Some(line) = self.begin_line(rt)
+            && let Ok(line) = line_of_turned_away(self.alloc, client, line)
+        {
+            self.out.write(line.as_slice());
+        }
+    }
+
+    // A line with the time now, where the clock has one. None in a log that is silent.
+    fn begin_line<R: Clock>(&self, rt: &R) -> Option<Line> {
         let is_json = match self.form {
-            LogForm::Silent => return,
+            LogForm::Silent => return None,
             LogForm::Text => false,
             LogForm::Json => true,
         };
-        let line = Line {
+        let mut line = Line {
             is_json,
             text: Vec::new(self.alloc),
         };
-        let now = stamp_now(rt, self.alloc);
-        if let Ok(line) = line_of(self.alloc, now, end, line) {
-            self.write(line.as_slice());
+        if let Some(now) = stamp_now(rt, self.alloc) {
+            line.put_text("time", now.as_bytes()).ok()?;
         }
+        Some(line)
     }
 
     /// Writes a line of the proxy itself, as `he: no descriptor is left`.
     pub fn say(&self, what: &str) {
         if let Ok(line) = format!(in self.alloc; "he: {what}\n") {
-            self.write(line.as_bytes());
+            self.out.write(line.as_bytes());
         }
     }
 
     /// Says that something is not kept, and why.
-    pub fn tell_unkept(&self, what: &str, why: ErrorKind) {
+    pub fn tell_unkept(&self, what: &str, why: Cause) {
         if let Ok(what) = format!(in self.alloc; "cannot keep {what}: {why}") {
+            self.say(&what);
+        }
+    }
+
+    /// Says that the file of known addresses was one of something else, and where that is now.
+    pub fn tell_moved(&self, to: &str) {
+        if let Ok(what) = format!(in self.alloc;
+            "no line of the history was ADDRESS SOURCE MILLISECONDS SECOND: what it was is kept as {to}"
+        ) {
             self.say(&what);
         }
     }
@@ -73,6 +107,22 @@ impl<F: Write + Drop> Log<F> {
         }
     }
 
+    /// Says that as many sessions run as may.
+    pub fn tell_most(&self, most: u32) {
+        if let Ok(what) = format!(in self.alloc;
+            "{most} sessions run, as many as --most allows: other clients wait until one ends"
+        ) {
+            self.say(&what);
+        }
+    }
+
+    /// Says that there is room for sessions again.
+    pub fn tell_room(&self, most: u32) {
+        if let Ok(what) = format!(in self.alloc; "fewer than {most} sessions run again") {
+            self.say(&what);
+        }
+    }
+
     /// Says at which places the proxy listens, in a log of text.
     pub fn tell_places(&self, places: &[Place]) {
         if self.form != LogForm::Text {
@@ -84,43 +134,43 @@ impl<F: Write + Drop> Log<F> {
     }
 
     fn tell_place(&self, place: Place) {
-        let address = place.socket();
+        let address = socket_at(place);
         if let Ok(what) = format!(in self.alloc; "listening at {address}") {
             self.say(&what);
         }
     }
-
-    fn write(&self, line: &[u8]) {
-        if let Some(mut out) = self.out.replace(None) {
-            let _ = out.write_all(line);
-            self.out.set(Some(out));
-        }
-    }
 }
 
-// The line of a session that ended at this time, where the clock has one.
+// The line of a session that ended.
 fn line_of(
     alloc: Global,
-    now: Option<String>,
     end: &SessionEnd<'_>,
+    facts: &Facts,
     mut line: Line,
 ) -> Result<Vec<u8>, Memory> {
-    if let Some(now) = now {
-        line.put_text("time", now.as_bytes())?;
-    }
-    let client = end.client;
-    line.put_text("client", format!(in alloc; "{client}")?.as_bytes())?;
+    line.put_client(alloc, end.client)?;
     line.put_text("host", end.host.as_bytes())?;
     line.put_number("port", u64::from(end.port))?;
+    line.put_facts(facts)?;
     match end.result {
         Some(Ok(winner)) => line.put_winner(alloc, winner)?,
-        Some(Err(ended)) => line.put_text("fault", fault_of(ended).as_bytes())?,
+        Some(Err(ended)) => line.put_text("fault", fault_of(ended, facts).as_bytes())?,
         None => {}
     }
+    line.put_tried(alloc, facts)?;
     line.put_number("sent", end.sent)?;
     line.put_number("received", end.received)?;
-    let how = end.how;
-    line.put_text("end", format!(in alloc; "{how}")?.as_bytes())?;
+    line.put_end(alloc, end.how)?;
+    line.finish()
+}
+
+fn line_of_turned_away(
+    alloc: Global,
+    client: SocketAddr,
+    mut line: Line,
+) -> Result<Vec<u8>, Memory> {
+    line.put_client(alloc, client)?;
+    line.put_text("end", b"turned-away")?;
     line.finish()
 }
 
@@ -132,6 +182,30 @@ struct Line {
 }
 
 impl Line {
+    fn put_client(&mut self, alloc: Global, client: SocketAddr) -> Result<(), Memory> {
+        // An IPv4 client of an IPv6 socket has its own address.
+        let client = SocketAddr::new(client.ip().to_canonical(), client.port());
+        self.put_text("client", format!(in alloc; "{client}")?.as_bytes())
+    }
+
+    // What was asked for by GET; when the race began, its record, and how long it had no address to try.
+    fn put_facts(&mut self, facts: &Facts) -> Result<(), Memory> {
+        if let Some(target) = &facts.target {
+            self.put_text("method", b"GET")?;
+            self.put_text("target", target)?;
+        }
+        if let Some(began) = &facts.began {
+            self.put_text("start", began.as_bytes())?;
+        }
+        if let Some(record) = &facts.record {
+            self.put_text("record", record.as_bytes())?;
+        }
+        if let Some(names) = facts.names {
+            self.put_number("names", names)?;
+        }
+        Ok(())
+    }
+
     fn put_winner(&mut self, alloc: Global, winner: Winner) -> Result<(), Memory> {
         let mut ip = Vec::new(alloc);
         write_ip(winner.ip, &mut ip)?;
@@ -140,13 +214,31 @@ impl Line {
         self.put_number("lost", winner.lost)
     }
 
+    // After how long a race was given up, and what was tried without a winner.
+    fn put_tried(&mut self, alloc: Global, facts: &Facts) -> Result<(), Memory> {
+        if let Some(tick) = facts.given_up {
+            self.put_number("ms", tick)?;
+        }
+        if facts.tried.is_empty() {
+            return Ok(());
+        }
+        let mut tried = Vec::new(alloc);
+        for ip in &facts.tried {
+            if !tried.is_empty() {
+                tried.push(b',')?;
+            }
+            write_ip(*ip, &mut tried)?;
+        }
+        self.put_text("tried", tried.as_slice())
+    }
+
+    fn put_end(&mut self, alloc: Global, how: Ending) -> Result<(), Memory> {
+        self.put_text("end", format!(in alloc; "{how}")?.as_bytes())
+    }
+
     fn put_text(&mut self, name: &str, value: &[u8]) -> Result<(), Memory> {
         self.put_name(name)?;
-        if self.is_json || value.contains(&b' ') {
-            return write_string(value, &mut self.text);
-        }
-        self.text.extend_from_slice(value)?;
-        Ok(())
+        write_value(self.is_json, value, &mut self.text)
     }
 
     fn put_number(&mut self, name: &str, value: u64) -> Result<(), Memory> {
@@ -180,16 +272,43 @@ impl Line {
     }
 }
 
-fn fault_of(ended: Ended) -> &'static str {
+// Appends a value: as a string of JSON, or, where a line of text can have it so, as it is.
+fn write_value(is_json: bool, value: &[u8], text: &mut Vec<u8>) -> Result<(), Memory>
+    ensures { OnOk result (text.new.items ≡ text.old.items ++ value_text is_json value.now) }
+{
+    if is_json || !is_bare(value) {
+        return write_string(value, text);
+    }
+    text.extend_from_slice(value)?;
+    Ok(())
+}
+
+// Whether a value needs no quotation marks: no space, quotation mark, backslash or control character is in it.
+fn is_bare(value: &[u8]) -> bool
+    ensures { result ≡ list_all is_bare_byte value.now }
+{
+    value.iter().all(|byte| is_bare_byte(*byte))
+}
+
+fn is_bare_byte(byte: u8) -> bool
+    ensures { result ≡ is_bare_byte byte }
+{
+    byte > b' ' && byte != b'"' && byte != b'\\' && byte != 127
+}
+
+// The word for how a session ended without a connection: that of its race, or that of the refusal.
+fn fault_of(ended: Ended, facts: &Facts) -> &'static str {
+    if let Some(lost) = facts.lost {
+        return lost.word();
+    }
     match ended {
-        Ended::Connected => "connected",
-        Ended::Failed => "proxy-failed",
-        Ended::Forbidden => "not-allowed",
+        Ended::Forbidden => "forbidden",
         Ended::NoNetwork => "no-network",
-        Ended::NoHost => "no-host",
-        Ended::Refused => "refused",
+        Ended::NoHost => "no-address",
+        Ended::Refused => "all-failed",
         Ended::TimedOut => "timed-out",
         Ended::Command => "command",
         Ended::Kind => "address-kind",
+        Ended::Connected | Ended::Failed => "proxy-failed",
     }
 }

@@ -1,7 +1,7 @@
 //! The pages of the proxy itself.
 
-use crate::access::Place;
 use crate::recent::Recent;
+use he_access::reach::Place;
 use he_addr::Memory;
 use he_front::{Ended, Page, page_asked, write_advice, write_config, write_page};
 use std::alloc::Global;
@@ -11,6 +11,8 @@ use std::alloc::Global;
 pub struct Asked<'a> {
     pub path: &'a [u8],
     pub host: Option<&'a [u8]>,
+    /// The place at which the client came.
+    pub at: Place,
     /// Whether the client is of this machine.
     pub is_near: bool,
 }
@@ -23,23 +25,27 @@ pub struct Asked<'a> {
 /// `Memory` where an allocation was refused; a part of it may be there.
 pub fn write_answer(
     alloc: Global,
-    own: &[Place],
     recent: &Recent,
     asked: Asked<'_>,
     out: &mut Vec<u8>,
 ) -> Result<(), Memory> {
-    for place in own {
-        if asked.is_near
-            && let Some(page) = page_asked(asked.path, asked.host, place.ip, place.port)
-        {
-            return write_own(alloc, *place, recent, page, out);
-        }
+    let (path, at) = (without_query(asked.path), asked.at);
+    if asked.is_near
+        && let Some(page) = page_asked(path, asked.host, at.ip, at.port)
+    {
+        return write_own(alloc, at, recent, page, out);
     }
     let mut advice = Vec::new(alloc);
-    if let Some(place) = own.first() {
-        write_advice(place.ip, place.port, &mut advice)?;
-    }
+    write_advice(at.ip, at.port, &mut advice)?;
     Ended::Command.write_response(&advice, out)
+}
+
+// A target in origin form without its query (RFC 9112 section 3.2.1).
+fn without_query(target: &[u8]) -> &[u8] {
+    match target.iter().position(|octet| *octet == b'?') {
+        Some(end) => &target[..end],
+        None => target,
+    }
 }
 
 fn write_own(

@@ -4,10 +4,12 @@ ghost use Rattle.std.specs.Prelude.{IfOk};
 ghost use Rattle.futures.specs.Runs.{AllItems};
 ghost use Rattle.he_proxy.specs.Sockets.{MayAccept};
 
-use crate::access::{Place, is_loopback};
+use crate::access::{ip_of, place_of};
 use crate::answers::KeptAnswers;
 use crate::beginning::Beginning;
+use crate::cause::Cause;
 use crate::clients::{Clients, Service};
+use crate::facts::SessionFacts;
 use crate::fault::ProxyFault;
 use crate::known::{KnownAddresses, KnownAtStart};
 use crate::log::Log;
@@ -15,20 +17,26 @@ use crate::racer::LoopRacer;
 use crate::recent::Recent;
 use crate::record::Records;
 use crate::request::{DEFAULT_PORT, ProxyRequest};
+use crate::running::Running;
 use crate::server::Server;
 use crate::sockets::SharedLoop;
 use crate::state::ProxyState;
+use crate::turned::TurnedAway;
 use futures::stream::SelectAll;
 use futures::{Future, Stream, StreamExt};
+use he_access::reach::{Place, is_loopback};
+use he_relay::keep_alive;
 use he_sessions::{Limits, Racer};
 use std::alloc::{AllocGlobal, Global};
-use std::io;
-use std::io::{ErrorKind, Write};
+use std::cell::Cell;
+use std::io::Write;
 use std::net::{IpAddr, Ipv4Addr, Ipv6Addr, Net, SocketAddr};
+use std::os::fd::OwnedFd;
 use std::random::RandomSource;
 use std::rt::Files;
 use std::sync::Wait;
 use std::time::{Clock, Duration};
+use std::{io, net};
 use tokio::net::{Incoming, TcpListener, TcpStream};
 use tokio::runtime::{Handle, LocalRuntime};
 
@@ -55,17 +63,28 @@ where
     let mut runtime = LocalRuntime::new(rt)?;
     let handle = runtime.handle().clone()?;
     let (sockets, own) = listen(rt, alloc, &handle, request.listen)?;
-    let KnownAtStart { known, wrong } = open_known(rt, alloc, request)?;
+    let KnownAtStart {
+        known,
+        wrong,
+        moved,
+    } = open_known(rt, alloc, request)?;
     let state = ProxyState {
         own,
         answers: KeptAnswers::new(rt, alloc)?,
         known,
         records: open_records(rt, alloc, request)?,
         recent: Recent::new(alloc),
-        beginning: Beginning::new(),
+        beginning: Beginning::new(alloc),
+        running: Running::new(request.most),
         log: Log::new(alloc, request.log, faults),
+        facts: SessionFacts::new(alloc),
+        turned_away: TurnedAway::new(alloc),
+        left: Cell::new(None),
     };
     state.log.tell_passed_over(&wrong);
+    if let Some(to) = &moved {
+        state.log.tell_moved(to);
+    }
     state.log.tell_places(&state.own);
     let shared = SharedLoop {
         rt: &*rt,
@@ -118,7 +137,6 @@ where
     let server = Server {
         shared,
         racer,
-        allow: request.allow,
         limits: Limits {
             request: Duration::from_secs(REQUEST),
             idle: request
@@ -168,17 +186,20 @@ where
     runtime.block_on(rt, running)
 }
 
-// That an address is open to others only where some are allowed.
+// That each address is loopback's where no network is allowed.
 fn refuse_open(request: &ProxyRequest<'_>) -> Result<(), ProxyFault> {
+    if !request.allow.is_empty() {
+        return Ok(());
+    }
     for socket in request.listen {
-        if request.allow.is_empty() && !is_loopback(Place::of(*socket).ip) {
+        if !is_loopback(ip_of(socket.ip())) {
             return Err(ProxyFault::Open(*socket));
         }
     }
     Ok(())
 }
 
-// Listens at the addresses; with none, at loopback's, of which one is enough.
+// Listens at the addresses; with none, at loopback's.
 fn listen<R: Net>(
     rt: &R,
     alloc: Global,
@@ -190,18 +211,44 @@ fn listen<R: Net>(
     let mut sockets = SelectAll::new(alloc)?;
     let mut own = Vec::new(alloc);
     if addresses.is_empty() {
-        let first = SocketAddr::new(IpAddr::V4(Ipv4Addr::LOCALHOST), DEFAULT_PORT);
-        let second = SocketAddr::new(IpAddr::V6(Ipv6Addr::LOCALHOST), DEFAULT_PORT);
-        let of_first = add_socket(rt, handle, first, &mut sockets, &mut own);
-        let of_second = add_socket(rt, handle, second, &mut sockets, &mut own);
-        if of_second.is_err() {
-            of_first?;
-        }
+        add_loopback(rt, handle, &mut sockets, &mut own)?;
     }
     for address in addresses {
         add_socket(rt, handle, *address, &mut sockets, &mut own)?;
     }
     Ok((sockets, own))
+}
+
+// Listens at both loopback addresses, or at the one that this machine has.
+fn add_loopback<R: Net>(
+    rt: &R,
+    handle: &Handle,
+    sockets: &mut SelectAll<Incoming>,
+    own: &mut Vec<Place>,
+) -> Result<(), ProxyFault>
+    requires { MayAccept sockets.old }
+    ensures { MayAccept sockets.new }
+{
+    let v4 = SocketAddr::new(IpAddr::V4(Ipv4Addr::LOCALHOST), DEFAULT_PORT);
+    let v6 = SocketAddr::new(IpAddr::V6(Ipv6Addr::LOCALHOST), DEFAULT_PORT);
+    let of_v4 = add_socket(rt, handle, v4, sockets, own);
+    if let Err(fault) = of_v4
+        && !is_no_address(fault)
+    {
+        return Err(fault);
+    }
+    match add_socket(rt, handle, v6, sockets, own) {
+        Err(fault) if of_v4.is_err() || !is_no_address(fault) => Err(fault),
+        _ => Ok(()),
+    }
+}
+
+// Whether nothing can listen there, since this machine lacks the address or its family.
+fn is_no_address(fault: ProxyFault) -> bool {
+    match fault {
+        ProxyFault::Listen(_, cause) => cause.is_no_address(),
+        _ => false,
+    }
 }
 
 fn add_socket<R: Net>(
@@ -214,14 +261,22 @@ fn add_socket<R: Net>(
     requires { MayAccept sockets.old }
     ensures { MayAccept sockets.new }
 {
-    let listener = match TcpListener::bind(rt, address, handle.reactor()) {
+    let listener = match bind(rt, address, handle) {
         Ok(listener) => listener,
-        Err(error) => return Err(ProxyFault::Listen(address, error.kind())),
+        Err(error) => return Err(ProxyFault::Listen(address, Cause::of(&error))),
     };
     let local = listener.local_addr()?;
-    own.push(Place::of(local))?;
+    own.push(place_of(local))?;
     sockets.push(listener.incoming())?;
     Ok(())
+}
+
+// Listens there, for connections that notice where their remote vanishes.
+fn bind<R: Net>(rt: &R, address: SocketAddr, handle: &Handle) -> io::Result<TcpListener> {
+    let socket = mio::net::TcpListener::bind(rt, address)?;
+    keep_alive(&socket);
+    let socket = net::TcpListener::from(OwnedFd::from(socket));
+    TcpListener::from_std(socket, handle.reactor())
 }
 
 fn open_records<R: Files + AllocGlobal + Copy>(
@@ -234,7 +289,7 @@ fn open_records<R: Files + AllocGlobal + Copy>(
     };
     match Records::open(rt, alloc, dir, request.record_most) {
         Ok(records) => Ok(Some(records)),
-        Err(error) => Err(ProxyFault::Record(error.kind())),
+        Err(error) => Err(ProxyFault::Record(Cause::of(&error))),
     }
 }
 
@@ -245,7 +300,6 @@ fn open_known<R: Files + RandomSource + AllocGlobal + Copy>(
 ) -> Result<KnownAtStart, ProxyFault> {
     match KnownAddresses::open(rt, alloc, request.history) {
         Ok(known) => Ok(known),
-        Err(error) if error.kind() == ErrorKind::InvalidData => Err(ProxyFault::NotHistory),
-        Err(error) => Err(ProxyFault::History(error.kind())),
+        Err(error) => Err(ProxyFault::History(Cause::of(&error))),
     }
 }

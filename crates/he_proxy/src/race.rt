@@ -9,28 +9,38 @@ use he_front::Ended;
 use he_race::{RaceFault, Raced};
 use he_sessions::Won;
 use std::alloc::AllocGlobal;
+use std::net::Net;
 use std::random::RandomSource;
 use std::rt::Files;
 use std::time::Clock;
+use tokio::time::Sleep;
 
 /// A race that a session asks for, over whatever race there is. Once it has ended its record is kept.
 #[derive(Drop)]
 pub struct LoopRace<'h, R, F: Drop> {
     race: F,
     keeping: Keeping<'h, R>,
+    // The attempts so far whose sockets have places in the event loop, and the timer that made them.
+    placed: usize,
+    placing: Option<Sleep>,
 }
 
 impl<'h, R, F: Drop> LoopRace<'h, R, F> {
     pub fn new(race: F, keeping: Keeping<'h, R>) -> LoopRace<'h, R, F>
         ensures { result.race ≡ race }
     {
-        LoopRace { race, keeping }
+        LoopRace {
+            race,
+            keeping,
+            placed: 0,
+            placing: None,
+        }
     }
 }
 
 impl<'h, R, F> Future for LoopRace<'h, R, F>
 where
-    R: Clock + Files + RandomSource + AllocGlobal + Copy,
+    R: Clock + Files + RandomSource + AllocGlobal + Net + Copy,
     F: Future<Output = Result<Raced<Joined>, RaceFault>>,
 {
     type Output = Result<Won, Ended>;
@@ -45,9 +55,14 @@ where
     ghost gives = { λ s end. HandsOut (λ raced. F.gives s.race (Ok raced)) end };
 
     fn poll(&mut self, cx: &mut Context<'_>) -> Poll<Result<Won, Ended>> {
+        self.keeping.hear_leaving();
         match self.race.poll(cx) {
             Poll::Pending => {
-                self.keeping.shared.make_places(cx);
+                let begun = self.keeping.noted.steps.attempts();
+                if begun != self.placed {
+                    self.placed = begun;
+                    self.placing = self.keeping.shared.make_places(cx);
+                }
                 Poll::Pending
             }
             Poll::Ready(Ok(raced)) => Poll::Ready(self.keeping.end(raced)),

@@ -2,21 +2,25 @@
 ghost use Rattle.std.specs.Prelude.{◌≡◌, IfOk, Ok};
 ghost use Rattle.he_proxy.specs.Races.{AsksFor, IsReachOf, IsWonBy, RunsFrom, Wins};
 
-use crate::access::{Reach, ip_of, is_loopback};
-use crate::keeping::{Keeping, nameless_end};
+use crate::access::{Client, Reach, ip_of, place_of};
+use crate::beginning::ClientPlace;
+use crate::facts::Facts;
+use crate::keeping::Keeping;
+use crate::lost::Lost;
 use crate::pages::{Asked, write_answer};
 use crate::race::LoopRace;
 use crate::record::Records;
 use crate::request::ProxyRequest;
 use crate::sockets::{Noted, SharedLoop, SocketRace, socket_race};
 use crate::source::Earlier;
-use crate::stamp::stamp_now;
+use crate::stamp::{second_now, stamp_now};
 use crate::state::ProxyState;
 use futures::Future;
-use he_addr::Memory;
+use he_access::reach::is_served;
+use he_addr::{Ip, Memory};
 use he_connect::{ConnectFault, ConnectRequest, Setup, set_up};
 use he_front::Ended;
-use he_sessions::{Racer, SessionEnd};
+use he_sessions::{PageAsked, Racer, SessionEnd};
 use std::alloc::{AllocError, AllocGlobal};
 use std::io;
 use std::io::Write;
@@ -24,7 +28,10 @@ use std::mem::drop;
 use std::net::{Net, SocketAddr};
 use std::random::RandomSource;
 use std::rt::Files;
-use std::time::Clock;
+use std::time::{Clock, Instant};
+
+// How many octets of a request's target the log has at most.
+const MOST_TARGET: usize = 256;
 
 /// What races for the sessions, and reports on them.
 #[derive(Drop)]
@@ -43,10 +50,10 @@ where
     fn reach_of(&self, client: SocketAddr) -> Reach<'h>
         ensures { IsReachOf self.now.state.now.own.items self.now.request.now.allows_private client result }
     {
-        let is_near = is_loopback(ip_of(client.ip()));
         Reach {
             own: self.state.own.as_slice(),
-            is_wide: self.request.allows_private || is_near,
+            client: Client::of(self.shared.rt, client),
+            allows_private: self.request.allows_private,
         }
     }
 
@@ -63,6 +70,7 @@ where
             settings: self.request.settings,
             lines: self.request.lines,
             resolver: self.request.resolver,
+            environment: self.request.environment,
             explains: false,
             tells_steps: false,
         }
@@ -81,7 +89,7 @@ where
     {
         let request = self.request_for(host, port);
         let setup = set_up(self.shared.rt, self.shared.alloc, &request, &mut io::sink())?;
-        let begun = self.begin_from(&setup, self.reach_of(client));
+        let begun = self.begin_from(&setup, self.reach_of(client), client);
         drop(setup);
         begun
     }
@@ -91,13 +99,14 @@ where
         &self,
         setup: &Setup<'_>,
         reach: Reach<'h>,
+        client: SocketAddr,
     ) -> Result<LoopRace<'h, R, SocketRace<'h, R>>, ConnectFault>
         ensures can { IfOk result (λ race. ⟦<SocketRace<'h, R> as Future>⟧.can_poll race.race) }
         ensures runs { IfOk result (λ race. (raced : _) → ⟦<SocketRace<'h, R> as Future>⟧.gives race.race (Ok raced)
             → RunsFrom setup.now.start setup.now.to reach.entry raced) }
     {
         let noted = Noted::new(self.shared.alloc)?;
-        let keeping = self.keeping(&setup.request, reach, noted)?;
+        let keeping = self.keeping(&setup.request, reach, noted, client)?;
         let earlier = Earlier {
             kept: &self.state.answers,
             known: &self.state.known,
@@ -111,6 +120,7 @@ where
         request: &ConnectRequest<'_>,
         reach: Reach<'h>,
         noted: Noted,
+        client: SocketAddr,
     ) -> Result<Keeping<'h, R>, ConnectFault> {
         let SharedLoop { rt, alloc, .. } = self.shared;
         let Some(began) = stamp_now(rt, alloc) else {
@@ -121,6 +131,9 @@ where
             records: self.state.records.as_ref(),
             recent: &self.state.recent,
             known: &self.state.known,
+            facts: &self.state.facts,
+            client,
+            left: &self.state.left,
             began,
             host: String::from_str(alloc, request.host)?,
             port: request.port,
@@ -131,6 +144,42 @@ where
     }
 }
 
+impl<'h, R, F> LoopRacer<'h, R, F>
+where
+    R: Clock + RandomSource + AllocGlobal + Net + Files + Copy,
+    F: Write + Drop,
+{
+    // Notes why no race began for the client, for the log; gives what the client is answered.
+    fn lose(&self, client: SocketAddr, fault: ConnectFault) -> Ended {
+        let lost = match fault {
+            ConnectFault::Name(fault) => Lost::of_names(fault),
+            _ => Lost::ProxyFailed,
+        };
+        let mut facts = Facts::none(self.shared.alloc);
+        facts.lost = Some(lost);
+        self.state.facts.note(client, facts);
+        lost.ended()
+    }
+
+    // Notes what the client asks for by GET, for the log.
+    fn note_target(&self, client: SocketAddr, path: &[u8]) {
+        let mut facts = Facts::none(self.shared.alloc);
+        let len = path.len().min(MOST_TARGET);
+        facts.target = Vec::from_slice(self.shared.alloc, &path[..len]).ok();
+        self.state.facts.note(client, facts);
+    }
+
+    // Says once a minute and network that a client is turned away.
+    fn tell_turned_away(&self, client: SocketAddr, ip: Ip) {
+        let rt = self.shared.rt;
+        if let Some(now) = second_now(rt)
+            && self.state.turned_away.is_news(ip, now)
+        {
+            self.state.log.tell_turned_away(rt, client);
+        }
+    }
+}
+
 impl<'h, R, F> Racer for LoopRacer<'h, R, F>
 where
     R: Clock + RandomSource + AllocGlobal + Net + Files + Copy,
@@ -138,49 +187,71 @@ where
 {
     type Race = LoopRace<'h, R, SocketRace<'h, R>>;
 
-    ghost use Rattle.std.specs.Prelude.{IfOk};
-    ghost use Rattle.he_proxy.specs.Races.{IsWonAt};
+    type Place = ClientPlace<'h>;
 
-    ghost answers = { λ host port end. IfOk end (IsWonAt host port) };
+    ghost use Rattle.std.specs.Prelude.{IfOk};
+    ghost use Rattle.std.specs.Net.Socket.{socket_ip};
+    ghost use Rattle.he_addr.specs.Text.{ip_of};
+    ghost use Rattle.he_access.specs.Reaching.{IsServed};
+    ghost use Rattle.he_proxy.specs.Races.{IsWonBy};
+
+    ghost serves = { λ racer client. IsServed (ip_of (socket_ip client)) racer.request.now.allow.now };
+
+    ghost answers = { λ racer client host port end. IfOk end (IsWonBy racer.request.now racer.state.now.own.items client
+        host port) };
+
+    fn is_served(&self, client: SocketAddr) -> bool {
+        let ip = ip_of(client.ip());
+        let is_served = is_served(ip, self.request.allow);
+        if !is_served {
+            self.tell_turned_away(client, ip);
+        }
+        is_served
+    }
+
+    fn place(&self, client: SocketAddr) -> io::Result<ClientPlace<'h>> {
+        let now = Instant::now(self.shared.rt)?;
+        Ok(self.state.beginning.enter(client.ip(), now)?)
+    }
 
     fn race(&self, client: SocketAddr, host: &str, port: u16) -> Result<Self::Race, Ended> {
-        self.state.beginning.remove();
         match self.begin(client, host, port) {
             Ok(race) => Ok(race),
-            Err(ConnectFault::Name(fault)) => Err(nameless_end(fault)),
-            Err(_) => Err(Ended::Failed),
+            Err(fault) => Err(self.lose(client, fault)),
         }
     }
 
-    fn page(
-        &self,
-        client: SocketAddr,
-        path: &[u8],
-        host: Option<&[u8]>,
-        out: &mut Vec<u8>,
-    ) -> Result<(), AllocError> {
+    fn page(&self, asked: &PageAsked<'_>, out: &mut Vec<u8>) -> Result<(), AllocError> {
+        let PageAsked {
+            client,
+            at,
+            path,
+            host,
+        } = *asked;
+        self.note_target(client, path);
         let asked = Asked {
             path,
             host,
-            is_near: is_loopback(ip_of(client.ip())),
+            at: place_of(SocketAddr::new(at.ip().to_canonical(), at.port())),
+            is_near: Client::of(self.shared.rt, client).is_near(),
         };
-        match write_answer(
-            self.shared.alloc,
-            self.state.own.as_slice(),
-            &self.state.recent,
-            asked,
-            out,
-        ) {
+        match write_answer(self.shared.alloc, &self.state.recent, asked, out) {
             Ok(()) => Ok(()),
             Err(Memory) => Err(AllocError),
         }
     }
 
+    fn left(&self, client: SocketAddr) {
+        self.state.left.set(Some(client));
+    }
+
     fn ended(&self, end: &SessionEnd<'_>) {
-        if end.host.is_empty() {
-            self.state.beginning.remove();
+        let facts = self.state.facts.take(end.client);
+        self.state.log.tell(self.shared.rt, end, &facts);
+        drop(facts);
+        if self.state.running.remove() {
+            self.state.log.tell_room(self.state.running.most());
         }
-        self.state.log.tell(self.shared.rt, end);
         if let Some(fault) = self.state.records.as_ref().and_then(Records::fault) {
             self.state.log.tell_unkept("records", fault);
         }

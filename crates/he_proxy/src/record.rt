@@ -1,13 +1,12 @@
 //! The files of the races' records.
 
+use crate::cause::Cause;
 use crate::trouble::Trouble;
-use he_files::create_beside;
-use std::alloc::{AllocGlobal, Global};
+use std::alloc::{AllocError, AllocGlobal, Global};
 use std::cell::Cell;
-use std::fs::{create_dir_all, exists, read_dir, remove_dir, remove_file};
+use std::fs::{File, create_dir_all, hard_link, read_dir, remove_dir, remove_file};
 use std::io;
 use std::io::{ErrorKind, Write};
-use std::random::RandomSource;
 use std::rt::Files;
 
 // How the name of a record ends.
@@ -19,6 +18,12 @@ const MOST_HOST: usize = 180;
 // How many races of one host and port may begin in one millisecond, each with a file of its own.
 const MOST_TWINS: u32 = 1_000;
 
+// How many records one connection removes at most.
+const MOST_REMOVED: u32 = 4;
+
+// How many of the oldest records are listed at once.
+const MOST_LISTED: usize = 1_000;
+
 /// The directory of the records: `DIR/2026-11-26/16-34-40.123-example.org-443.timeline`, days and times in UTC.
 #[derive(Drop)]
 pub struct Records {
@@ -26,6 +31,10 @@ pub struct Records {
     dir: String,
     most: u32,
     count: Cell<u32>,
+    // How many records may be kept until they are counted again, since others may have removed some.
+    recount: Cell<u32>,
+    // The oldest records as they were listed last, the oldest at the end.
+    oldest: Cell<Vec<String>>,
     trouble: Trouble,
 }
 
@@ -56,32 +65,40 @@ impl Records {
             dir: String::from_str(alloc, dir)?,
             most,
             count: Cell::new(count_in(rt, alloc, dir)?),
+            recount: Cell::new(0),
+            oldest: Cell::new(Vec::new(alloc)),
             trouble: Trouble::none(),
         })
     }
 
-    /// Keeps a record. The name is taken once all is written. Where there are more records then than are kept, the
-    /// oldest go, a tenth of them at once. What fails is noted.
-    pub fn keep<R: Files + RandomSource + AllocGlobal + Copy>(
+    /// Keeps a record, in a file of its own; gives its name below the directory. The file has that name once all is
+    /// written. Where there are more records then than are kept, some of the oldest go. What fails is noted.
+    pub fn keep<R: Files + AllocGlobal + Copy>(
         &self,
         rt: &R,
         name: RecordName<'_>,
         text: &[u8],
-    ) {
-        self.trouble.note(&self.write(rt, name, text));
+    ) -> Option<String> {
+        let written = self.write(rt, name, text);
+        let (kept, done) = match written {
+            Ok(kept) => (Some(kept), self.make_room(rt)),
+            Err(error) => (None, Err(error)),
+        };
+        self.trouble.note(&done);
+        kept
     }
 
     /// Why a record can't be kept, where that is not said yet.
-    pub fn fault(&self) -> Option<ErrorKind> {
+    pub fn fault(&self) -> Option<Cause> {
         self.trouble.take()
     }
 
-    fn write<R: Files + RandomSource + AllocGlobal + Copy>(
+    fn write<R: Files + AllocGlobal + Copy>(
         &self,
         rt: &R,
         name: RecordName<'_>,
         text: &[u8],
-    ) -> io::Result<()> {
+    ) -> io::Result<String> {
         let (Some(date), Some(time)) = (name.began.get(..10), name.began.get(11..23)) else {
             return Err(ErrorKind::InvalidInput.into());
         };
@@ -89,42 +106,62 @@ impl Records {
         let dir = self.dir.as_str();
         let day = format!(in alloc; "{dir}/{date}")?;
         create_dir_all(rt, day.as_str())?;
-        let stem = stem_of(alloc, day.as_str(), time, name)?;
-        let path = free_path(rt, alloc, stem.as_str())?;
-        write_file(rt, alloc, path.as_str(), text)?;
+        let stem = stem_of(alloc, time, name)?;
+        let file = write_new(rt, alloc, day.as_str(), stem.as_str(), text)?;
         self.count.set(self.count.get().saturating_add(1));
-        self.make_room(rt)
+        Ok(format!(in alloc; "{date}/{file}")?)
     }
 
-    // Removes the oldest records, where there are too many. They are counted again before that, since others may have
-    // removed some.
+    // Removes the oldest records where there are too many, a few at once.
     fn make_room<R: Files + AllocGlobal + Copy>(&self, rt: &R) -> io::Result<()> {
-        if self.count.get() > self.most {
-            self.count.set(count_in(rt, self.alloc, self.dir.as_str())?);
-        }
-        if self.count.get() <= self.most {
-            return Ok(());
-        }
-        let left = self.most.saturating_sub(self.most / 10);
-        for day in days_in(rt, self.alloc, self.dir.as_str())?.iter() {
-            for record in records_in(rt, self.alloc, day.as_str())?.iter() {
-                if self.count.get() <= left {
-                    return Ok(());
-                }
-                remove_file(rt, record.as_str())?;
-                self.count.set(self.count.get().saturating_sub(1));
+        for _ in 0..MOST_REMOVED {
+            if self.count.get() <= self.most || !self.remove_oldest(rt)? {
+                return Ok(());
             }
-            // What else is there stays, and its directory with it.
-            let _ = remove_dir(rt, day.as_str());
+        }
+        Ok(())
+    }
+
+    // Removes the oldest record, where there are too many once those are counted again that are there.
+    fn remove_oldest<R: Files + AllocGlobal + Copy>(&self, rt: &R) -> io::Result<bool> {
+        self.count_again(rt)?;
+        if self.count.get() <= self.most {
+            return Ok(false);
+        }
+        let mut oldest = self.oldest.replace(Vec::new(self.alloc));
+        if oldest.is_empty() {
+            oldest = oldest_in(rt, self.alloc, self.dir.as_str())?;
+        }
+        let last = oldest.pop();
+        self.oldest.set(oldest);
+        let Some(last) = last else {
+            return Ok(false);
+        };
+        match remove_file(rt, last.as_str()) {
+            Ok(()) => self.count.set(self.count.get().saturating_sub(1)),
+            Err(error) if error.kind() == ErrorKind::NotFound => self.recount.set(0),
+            Err(error) => return Err(error),
+        }
+        Ok(true)
+    }
+
+    // Counts the records after each hundredth of them.
+    fn count_again<R: Files + AllocGlobal + Copy>(&self, rt: &R) -> io::Result<()> {
+        match self.recount.get().checked_sub(1) {
+            Some(left) => self.recount.set(left),
+            None => {
+                let count = count_in(rt, self.alloc, self.dir.as_str())?;
+                self.count.set(count);
+                self.recount.set(count / 100);
+            }
         }
         Ok(())
     }
 }
 
-// The path of a record without its end: of the host, characters other than letters, digits, `-`, `.` and `:` are `_`.
-fn stem_of(alloc: Global, day: &str, time: &str, name: RecordName<'_>) -> io::Result<String> {
-    let mut stem = String::from_str(alloc, day)?;
-    stem.push('/')?;
+// The name of a record without its end: of the host, characters other than letters, digits, `-`, `.` and `:` are `_`.
+fn stem_of(alloc: Global, time: &str, name: RecordName<'_>) -> io::Result<String> {
+    let mut stem = String::new(alloc);
     for byte in time.as_bytes() {
         stem.push(if *byte == b':' {
             '-'
@@ -141,44 +178,84 @@ fn stem_of(alloc: Global, day: &str, time: &str, name: RecordName<'_>) -> io::Re
     Ok(format!(in alloc; "{stem}-{port}")?)
 }
 
-// A path that no record has: with a number after it, where another race of the host began in the same millisecond.
-fn free_path<R: Files>(rt: &R, alloc: Global, stem: &str) -> io::Result<String> {
-    let first = format!(in alloc; "{stem}{EXTENSION}")?;
-    if !exists(rt, first.as_str())? {
-        return Ok(first);
-    }
-    for number in 2..MOST_TWINS {
-        let next = format!(in alloc; "{stem}-{number}{EXTENSION}")?;
-        if !exists(rt, next.as_str())? {
-            return Ok(next);
+// Writes a new file of the day and gives its name, which it has once all is written: with a number after it, where
+// another race of the host began in the same millisecond.
+fn write_new<R: Files + AllocGlobal + Copy>(
+    rt: &R,
+    alloc: Global,
+    day: &str,
+    stem: &str,
+    text: &[u8],
+) -> io::Result<String> {
+    let beside = format!(in alloc; "{day}/{stem}.new")?;
+    let named = match write_file(rt, beside.as_str(), text) {
+        Ok(()) => give_name(rt, alloc, beside.as_str(), day, stem),
+        Err(error) => Err(error),
+    };
+    let _ = remove_file(rt, beside.as_str());
+    named
+}
+
+fn write_file<R: Files>(rt: &R, path: &str, text: &[u8]) -> io::Result<()> {
+    let mut file = File::create(rt, path)?;
+    file.write_all(text)
+}
+
+// Gives the file beside a name of the day that no other has.
+fn give_name<R: Files + AllocGlobal + Copy>(
+    rt: &R,
+    alloc: Global,
+    beside: &str,
+    day: &str,
+    stem: &str,
+) -> io::Result<String> {
+    for number in 1..MOST_TWINS {
+        let name = name_of(alloc, stem, number)?;
+        let path = format!(in alloc; "{day}/{name}")?;
+        match hard_link(rt, beside, path.as_str()) {
+            Ok(()) => return Ok(name),
+            Err(error) if error.kind() == ErrorKind::AlreadyExists => {}
+            Err(error) => return Err(error),
         }
     }
     Err(ErrorKind::AlreadyExists.into())
 }
 
-// Writes a file beside the one of this path, and puts it in its place once all is written.
-pub(crate) fn write_file<R: Files + RandomSource + AllocGlobal>(
+fn name_of(alloc: Global, stem: &str, number: u32) -> Result<String, AllocError> {
+    match number {
+        1 => format!(in alloc; "{stem}{EXTENSION}"),
+        _ => format!(in alloc; "{stem}-{number}{EXTENSION}"),
+    }
+}
+
+// Some of the oldest records, the oldest at the end; days without a record are removed.
+fn oldest_in<R: Files + AllocGlobal + Copy>(
     rt: &R,
     alloc: Global,
-    path: &str,
-    text: &[u8],
-) -> io::Result<()> {
-    let (mut file, name) = create_beside(rt, alloc, path)?;
-    match file.write_all(text) {
-        Ok(()) => name.keep(rt),
-        Err(error) => {
-            name.discard(rt);
-            Err(error)
+    dir: &str,
+) -> io::Result<Vec<String>> {
+    for day in days_in(rt, alloc, dir)?.iter() {
+        let mut records = records_in(rt, alloc, day.as_str())?;
+        if !records.is_empty() {
+            records.truncate(MOST_LISTED);
+            records.reverse();
+            return Ok(records);
         }
+        // What else is there stays, and its directory with it.
+        let _ = remove_dir(rt, day.as_str());
     }
+    Ok(Vec::new(alloc))
 }
 
 // How many records there are.
 fn count_in<R: Files + AllocGlobal + Copy>(rt: &R, alloc: Global, dir: &str) -> io::Result<u32> {
     let mut count = 0u32;
     for day in days_in(rt, alloc, dir)?.iter() {
-        let records = records_in(rt, alloc, day.as_str())?.len();
-        count = count.saturating_add(records.min(u32::MAX as usize) as u32);
+        for entry in read_dir(rt, day.as_str())? {
+            if is_record(entry?.file_name()) {
+                count = count.saturating_add(1);
+            }
+        }
     }
     Ok(count)
 }

@@ -2,7 +2,7 @@
 
 use he_addr::Prefix;
 use he_connect::{Families, Lines};
-use he_resolver::Choice;
+use he_resolver::{Choice, Environment};
 use he_timeline::Settings;
 use std::net::SocketAddr;
 
@@ -42,7 +42,9 @@ pub struct ProxyRequest<'a> {
     pub lines: Lines<'a>,
     /// Which name servers are asked for the addresses of hosts. The system's resolver is not called: with it a name
     /// that the file of hosts lacks has no address.
-    pub resolver: Choice,
+    pub resolver: Choice<'a>,
+    /// By which the file of resolver settings is amended.
+    pub environment: Environment<'a>,
     /// The directory of the records of the races; with none, no race is recorded.
     pub record: Option<&'a str>,
     /// How many records are kept, at least 1.

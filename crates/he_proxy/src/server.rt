@@ -1,16 +1,14 @@
 //! What is done with clients: a session for each that is served.
 ghost use Rattle.std.specs.Prelude.{IfSome};
 
-use crate::access::{ip_of, is_served};
 use crate::clients::Service;
 use crate::sockets::SharedLoop;
 use crate::state::ProxyState;
-use he_addr::Prefix;
 use he_live::Reason;
 use he_sessions::{Limits, Racer, Session};
 use std::io::Write;
 use std::net::SocketAddr;
-use std::time::Clock;
+use std::time::{Clock, Instant};
 use tokio::net::TcpStream;
 
 /// What each session is made with.
@@ -18,8 +16,6 @@ use tokio::net::TcpStream;
 pub struct Server<'q, K, Q, F: Drop> {
     pub shared: SharedLoop<'q, K>,
     pub racer: &'q Q,
-    /// From where clients may come, beside this machine.
-    pub allow: &'q [Prefix],
     pub limits: Limits,
     pub state: &'q ProxyState<F>,
 }
@@ -28,14 +24,16 @@ impl<'q, K: Clock, Q: Racer, F: Write + Drop> Service for Server<'q, K, Q, F> {
     type Session = Session<'q, K, Q>;
 
     fn begin(&self, client: TcpStream, address: SocketAddr) -> Option<Session<'q, K, Q>> {
-        if !is_served(ip_of(address.ip()), self.allow) {
+        if !self.racer.is_served(address) {
             return None;
         }
         let SharedLoop { rt, alloc, handle } = self.shared;
         let (timers, racer) = (handle.time(), self.racer);
         match Session::new(rt, alloc, timers, racer, client, address, self.limits) {
             Ok(session) => {
-                self.state.beginning.add();
+                if self.state.running.add() {
+                    self.state.log.tell_most(self.state.running.most());
+                }
                 Some(session)
             }
             Err(_) => None,
@@ -43,10 +41,18 @@ impl<'q, K: Clock, Q: Racer, F: Write + Drop> Service for Server<'q, K, Q, F> {
     }
 
     fn is_full(&self) -> bool {
-        self.state.beginning.is_full()
+        match Instant::now(self.shared.rt) {
+            Ok(now) => self.state.beginning.is_full(now),
+            Err(_) => false,
+        }
     }
 
-    fn tell_rest(&self, _why: Reason) {
-        self.state.log.say("no descriptor is left for another client: waiting until one is");
+    fn tell_rest(&self, why: Reason) {
+        self.state.log.say(match why {
+            Reason::TooManyFiles | Reason::TooManyFilesInSystem => {
+                "no descriptor is left for another client: waiting until one is"
+            }
+            _ => "no memory is left for another client: waiting until some is",
+        });
     }
 }

@@ -1,7 +1,6 @@
 //! The race of a session over the sockets of the event loop.
 ghost use Rattle.std.specs.Prelude.{◌≡◌, IfOk, Ok};
 ghost use Rattle.futures.specs.Task.{Keeps};
-ghost use Rattle.he_connect.specs.Races.{only_of};
 ghost use Rattle.he_resolver.specs.Heard.{IsSound};
 ghost use Rattle.he_proxy.specs.Kept.{BeginsBy};
 ghost use Rattle.he_proxy.specs.Races.{RunsFrom};
@@ -10,9 +9,10 @@ use crate::access::Reach;
 use crate::answers::KeptAnswers;
 use crate::dial::LoopConnector;
 use crate::source::{Earlier, RaceSource};
+use crate::ticks::{Progress, RaceTicker};
 use futures::Future;
 use futures::task::Context;
-use he_connect::{ConnectFault, ConnectRequest, HostAnswers, LookupFaults, Setup};
+use he_connect::{ConnectFault, HostAnswers, LookupFaults, Setup};
 use he_live::{LiveTicker, Quiet, Steps};
 use he_race::ResolvingRace;
 use he_resolver::{Lookup, Wanted};
@@ -20,14 +20,15 @@ use std::alloc::{AllocError, AllocGlobal, Global};
 use std::net::Net;
 use std::random::RandomSource;
 use std::rt::Files;
-use std::time::{Clock, Duration, Instant};
+use std::time::{Clock, Duration};
 use tokio::runtime::Handle;
+use tokio::time::Sleep;
 
 /// The race over the sockets of the event loop.
 pub type SocketRace<'h, R> = ResolvingRace<
     LoopConnector<'h, R>,
     RaceSource<'h, R>,
-    LiveTicker<'h, R, Quiet>,
+    RaceTicker<'h, R>,
 >;
 
 /// The event loop that all races share.
@@ -41,15 +42,18 @@ pub struct SharedLoop<'h, R> {
 impl<R: Clock> SharedLoop<'_, R> {
     /// Makes places in the event loop for all sockets so far. Of a socket without one the loop forgets what it hears
     /// before the socket's first poll, at the next tick: where a server greets and closes by then, its end would not
-    /// be seen.
-    pub fn make_places(&self, cx: &mut Context<'_>)
+    /// be seen. The timer that is given is to be held: the task is woken once when it goes.
+    pub fn make_places(&self, cx: &mut Context<'_>) -> Option<Sleep>
         ensures { Keeps cx.old cx.new }
     {
         // Places are made in the order of the sockets and timers, and where one is polled first.
-        let never = Duration::from_secs(NEVER);
-        if let Ok(mut last) = self.handle.time().sleep(self.rt, never) {
-            let _ = last.poll_elapsed(cx);
-        }
+        let mut last = self
+            .handle
+            .time()
+            .sleep(self.rt, Duration::from_secs(NEVER))
+            .ok()?;
+        let _ = last.poll_elapsed(cx);
+        Some(last)
     }
 }
 
@@ -63,6 +67,8 @@ pub struct Noted {
     pub steps: Steps,
     /// Why its families have no address.
     pub why: LookupFaults,
+    /// How far it is, and whether its client has left.
+    pub progress: Progress,
 }
 
 impl Noted {
@@ -75,33 +81,40 @@ impl Noted {
         Ok(Noted {
             steps: Steps::new(alloc)?,
             why: LookupFaults::new(alloc)?,
+            progress: Progress::new(alloc)?,
         })
     }
 }
 
-// A look-up of the request's host: by the answers that are kept, or by name servers, which waits in the event loop.
+// A look-up of the host: of what is kept or known of it, or by name servers, which waits in the event loop.
 fn look_up<'h, R>(
     shared: SharedLoop<'h, R>,
-    request: &ConnectRequest<'_>,
+    setup: &Setup<'_>,
     kept: &KeptAnswers,
 ) -> Result<Lookup<'h, R>, ConnectFault>
 where
     R: Clock + RandomSource + AllocGlobal + Net + Files + Copy,
-    ensures begins { IfOk result (λ lookup. BeginsBy request.now.host.now request.now.resolver (only_of
-        request.now.families) lookup.source) }
+    ensures begins { IfOk result (λ lookup. BeginsBy setup.now.request lookup.source) }
     ensures sound { IfOk result (λ lookup. IsSound lookup.source) }
 {
     let SharedLoop { rt, alloc, handle } = shared;
-    if let Some(known) = kept.known(rt, request.host, request.families.only()) {
+    let request = &setup.request;
+    let mut known = kept.known(rt, request.host, request.families.only());
+    if known.is_none()
+        && let Some(ips) = &setup.known
+    {
+        known = Some(Vec::from_slice(alloc, ips)?);
+    }
+    if let Some(known) = known {
         return Ok(Lookup::of_known(rt, alloc, known)?);
     }
     let wanted = Wanted {
         host: request.host,
         only: request.families.only(),
         choice: request.resolver,
+        environment: request.environment,
     };
-    let (reactor, timers) = (handle.reactor(), handle.time());
-    Ok(Lookup::by_servers(rt, alloc, reactor, timers, wanted)?)
+    Ok(Lookup::by_servers(rt, alloc, handle, wanted)?)
 }
 
 /// The race that is set up, before its first turn.
@@ -123,15 +136,15 @@ where
         → RunsFrom setup.now.start setup.now.to reach.entry raced) }
 {
     let SharedLoop { rt, alloc, handle } = shared;
-    let start = Instant::now(rt)?;
-    let lookup = look_up(shared, &setup.request, earlier.kept)?;
+    let lookup = look_up(shared, setup, earlier.kept)?;
     let machine = if setup.brings_lines { Some(rt) } else { None };
     let answers = HostAnswers::new(alloc, lookup, machine, noted.why.share()?, Quiet)?;
     let source = RaceSource::new(rt, setup.request.host, answers, noted.why.share()?, earlier)?;
     let steps = noted.steps.share()?;
     let connector = LoopConnector::new(rt, handle.reactor(), setup.to, reach, steps);
     let steps = noted.steps.share()?;
-    let ticker = LiveTicker::new(rt, handle.time(), start, steps, Quiet);
+    let ticks = LiveTicker::new(rt, handle.time(), steps, Quiet);
+    let ticker = RaceTicker::new(ticks, noted.progress.share()?);
     let race = ResolvingRace::new(alloc, &setup.start, connector, source, ticker)?;
     Ok(race)
 }

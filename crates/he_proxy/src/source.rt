@@ -171,11 +171,11 @@ where
         }
     }
 
-    // Keeps what name servers told of the family: its addresses, or that there are none.
+    // Keeps what a name server said of the family: its addresses, or that there are none.
     fn keep(&self, family: Family, answer: &Answer) {
         let ttl = self.answers.ttl(family);
         let fault = self.why.families().of(family);
-        if ttl.is_none() && !fault.is_some_and(is_of_servers) {
+        if ttl.is_none() && !fault.is_some_and(is_said) {
             return;
         }
         if let Ok(ips) = ips_of(self.alloc, &answer.known) {
@@ -207,15 +207,9 @@ fn turn_for<'h>(kept: &'h KeptAnswers, host: &str) -> Turn<'h> {
     })
 }
 
-// Whether the fault is what name servers said, or that none answered.
-fn is_of_servers(fault: NamesFault) -> bool {
-    matches!(
-        fault,
-        NamesFault::NoAddress
-            | NamesFault::NoSuchName
-            | NamesFault::NoAnswer
-            | NamesFault::Server(_)
-    )
+// Whether a name server said it: that there is no such name, or no address of it.
+fn is_said(fault: NamesFault) -> bool {
+    matches!(fault, NamesFault::NoAddress | NamesFault::NoSuchName)
 }
 
 fn ips_of(alloc: Global, known: &[Known]) -> Result<Vec<Ip>, AllocError>

@@ -1,8 +1,8 @@
 //! A fault of the system that may last, and is said once.
 
+use crate::cause::Cause;
 use std::cell::Cell;
 use std::io;
-use std::io::ErrorKind;
 
 /// Whether something fails, and whether that was said.
 #[derive(Drop)]
@@ -13,7 +13,7 @@ pub struct Trouble {
 #[derive(Clone, Copy)]
 enum State {
     Well,
-    Fails(ErrorKind),
+    Fails(Cause),
     Said,
 }
 
@@ -29,17 +29,17 @@ impl Trouble {
     pub fn note(&self, done: &io::Result<()>) {
         match (done, self.state.get()) {
             (Ok(()), _) => self.state.set(State::Well),
-            (Err(error), State::Well) => self.state.set(State::Fails(error.kind())),
+            (Err(error), State::Well) => self.state.set(State::Fails(Cause::of(error))),
             (Err(_), _) => {}
         }
     }
 
     /// The fault that is to be said: the first one, and the first one after each time that it went well.
-    pub fn take(&self) -> Option<ErrorKind> {
+    pub fn take(&self) -> Option<Cause> {
         match self.state.get() {
-            State::Fails(kind) => {
+            State::Fails(cause) => {
                 self.state.set(State::Said);
-                Some(kind)
+                Some(cause)
             }
             State::Well | State::Said => None,
         }

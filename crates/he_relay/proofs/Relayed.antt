@@ -26,15 +26,16 @@ module _ (Gave : List ℕ → Bool → Type 0) (GaveSoFar Put PutPart : List ℕ
   told_so : (result told : Result (Unit {0}) RelayFault) → result ≡ told → Relays Put PutPart Kept told → Relays Put PutPart Kept result
   told_so result told same of = subst (Relays Put PutPart Kept) (sym same) of
 
-  pub put_so : (is_terminal : Bool) (sent received : Result (Unit {0}) PumpFault) (result : Result (Unit {0}) RelayFault)
-      → Pumps Gave GaveSoFar Put PutPart received → IsEnd is_terminal sent received result → Relays Put PutPart Kept result
-  put_so is_terminal sent (Err pumps.Output) result (bytes, gave, put) is = told_so result _ is (bytes, put)
-  put_so is_terminal sent (Err pumps.Input) result (bytes, gave, put) (how, traffic, is) = told_so result _ is (bytes, put)
-  put_so is_terminal sent (Err pumps.Cut) result (bytes, gave, put) (how, traffic, is) = told_so result _ is (bytes, put)
-  put_so is_terminal (Err pumps.Output) (Ok done) result (bytes, gave, put) (inl (how, traffic, is)) = told_so result _ is (bytes, put)
-  put_so is_terminal (Err pumps.Output) (Ok done) result (bytes, gave, put) (inr (unsent, is)) = told_so result _ is (bytes, put)
-  put_so is_terminal (Err pumps.Input) (Ok done) result (bytes, gave, put) is = told_so result _ is (bytes, put)
-  put_so false (Err pumps.Cut) (Ok done) result (bytes, gave, put) is = told_so result _ is (bytes, put)
+  pub put_so : (has_more : Bool) (sent received : Result (Unit {0}) PumpFault) (result : Result (Unit {0}) RelayFault)
+      → Pumps Gave GaveSoFar Put PutPart received → IsEnd has_more sent received result → Relays Put PutPart Kept result
+  put_so has_more sent (Err pumps.Output) result (bytes, gave, put) is = told_so result _ is (bytes, put)
+  put_so has_more sent (Err pumps.Input) result (bytes, gave, put) (how, traffic, is) = told_so result _ is (bytes, put)
+  put_so has_more sent (Err pumps.Cut) result (bytes, gave, put) (how, traffic, is) = told_so result _ is (bytes, put)
+  put_so has_more (Err pumps.Output) (Ok done) result (bytes, gave, put) (inl (how, traffic, is)) = told_so result _ is (bytes, put)
+  put_so has_more (Err pumps.Output) (Ok done) result (bytes, gave, put) (inr (unsent, is)) = told_so result _ is (bytes, put)
+  put_so has_more (Err pumps.Input) (Ok done) result (bytes, gave, put) is = told_so result _ is (bytes, put)
   put_so true (Err pumps.Cut) (Ok done) result (bytes, gave, put) is = told_so result _ is (bytes, put)
-  put_so is_terminal (Ok sent) (Ok done) result (bytes, gave, put) (inl is) = told_so result _ is (bytes, put)
-  put_so is_terminal (Ok sent) (Ok done) result (bytes, gave, put) (inr (how, traffic, is)) = told_so result _ is (bytes, put)
+  put_so false (Err pumps.Cut) (Ok done) result (bytes, gave, put) (inl is) = told_so result _ is (bytes, put)
+  put_so false (Err pumps.Cut) (Ok done) result (bytes, gave, put) (inr (how, traffic, is)) = told_so result _ is (bytes, put)
+  put_so has_more (Ok sent) (Ok done) result (bytes, gave, put) (inl is) = told_so result _ is (bytes, put)
+  put_so has_more (Ok sent) (Ok done) result (bytes, gave, put) (inr (how, traffic, is)) = told_so result _ is (bytes, put)

@@ -25,18 +25,18 @@ abbrev pub IsNotSent : Result (Unit {0}) RelayFault → Type 0
 IsNotSent result = IsBroken result ⊎ ((unsent : Unsent) × (result ≡ Err (faults.Unsent unsent)))
 
 -- the end that is told of two ways, of which the one to the connection and the one from it ended so: what failed is
--- told, of the way to the output first. That the input was cut is a fault, but at a terminal; and where both ways
+-- told, of the way to the output first. That the input was cut is a fault where it then had more; and where both ways
 -- ended, the connection may break after them, before all that was sent has come to the remote
 abbrev pub IsEnd : Bool → Result (Unit {0}) PumpFault → Result (Unit {0}) PumpFault → Result (Unit {0}) RelayFault
     → Type 0
-IsEnd is_terminal sent (Err pumps.Output) result = result ≡ Err faults.Output
-IsEnd is_terminal sent (Err pumps.Input) result = IsBroken result
-IsEnd is_terminal sent (Err pumps.Cut) result = IsBroken result
-IsEnd is_terminal (Err pumps.Output) (Ok done) result = IsNotSent result
-IsEnd is_terminal (Err pumps.Input) (Ok done) result = result ≡ Err faults.Input
-IsEnd false (Err pumps.Cut) (Ok done) result = result ≡ Err faults.Unread
-IsEnd true (Err pumps.Cut) (Ok done) result = result ≡ Ok tt
-IsEnd is_terminal (Ok sent) (Ok done) result = (result ≡ Ok tt) ⊎ IsBroken result
+IsEnd has_more sent (Err pumps.Output) result = result ≡ Err faults.Output
+IsEnd has_more sent (Err pumps.Input) result = IsBroken result
+IsEnd has_more sent (Err pumps.Cut) result = IsBroken result
+IsEnd has_more (Err pumps.Output) (Ok done) result = IsNotSent result
+IsEnd has_more (Err pumps.Input) (Ok done) result = result ≡ Err faults.Input
+IsEnd true (Err pumps.Cut) (Ok done) result = result ≡ Err faults.Unread
+IsEnd false (Err pumps.Cut) (Ok done) result = (result ≡ Ok tt) ⊎ IsBroken result
+IsEnd has_more (Ok sent) (Ok done) result = (result ≡ Ok tt) ⊎ IsBroken result
 
 -- some bytes were taken, or put: of a socket no contract can say which
 abbrev pub Some : List ℕ → Type 0
@@ -45,14 +45,15 @@ Some bytes = ⊤
 abbrev pub SomeGiven : List ℕ → Bool → Type 0
 SomeGiven bytes is_broken = ⊤
 
--- what was taken from the input, what was put into the output, and that the end that is told is that of both ways
+-- what was taken from the input, what was put into the output, and that the end that is told is that of both ways.
+-- has_more: the input had something after the end of its way
 unfoldable pub RelaysStandard : (List ℕ → Bool → Type 0) → (List ℕ → Type 0) → (List ℕ → Type 0) → (List ℕ → Type 0)
     → Type 0 → Bool → Result (Unit {0}) RelayFault → Type 0
-RelaysStandard Gives GivesSoFar Put PutPart Kept is_terminal result =
+RelaysStandard Gives GivesSoFar Put PutPart Kept has_more result =
     ((result ≡ Err faults.Memory) × Kept)
     ⊎ ((sent : Result (Unit {0}) PumpFault) × (received : Result (Unit {0}) PumpFault)
     × Pumps Gives GivesSoFar Some Some sent × Pumps SomeGiven Some Put PutPart received
-    × IsEnd is_terminal sent received result)
+    × IsEnd has_more sent received result)
 
 -- what was put into the output, by the end that is told. Kept: nothing was put
 abbrev pub Relays : (List ℕ → Type 0) → (List ℕ → Type 0) → Type 0 → Result (Unit {0}) RelayFault → Type 0

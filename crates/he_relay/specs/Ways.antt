@@ -21,6 +21,12 @@ IsAfter count old new =
     (new.room ≡ old.room) × (new.from ≡ old.from + count) × (new.to ≡ old.to)
     × (new.has_ended ≡ old.has_ended) × (new.moved ≡ min (old.moved + count) (2 ^ 64 - 1))
 
+-- it holds nothing, as before, and goes on alike
+abbrev pub IsAsEmpty : Way → Way → Type 0
+IsAsEmpty old new =
+    (new.from ≡ old.from) × (new.to ≡ old.to) × (new.has_ended ≡ old.has_ended) × (new.is_shut ≡ old.is_shut)
+    × (new.moved ≡ old.moved)
+
 -- the reader has ended, all that it gave is written, and the writer is shut down
 abbrev pub IsOver : Way → Type 0
 IsOver way = (way.is_shut ≡ true) × (way.has_ended ≡ true) × (held way ≡ [])

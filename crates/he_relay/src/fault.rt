@@ -92,7 +92,7 @@ pub enum RelayFault {
     /// The remote closed the connection before it took all that the input gave.
     #[error("the remote has closed, and {0}")]
     Unsent(Unsent),
-    /// The remote ended its way, and the input gave nothing for as long as it was waited for.
+    /// The remote ended its way, and what the input gave after it was waited for was not read.
     #[error("the remote has closed, and standard input was not read to its end")]
     Unread,
     /// An allocation was refused.

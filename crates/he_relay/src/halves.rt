@@ -7,9 +7,9 @@ use crate::relaying::Connection;
 use crate::watch::Watch;
 use he_stream::limits::MOST_READS;
 use he_stream::{Flushed, FromReader, InputStream, OutputStream, Put, Taken, ToWriter};
-use libc::isatty;
 use libc::net::{POLLERR, POLLHUP, POLLIN, POLLNVAL, POLLRDHUP, poll};
 use libc::types::pollfd;
+use libc::{isatty, read};
 use std::io::{Error, ErrorKind};
 use std::net::{Shutdown, TcpStream};
 use std::os::fd::AsRawFd;
@@ -17,8 +17,10 @@ use std::os::fd::AsRawFd;
 // The descriptor of standard input.
 const STANDARD_INPUT: i32 = 0;
 
-// To wait as long as it takes.
+// To wait as long as it takes, or not at all.
 const FOREVER: i32 = -1;
+
+const AT_ONCE: i32 = 0;
 
 const MILLISECOND: i32 = 1;
 
@@ -59,8 +61,10 @@ pub struct InputWatch<'s> {
     // in milliseconds
     wait: i32,
     has_remote_ended: bool,
-    // whether standard input is a terminal, which has no end that is missed
+    // whether standard input is a terminal, whose lines are nobody's data yet
     is_terminal: bool,
+    // whether standard input had something after the end of its way
+    has_more: bool,
 }
 
 /// Shuts the connection down both ways where the way from it fails.
@@ -83,6 +87,7 @@ pub fn over_socket(stream: &TcpStream, wait: u32) -> SocketConnection<'_> {
             wait: i32::try_from(wait).unwrap_or(i32::MAX),
             has_remote_ended: false,
             is_terminal: isatty(STANDARD_INPUT) == 1,
+            has_more: false,
         },
         receiving: ReceivingHalf {
             reader: FromReader::new(stream),
@@ -106,11 +111,13 @@ impl<'s> SocketConnection<'s> {
         Unsent(self.sending.unsent)
     }
 
-    /// Whether standard input is a terminal.
-    pub fn is_at_terminal(&self) -> bool
-        ensures { result ≡ self.now.sends.is_terminal }
+    /// Whether standard input has something now, which came after the end of its way and is not sent. A terminal is
+    /// not looked at.
+    pub fn has_more(&mut self) -> bool
+        ensures { result ≡ self.new.sends.has_more }
     {
-        self.sends.is_terminal
+        self.sends.has_more = !self.sends.is_terminal && has_bytes(STANDARD_INPUT);
+        self.sends.has_more
     }
 
     /// Whether the remote reset it after the end of both ways, so that bytes that this machine's system took to send
@@ -140,6 +147,14 @@ impl<'s> SocketConnection<'s> {
             Breakage::Other
         }
     }
+}
+
+// Whether a stream has bytes to be read. A socket that has ended looks as if it had, so one is read of it.
+fn has_bytes(fd: i32) -> bool {
+    let mut watched = [watch(fd, POLLIN | POLLRDHUP)];
+    let _ = poll(&mut watched, AT_ONCE);
+    let found = watched[0].revents;
+    found & POLLIN != 0 && (found & POLLRDHUP == 0 || read(fd, &mut [0u8]) > 0)
 }
 
 fn has(failures: &[Option<Error>; 2], kind: ErrorKind) -> bool {

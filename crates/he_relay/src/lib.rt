@@ -12,16 +12,21 @@
 //! (poll(2)), so that a remote that has gone ends it too: at once where the connection broke or was shut down both
 //! ways, and where the remote has ended its way, once standard input gave nothing for as long as it is waited for
 //! ([`DEFAULT_WAIT`]). A remote that closes and one that only ends its way look the same from here, and the second
-//! still wants what standard input has. Standard input that was left before its end is a fault, but at a terminal.
+//! still wants what standard input has. That standard input was left open is no fault; one is what it gave and was not
+//! sent, also what it has at the end of the other way (but at a terminal).
 //! Where the output takes no more, the connection is shut down both ways, which ends the other thread.
 //!
 //! # Tunnels
 //!
-//! A [`Tunnel`] is a relay between two connections that is polled, so that one thread has many. Each way holds 16 KiB
-//! at most, or what came early where that is more, and makes a few reads and writes in one poll before other tasks
-//! have their turn.
+//! A [`Tunnel`] is a relay between two connections that is polled, so that one thread has many. Each way holds 2 KiB
+//! while it is silent and 16 KiB at most, or what came early where that is more, and makes a few reads and writes in
+//! one poll before other tasks have their turn. Where one connection of a tunnel broke off, a [`Cut`] resets the other
+//! one, once what came before is sent: it looks through the descriptors of the process for the connection's addresses,
+//! since tokio gives no descriptor. [`keep_alive`] has a socket notice when its remote vanished, and [`takes_now`]
+//! says whether a write to standard error would wait.
 //!
-//! A standard stream that does not wait (`O_NONBLOCK`) is waited for by [`Waiting`].
+//! A standard stream that does not wait (`O_NONBLOCK`) is waited for by [`Waiting`]. [`open_standard`] opens those
+//! that a program was started without.
 //!
 //! # What is proved
 //!
@@ -33,31 +38,35 @@
 //!   nothing (`RelaysBoth` in `specs/Relays`).
 //! - [`relay_standard`] says what was taken from the input, what was put into the output, and that each way that
 //!   failed is reported, the output's first: it answers `Ok` only where the remote ended its way and the input ended,
-//!   or was left at a terminal (`IsEnd`).
+//!   or had nothing more once both ways had (`IsEnd`).
 //!
 //! - For every two connections of tokio's traits, a [`Way`] of a polled [`Tunnel`] writes what it held from the start
 //!   and then what it reads, in order, none twice and none left out but what it still holds; it counts what it wrote,
 //!   and it is over once its reader has ended, all is written and its writer is shut down (`Moves` in `specs/Ways`,
 //!   `MovesBoth` in `specs/Tunnels`). A tunnel that waits has asked to be woken.
 //!
-//! Only tested: which connection of a tunnel broke off, when a relay ends, what it does to the connection, that the
-//! bytes are those of the connection, how many are counted, and how it broke off.
+//! Only tested: which connection of a tunnel broke off, that the other one is reset, and when, when a relay ends, what
+//! it does to the connection, that the bytes are those of the connection, how many are counted, and how it broke off.
 #![tactic(auto)]
 
+pub mod descriptors;
 pub mod fault;
 pub mod halves;
 pub mod pumping;
 pub mod relaying;
+pub mod sockets;
 pub mod standard;
 pub mod tunnel;
 pub mod waiting;
 pub mod watch;
 pub mod way;
 
+pub use descriptors::{NULL_DEVICE, open_standard};
 pub use fault::{PumpFault, RelayFault};
 pub use halves::{DEFAULT_WAIT, SocketConnection, over_socket};
 pub use pumping::pump;
 pub use relaying::{Connection, Ends, relay};
+pub use sockets::{Cut, keep_alive, takes_now};
 pub use standard::relay_standard;
 pub use tunnel::{Broke, Tunnel};
 pub use waiting::Waiting;

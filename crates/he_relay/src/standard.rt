@@ -26,8 +26,8 @@ use std::thread::Threads;
 ///   and the remote then reset it, so that it has not all that this machine's system took to send.
 /// - `Unsent` where the remote had closed the connection before it took all that the input gave.
 /// - `Input` where a read of the input failed.
-/// - `Unread` where the remote had ended its way, and the input gave nothing for as long as it was waited for, and is
-///   no terminal.
+/// - `Unread` where the remote had ended its way, the input gave nothing for as long as it was waited for, and then
+///   gave something before the other way had ended, and is no terminal.
 /// - `Memory` before anything was taken.
 #[tactic(auto, unfolding(crate::specs::Relays::RelaysStandard))]
 pub fn relay_standard<R: Threads, I: InputStream, O: OutputStream + Send>(
@@ -41,22 +41,18 @@ pub fn relay_standard<R: Threads, I: InputStream, O: OutputStream + Send>(
         (GivesSoFar I.remaining I.takes input.old input.new)
         (PutsInRounds O.contents O.puts O.flushes output.old output.new)
         (PutsRoundsPart O.contents O.puts O.flushes output.old output.new)
-        ((input.new ≡ input.old) × (output.new ≡ output.old)) connection.old.sends.is_terminal result }
+        ((input.new ≡ input.old) × (output.new ≡ output.old)) connection.new.sends.has_more result }
     ensures output { Relays (PutsInRounds O.contents O.puts O.flushes output.old output.new)
         (PutsRoundsPart O.contents O.puts O.flushes output.old output.new) (output.new ≡ output.old) result }
 {
-    let is_terminal = connection.is_at_terminal();
     let ends = relay(rt, alloc, input, output, connection)?;
-    end_of(connection, is_terminal, ends)
+    let has_more = connection.has_more();
+    end_of(connection, has_more, ends)
 }
 
 // How the relay ended: the output's way counts first.
-fn end_of(
-    connection: &SocketConnection<'_>,
-    is_terminal: bool,
-    ends: Ends,
-) -> Result<(), RelayFault>
-    ensures { IsEnd is_terminal ends.sent ends.received result }
+fn end_of(connection: &SocketConnection<'_>, has_more: bool, ends: Ends) -> Result<(), RelayFault>
+    ensures { IsEnd has_more ends.sent ends.received result }
 {
     match (ends.received, ends.sent) {
         (Err(PumpFault::Output), _) => Err(RelayFault::Output),
@@ -66,8 +62,8 @@ fn end_of(
         )),
         (Ok(()), Err(PumpFault::Output)) => Err(not_sent(connection)),
         (Ok(()), Err(PumpFault::Input)) => Err(RelayFault::Input),
-        (Ok(()), Err(PumpFault::Cut)) if !is_terminal => Err(RelayFault::Unread),
-        (Ok(()), Ok(())) if connection.was_reset() => Err(broken(connection, Breakage::Reset)),
+        (Ok(()), Err(PumpFault::Cut)) if has_more => Err(RelayFault::Unread),
+        (Ok(()), _) if connection.was_reset() => Err(broken(connection, Breakage::Reset)),
         (Ok(()), Ok(()) | Err(PumpFault::Cut)) => Ok(()),
     }
 }

@@ -108,6 +108,20 @@ impl<A: AsyncRead + AsyncWrite, B: AsyncRead + AsyncWrite> Tunnel<A, B> {
         }
     }
 
+    /// Both connections: the one to the client and the one to the server.
+    pub fn into_ends(self) -> (A, B)
+        ensures { (result.0 ≡ self.client) × (result.1 ≡ self.server) }
+    {
+        let Tunnel {
+            client,
+            server,
+            there: _,
+            back: _,
+            broke: _,
+        } = self;
+        (client, server)
+    }
+
     /// How many bytes were written: to the server, and to the client.
     pub fn traffic(&self) -> Traffic
         ensures { (result.sent ≡ self.now.there.moved) × (result.received ≡ self.now.back.moved) }

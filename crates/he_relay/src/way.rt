@@ -10,7 +10,9 @@ use std::alloc::AllocError;
 use std::io;
 use tokio::io::{AsyncRead, AsyncWrite};
 
-// The most bytes that are read at once.
+// The most bytes that are read at once: at first, and once a read has filled that.
+const LEAST_ROOM: usize = 2_048;
+
 const ROOM: usize = 16_384;
 
 // The most reads and writes of one poll, before other tasks are polled.
@@ -35,6 +37,8 @@ pub struct Way {
     has_ended: bool,
     // Whether the writer was shut down after the last byte.
     is_shut: bool,
+    // Whether the last read filled the room.
+    is_busy: bool,
     // How many bytes were written.
     moved: u64,
     ghost within: { (from ≤ to) × (to ≤ length room.items) × (0 < length room.items) },
@@ -43,7 +47,7 @@ pub struct Way {
 }
 
 impl Way {
-    ghost use Rattle.he_relay.specs.Ways.{Begins, Breaks, IsAfter, IsOver, Moves, held};
+    ghost use Rattle.he_relay.specs.Ways.{Begins, Breaks, IsAfter, IsAsEmpty, IsOver, Moves, held};
 
     /// A way that writes these bytes first, which came early, and then what is read.
     ///
@@ -55,13 +59,14 @@ impl Way {
     {
         let mut room = early;
         let to = room.len();
-        room.resize(to.max(ROOM), 0)?;
+        room.resize(to.max(LEAST_ROOM), 0)?;
         Ok(Way {
             room,
             from: 0,
             to,
             has_ended: false,
             is_shut: false,
+            is_busy: false,
             moved: 0,
         })
     }
@@ -136,15 +141,41 @@ impl Way {
         }
         self.from = 0;
         self.to = 0;
-        match ready!(reader.poll_read(cx, self.room.as_mut_slice())) {
-            Ok(count) => {
+        self.widen();
+        match reader.poll_read(cx, self.room.as_mut_slice()) {
+            Poll::Pending => {
+                self.narrow();
+                Poll::Pending
+            }
+            Poll::Ready(Ok(count)) => {
                 self.to = count;
+                self.is_busy = count == self.room.len();
                 self.has_ended = count == 0;
                 Poll::Ready(Ok(()))
             }
-            Err(_) => Poll::Ready(Err(WayFault::Reader)),
+            Poll::Ready(Err(_)) => Poll::Ready(Err(WayFault::Reader)),
         }
     }
+
+    // More room, where the last read filled what there is. Where no memory is granted it stays as it is.
+    fn widen(&mut self)
+        requires empty { self.old.to ≡ 0 }
+        ensures { IsAsEmpty self.old self.new }
+    {
+        if self.is_busy && self.room.len() < ROOM {
+            let _ = self.room.resize(ROOM, 0);
+        }
+    }
+
+    // Less room, where nothing is to be read now: a tunnel on which nothing moves keeps little memory.
+    fn narrow(&mut self)
+        requires empty { self.old.to ≡ 0 }
+        ensures { IsAsEmpty self.old self.new }
+    {
+        self.room.truncate(LEAST_ROOM);
+        self.room.shrink_to_fit();
+    }
+
     // One write of what is held, of which a count is taken.
     fn poll_put<W: AsyncWrite>(
         &mut self,

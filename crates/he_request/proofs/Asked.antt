@@ -12,7 +12,8 @@ use Rattle.he_timeline.specs.declared.limits.TheConstants.{MAX_RESOLUTION, MIN_A
 use Rattle.he_timeline.specs.declared.settings.Range.{Range}
 use Rattle.he_timeline.specs.declared.settings.Range.TheVariants.{Resolution, Attempt, Count, Limit, Floor}
 use Rattle.he_request.specs.Requests.{AsksDrawing, AsksTexts, IsDrawn, page_of}
-use Rattle.he_request.specs.Words.{AsksChanges, AsksSettings, HasNumber, is_setting, last_number, values_of}
+use Rattle.he_request.specs.Times.{time_of}
+use Rattle.he_request.specs.Words.{AsksChanges, AsksSettings, is_setting, last_number, values_of}
 use Rattle.he_request.specs.declared.refusal.OptionFault.{OptionFault}
 use Rattle.he_request.specs.declared.texts.Content.{Content}
 use Rattle.he_request.specs.declared.texts.Task.{Task}
@@ -59,11 +60,11 @@ all_asked texts resolution attempt count limit floor timeout named is_resolution
 }
 
 -- those of the texts of the line are those that it asks for
-pub by_line : {E F : Type 0} (gives : List ℕ → Result ℕ E → Type 0) (found : Found) (texts : List (List ℕ)) (timeout : Option ℕ) (result : Result ChangeValues F)
-    → texts ≡ values_of found (codes "set") → HasNumber gives found (codes "timeout") timeout → IfOk result (AsksSettings texts timeout) → IfOk result (AsksChanges gives found)
-by_line gives found texts timeout (Ok changes) same timed asks =
+pub by_line : {F : Type 0} (found : Found) (texts : List (List ℕ)) (timeout : Option ℕ) (result : Result ChangeValues F)
+    → texts ≡ values_of found (codes "set") → timeout ≡ time_of 1 (first_value found (codes "timeout")) → IfOk result (AsksSettings texts timeout) → IfOk result (AsksChanges found)
+by_line found texts timeout (Ok changes) same timed asks =
     (timeout, timed, subst (λ (values : List (List ℕ)). AsksSettings values timeout changes) same asks)
-by_line gives found texts timeout (Err fault) same timed asks = tt
+by_line found texts timeout (Err fault) same timed asks = tt
 
 -- one more text gives a setting a number
 pub one_more : (texts : List (Bor (List ℕ))) (i : ℕ) (default : Bor (List ℕ)) (bytes : List ℕ) (answer : Bool)
@@ -82,21 +83,21 @@ some_now None = refl
 some_now (Some text) = refl
 
 -- the texts of a drawing are those that the line asks for
-draws : {D E : Type 0} (gives : List ℕ → Result ℕ D → Type 0) (gives32 : List ℕ → Result ℕ E → Type 0) (found : Found) (columns : ℕ) (html page : Option (Bor (List ℕ))) (content : Content) (task : Task) (is_page : Bool) (texts : Texts)
+draws : {D : Type 0} (gives : List ℕ → Result ℕ D → Type 0) (found : Found) (columns : ℕ) (html page : Option (Bor (List ℕ))) (content : Content) (task : Task) (is_page : Bool) (texts : Texts)
     → option_map (λ t. t.now) html ≡ first_value found (codes "html") → option_map (λ t. t.now) page ≡ page_of (option_map (λ t. t.now) html) → is_page ≡ is_some html
-    → IsDrawn gives found is_page columns content → task ≡ Write content 1 → AsksTexts gives32 found task (option_map (λ t. t.now) page) texts
-    → AsksDrawing gives gives32 found columns texts
-draws gives gives32 found columns html page content task is_page texts is_html is_path paged drawn is_task asks = (
+    → IsDrawn gives found is_page columns content → task ≡ Write content 1 → AsksTexts found task (option_map (λ t. t.now) page) texts
+    → AsksDrawing gives found columns texts
+draws gives found columns html page content task is_page texts is_html is_path paged drawn is_task asks = (
   content,
   subst (λ (b : Bool). IsDrawn gives found b columns content) (paged ∙ some_now html ∙ ap is_some is_html) drawn,
-  subst (λ (t : Task). AsksTexts gives32 found t (page_of (first_value found (codes "html"))) texts) is_task
-      (subst (λ (p : Option (List ℕ)). AsksTexts gives32 found task p texts) (is_path ∙ ap page_of is_html) asks),
+  subst (λ (t : Task). AsksTexts found t (page_of (first_value found (codes "html"))) texts) is_task
+      (subst (λ (p : Option (List ℕ)). AsksTexts found task p texts) (is_path ∙ ap page_of is_html) asks),
 )
 
-pub all_drawn : {D E F : Type 0} (gives : List ℕ → Result ℕ D → Type 0) (gives32 : List ℕ → Result ℕ E → Type 0) (found : Found) (columns : ℕ) (html page : Option (Bor (List ℕ))) (content : Content) (task : Task) (is_page : Bool) (result : Result Texts F)
+pub all_drawn : {D F : Type 0} (gives : List ℕ → Result ℕ D → Type 0) (found : Found) (columns : ℕ) (html page : Option (Bor (List ℕ))) (content : Content) (task : Task) (is_page : Bool) (result : Result Texts F)
     → option_map (λ t. t.now) html ≡ first_value found (codes "html") → option_map (λ t. t.now) page ≡ page_of (option_map (λ t. t.now) html) → is_page ≡ is_some html
-    → IsDrawn gives found is_page columns content → task ≡ Write content 1 → IfOk result (AsksTexts gives32 found task (option_map (λ t. t.now) page))
-    → IfOk result (AsksDrawing gives gives32 found columns)
-all_drawn gives gives32 found columns html page content task is_page (Ok texts) is_html is_path paged drawn is_task asks =
-    draws gives gives32 found columns html page content task is_page texts is_html is_path paged drawn is_task asks
-all_drawn gives gives32 found columns html page content task is_page (Err refusal) is_html is_path paged drawn is_task asks = tt
+    → IsDrawn gives found is_page columns content → task ≡ Write content 1 → IfOk result (AsksTexts found task (option_map (λ t. t.now) page))
+    → IfOk result (AsksDrawing gives found columns)
+all_drawn gives found columns html page content task is_page (Ok texts) is_html is_path paged drawn is_task asks =
+    draws gives found columns html page content task is_page texts is_html is_path paged drawn is_task asks
+all_drawn gives found columns html page content task is_page (Err refusal) is_html is_path paged drawn is_task asks = tt

@@ -4,4 +4,5 @@ pub mod Requests
 pub mod Resolvers
 pub mod Rows
 pub mod Shown
+pub mod Times
 pub mod Words

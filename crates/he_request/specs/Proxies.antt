@@ -1,5 +1,5 @@
 -- What the line of a proxy asks for, by what clap found of its words.
-use Rattle.std.specs.Prelude.{◌≡◌, ◌⊎◌, ◌<◌, Bool, true, false, List, [], ◌∷◌, ℕ, Option, Result, codes, option_map}
+use Rattle.std.specs.Prelude.{◌≡◌, ◌⊎◌, ◌<◌, ◌+◌, ◌-◌, ◌/◌, Bool, true, false, List, [], ◌∷◌, ℕ, Option, Result, codes, option_map}
 use Rattle.std.specs.Net.Grammar.{IsSocketText}
 use Rattle.std.specs.Net.Socket.{socket_port}
 use Rattle.std.specs.declared.net.socket_addr.SocketAddr.{SocketAddr}
@@ -9,7 +9,10 @@ use Rattle.he_addr.specs.Text.{SpellsPrefix}
 use Rattle.he_addr.specs.Prefix.{PrefixBits}
 use Rattle.he_timeline.specs.Changes.{ChangeValues}
 use Rattle.he_request.specs.Requests.{AsksFamily}
+use Rattle.he_request.specs.Resolvers.{AsksResolver}
+use Rattle.he_request.specs.Times.{time_of}
 use Rattle.he_request.specs.Words.{AsksChanges, HasFlag, HasNumber, connect_settings, values_of}
+use Rattle.he_request.specs.declared.limits.TheConstants.{SECOND}
 use Rattle.he_request.specs.declared.proxy.Proxy.{Proxy}
 use Rattle.he_request.specs.declared.proxy.SessionLog.{SessionLog}
 use Rattle.he_request.specs.declared.proxy.SessionLog.TheVariants as logs
@@ -35,6 +38,10 @@ log_of true json = logs.Nothing
 log_of false true = logs.Json
 log_of false false = logs.Line
 
+-- the seconds of so many milliseconds, the last one begun
+abbrev pub whole_seconds : ℕ → ℕ
+whole_seconds time = (time + (SECOND - 1)) / SECOND
+
 -- the addresses, the networks, the settings, the folder and the file of the line
 pub record AsksProxy {E : Type 0} (gives : List ℕ → Result ℕ E → Type 0) (found : Found) (proxy : Proxy) : Type 0 where
   pub listen : AreNamed NamesAddress (values_of found (codes "listen")) proxy.listen.items
@@ -42,14 +49,15 @@ pub record AsksProxy {E : Type 0} (gives : List ℕ → Result ℕ E → Type 0)
   pub allows_private : HasFlag found (codes "allow-private") proxy.allows_private
   pub only : AsksFamily found proxy.only
   pub changes : ChangeValues
-  pub asked : AsksChanges gives found changes
+  pub asked : AsksChanges found changes
   pub settings : proxy.settings ≡ connect_settings changes
   pub lines : option_map (λ path. path.now) proxy.lines ≡ first_value found (codes "host-lines")
   pub record_is : option_map (λ path. path.now) proxy.record ≡ first_value found (codes "record")
   pub record_most : HasNumber gives found (codes "record-most") proxy.record_most
   pub history : option_map (λ path. path.now) proxy.history ≡ first_value found (codes "history")
   pub most : HasNumber gives found (codes "most") proxy.most
-  pub idle : HasNumber gives found (codes "idle") proxy.idle
+  pub idle : proxy.idle ≡ option_map whole_seconds (time_of SECOND (first_value found (codes "idle")))
+  pub resolver : AsksResolver (first_value found (codes "resolver")) proxy.resolver
   pub quiet : Bool
   pub json : Bool
   pub is_quiet : HasFlag found (codes "quiet") quiet

@@ -1,5 +1,5 @@
 -- What a line asks for, by what clap found of its words.
-use Rattle.std.specs.Prelude.{◌≡◌, ◌≤◌, ◌||◌, ℕ, Bool, true, false, List, Option, Some, None, Result, codes, if◌then◌else◌, is_some, length, map, max, min, option_map, string_bytes}
+use Rattle.std.specs.Prelude.{◌≡◌, ◌≤◌, ◌||◌, ℕ, Bool, true, false, List, [], Option, Some, None, Result, codes, if◌then◌else◌, is_some, length, map, max, min, option_map, string_bytes}
 use Rattle.std.specs.Option.{unwrap_or}
 use Rattle.std.specs.Str.{bytes_eq}
 use Rattle.clap.specs.Matches.{first_value}
@@ -11,6 +11,7 @@ use Rattle.he_addr.specs.declared.ip.Family.{Family}
 use Rattle.he_addr.specs.declared.ip.Family.TheVariants as families
 use Rattle.he_timeline.specs.Changes.{ChangeValues}
 use Rattle.he_request.specs.Ports.{IsPort, NamesPort}
+use Rattle.he_request.specs.Resolvers.{AsksResolver}
 use Rattle.he_request.specs.Rows.{AreRows, labels_of}
 use Rattle.he_request.specs.Words.{AsksChanges, HasFlag, HasNumber, connect_settings, values_of}
 use Rattle.he_request.specs.declared.connect.Connection.{Connection}
@@ -56,10 +57,9 @@ tells_faults (Check is_all json) = is_all
 tells_faults _ = false
 
 -- the files of the line, with its settings, of which each race has those in place of its own, and the file of a page
-pub record AsksTexts {E : Type 0} (gives : List ℕ → Result ℕ E → Type 0) (found : Found) (task : Task)
-    (page : Option (List ℕ)) (texts : Texts) : Type 0 where
+pub record AsksTexts (found : Found) (task : Task) (page : Option (List ℕ)) (texts : Texts) : Type 0 where
   pub task_is : texts.task ≡ task
-  pub changes : AsksChanges gives found texts.changes
+  pub changes : AsksChanges found texts.changes
   pub files : map (λ file. file.now) texts.files.items ≡ values_of found (codes "file")
   pub page_is : option_map (λ path. path.now) texts.page ≡ page
   pub keep_going : Bool
@@ -130,17 +130,16 @@ IsDrawn gives found is_page columns content =
     × HasNumber gives found (codes "width") width × (content ≡ drawn is_page svg ascii width columns)
 
 -- that is drawn of the texts; a page goes to the file that --html names, or to the output by `-`
-abbrev pub AsksDrawing : {D E : Type 0} → (List ℕ → Result ℕ D → Type 0) → (List ℕ → Result ℕ E → Type 0) → Found → ℕ
-    → Texts → Type 0
-AsksDrawing gives gives32 found columns texts =
+abbrev pub AsksDrawing : {D : Type 0} → (List ℕ → Result ℕ D → Type 0) → Found → ℕ → Texts → Type 0
+AsksDrawing gives found columns texts =
     (content : Content) × IsDrawn gives found (is_some (first_value found (codes "html"))) columns content
-    × AsksTexts gives32 found (Write content 1) (page_of (first_value found (codes "html"))) texts
+    × AsksTexts found (Write content 1) (page_of (first_value found (codes "html"))) texts
 
 -- the file, the port and the settings of the line
-pub record AsksLive {E : Type 0} (gives : List ℕ → Result ℕ E → Type 0) (found : Found) (live : Live) : Type 0 where
+pub record AsksLive (found : Found) (live : Live) : Type 0 where
   pub file : option_map (λ path. path.now) live.file ≡ first_value found (codes "file")
   pub port : NamesPort found live.port
-  pub changes : AsksChanges gives found live.changes
+  pub changes : AsksChanges found live.changes
   pub must_connect : HasFlag found (codes "must-connect") live.must_connect
   pub verbose : HasFlag found (codes "verbose") live.verbose
 
@@ -154,13 +153,17 @@ abbrev pub AsksFamily : Found → Option Family → Type 0
 AsksFamily found only =
     (four six : Bool) × HasFlag found (codes "four") four × HasFlag found (codes "six") six × (only ≡ only_of four six)
 
--- the port and the settings of the line: where one is not given that of RFC 8305 section 8, and the least floor
+-- the host, the port and the settings of the line: where one is not given that of RFC 8305 section 8, and the least
+-- floor
 pub record AsksConnection {E : Type 0} (gives : List ℕ → Result ℕ E → Type 0) (found : Found)
     (connection : Connection) : Type 0 where
+  pub host : connection.host.now ≡ unwrap_or (first_value found (codes "host")) []
+  pub resolver : AsksResolver (first_value found (codes "resolver")) connection.resolver
+  pub wait : HasNumber gives found (codes "wait") connection.wait
   pub port : NamesPort found connection.port
   pub only : AsksFamily found connection.only
   pub changes : ChangeValues
-  pub asked : AsksChanges gives found changes
+  pub asked : AsksChanges found changes
   pub settings : connection.settings ≡ connect_settings changes
   pub lines : option_map (λ path. path.now) connection.lines ≡ first_value found (codes "host-lines")
   pub record_is : option_map (λ path. path.now) connection.record ≡ first_value found (codes "record")

@@ -1,5 +1,5 @@
 -- The resolver that a text names.
-use Rattle.std.specs.Prelude.{◌≡◌, ◌⊎◌, ◌<◌, List, ℕ, codes}
+use Rattle.std.specs.Prelude.{◌≡◌, ◌⊎◌, ◌<◌, List, Option, Some, None, ℕ, codes}
 use Rattle.std.specs.Net.Grammar.{IsIpText, IsSocketText}
 use Rattle.std.specs.Net.Socket.{IsPlainSocket, socket_ip, socket_port}
 use Rattle.std.specs.declared.net.ip_addr.IpAddr.{IpAddr}
@@ -21,3 +21,8 @@ pub record NamesNone (text : List ℕ) : Type 0 where
   pub address : (ip : IpAddr) → IsIpText text ip → ⊥
   pub port : ((server : SocketAddr) → IsSocketText text server → ⊥)
       ⊎ ((server : SocketAddr) × IsSocketText text server × (socket_port server ≡ 0))
+
+-- the resolver of a line, by the text that it has for one
+abbrev pub AsksResolver : Option (List ℕ) → Resolver → Type 0
+AsksResolver None resolver = resolver ≡ resolvers.Configured
+AsksResolver (Some text) resolver = NamesResolver text resolver

@@ -2,11 +2,12 @@
 use Rattle.std.specs.Prelude.{◌≡◌, ◌||◌, ℕ, Bool, true, false, List, [], ◌∷◌, All, Option, Some, None, Result, codes, drop, if◌then◌else◌, is_some, length, option_map, take}
 use Rattle.std.specs.Option.{option_or, unwrap_or}
 use Rattle.std.specs.Str.{bytes_eq}
-use Rattle.clap.specs.Matches.{ReadsOne, matched_of, one_text, raw_values}
+use Rattle.clap.specs.Matches.{ReadsOne, first_value, matched_of, one_text, raw_values}
 use Rattle.clap.specs.declared.parser.matches.Found.{Found}
 use Rattle.he_addr.specs.Reading.{number_in}
 use Rattle.he_timeline.specs.Changes.{ChangeValues, changed_settings}
 use Rattle.he_timeline.specs.Settings.{SettingValues}
+use Rattle.he_request.specs.Times.{time_of}
 use Rattle.he_timeline.specs.declared.limits.TheConstants.{DEFAULT_ATTEMPT, DEFAULT_COUNT, DEFAULT_LIMIT, DEFAULT_RESOLUTION, MIN_FLOOR}
 
 -- the words that an argument has, in order
@@ -53,9 +54,9 @@ pub record AsksSettings (texts : List (List ℕ)) (timeout : Option ℕ) (change
   pub floor : changes.floor ≡ last_number (codes "floor=") texts
 
 -- those that the line asks for
-abbrev pub AsksChanges : {E : Type 0} → (List ℕ → Result ℕ E → Type 0) → Found → ChangeValues → Type 0
-AsksChanges gives found changes =
-    (timeout : Option ℕ) × HasNumber gives found (codes "timeout") timeout
+abbrev pub AsksChanges : Found → ChangeValues → Type 0
+AsksChanges found changes =
+    (timeout : Option ℕ) × (timeout ≡ time_of 1 (first_value found (codes "timeout")))
     × AsksSettings (values_of found (codes "set")) timeout changes
 
 -- the settings of a connection: where one is not given that of RFC 8305 section 8, and the least floor

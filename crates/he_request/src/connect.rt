@@ -1,6 +1,7 @@
 //! `he connect`.
-ghost use Rattle.std.specs.Prelude.{◌≡◌, IfOk};
-ghost use Rattle.clap.specs.Matches.{found_of};
+ghost use Rattle.std.specs.Prelude.{◌≡◌, [], IfOk, codes, option_map};
+ghost use Rattle.std.specs.Option.{unwrap_or};
+ghost use Rattle.clap.specs.Matches.{first_value, found_of};
 ghost use Rattle.he_request.specs.Ports.{IsPort};
 ghost use Rattle.he_request.specs.Requests.{AsksConnection, AsksFamily};
 
@@ -129,7 +130,7 @@ pub(crate) fn connection_of<'a>(matches: &ArgMatches<'a>) -> Result<Connection<'
     ensures port { IfOk result (λ connection. IsPort connection.port) }
     ensures asks { IfOk result (AsksConnection ⟦<u32 as FromStr>⟧.from_str_gives (found_of matches.now)) }
 {
-    let record = matches.get_str("record");
+    let record = record_of(matches)?;
     let only_tries = flag_of(matches, "try");
     if record == Some(STANDARD) && !only_tries {
         return Err(OptionFault::Record);
@@ -140,7 +141,7 @@ pub(crate) fn connection_of<'a>(matches: &ArgMatches<'a>) -> Result<Connection<'
     }
     let (port, resolver) = (port_of(matches)?, resolver_of(matches)?);
     Ok(Connection {
-        host: matches.get_str("host").unwrap_or(""),
+        host: host_of(matches),
         port,
         only: family_of(matches),
         settings: settings_of(changes_of(matches)?),
@@ -153,6 +154,28 @@ pub(crate) fn connection_of<'a>(matches: &ArgMatches<'a>) -> Result<Connection<'
         is_json,
         wait: matches.get_one::<u32>("wait"),
     })
+}
+
+// The host that the line names.
+fn host_of<'a>(matches: &ArgMatches<'a>) -> &'a str
+    ensures { result.now ≡ unwrap_or (first_value (found_of matches.now) (codes "host")) [] }
+{
+    match matches.get_str("host") {
+        Some(host) => host,
+        None => "",
+    }
+}
+
+// The file of the record that the line names, if it names one.
+pub(crate) fn record_of<'a>(matches: &ArgMatches<'a>) -> Result<Option<&'a str>, OptionFault>
+    ensures { IfOk result (λ file. option_map (λ path. path.now) file
+        ≡ first_value (found_of matches.now) (codes "record")) }
+{
+    let record = matches.get_str("record");
+    if record == Some("") {
+        return Err(OptionFault::NoName);
+    }
+    Ok(record)
 }
 
 // The family that the line asks for alone.

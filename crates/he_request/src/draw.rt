@@ -85,7 +85,7 @@ pub(crate) fn drawing_of<'a>(
     matches: &ArgMatches<'a>,
 ) -> Result<Texts<'a>, Refusal>
     ensures is { IfOk result IsTexts }
-    ensures asks { IfOk result (AsksDrawing ⟦<u16 as FromStr>⟧.from_str_gives ⟦<u32 as FromStr>⟧.from_str_gives
+    ensures asks { IfOk result (AsksDrawing ⟦<u16 as FromStr>⟧.from_str_gives
         (found_of matches.now) columns) }
 {
     let html = matches.get_str("html");

@@ -13,8 +13,9 @@
 //!   those of the numbers of its list, with their words (`specs/Rows`); the files, the workers, what is written of
 //!   each race, the file of a page; the port is the number that the word says, or the name of a service by its form
 //!   (`specs/Ports`); the addresses and networks of a proxy are those that its texts name (`specs/Proxies`); the
-//!   families, and the flags. The text of a resolver names an address, at port 53, or one with a
-//!   port other than 0 (`specs/Resolvers`).
+//!   families, and the flags; the host of a connection and how long it waits. The text of a resolver names an address,
+//!   at port 53, or one with a port other than 0 (`specs/Resolvers`); a time is as `5s`, `500ms`, or a number alone
+//!   (`specs/Times`).
 //! - Help is told from words that are wrong and from want of memory.
 //! - A word as a terminal may show it has no character that controls one (`specs/Shown`).
 //!
@@ -31,6 +32,7 @@ mod explain;
 pub mod host;
 pub mod limits;
 pub mod live;
+mod meant;
 pub mod names;
 mod order;
 pub mod port;
@@ -44,6 +46,7 @@ mod settings;
 pub mod shown;
 mod summary;
 pub mod texts;
+pub mod time;
 
 pub use arguments::STANDARD;
 pub use connect::Connection;
@@ -56,3 +59,4 @@ pub use refusal::Refusal;
 pub use request::{Request, read_words, takes_text};
 pub use resolver::Resolver;
 pub use texts::{By, Content, Task, Texts};
+pub use time::short_timeout;

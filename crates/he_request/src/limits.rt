@@ -23,6 +23,14 @@ pub const MOST_SERVICE: usize = 15;
 /// The longest that a race may take, and that standard input is waited for after the remote's end, in milliseconds.
 pub const MOST_WAIT: u32 = 3_600_000;
 
+/// The milliseconds of a second, and the greatest number of a time.
+pub const SECOND: u64 = 1_000;
+
+pub const MOST_COUNT: u64 = 4_000_000_000;
+
+/// A `--timeout` without a unit that is below it may be meant as seconds.
+pub const LEAST_TIMEOUT: u64 = 100;
+
 /// The most files of a line: more than any system takes.
 pub const MOST_FILES: usize = 4_294_967_296;
 
@@ -33,9 +41,10 @@ pub const MOST_WIDTH: u16 = 1_000;
 
 pub const DEFAULT_WIDTH: u16 = 80;
 
-/// The most sessions of a proxy at once, its most records, and the longest that an idle tunnel may last, in seconds.
+/// The most sessions of a proxy at once, its most records, and the longest that an idle tunnel may last, in
+/// milliseconds.
 pub const MOST_SESSIONS: u32 = 100_000;
 
 pub const MOST_RECORDS: u32 = 100_000_000;
 
-pub const MOST_IDLE: u32 = 1_000_000;
+pub const MOST_IDLE: u64 = 1_000_000_000;

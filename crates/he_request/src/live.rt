@@ -5,13 +5,13 @@ ghost use Rattle.he_request.specs.Ports.{IsPort};
 ghost use Rattle.he_request.specs.Requests.{AsksLive};
 
 use crate::arguments::{STANDARD, flag, flag_of, plain, value, word};
+use crate::connect::record_of;
 use crate::port::{Port, port_of};
 use crate::refusal::OptionFault;
 use crate::settings::{changes_of, set, timeout};
 use clap::{ArgMatches, Command};
 use he_timeline::Changes;
 use std::alloc::{AllocError, Global};
-use std::str::FromStr;
 
 const ABOUT: &str = "Run one race on real sockets, and write what happened";
 
@@ -98,14 +98,15 @@ pub struct Live<'a> {
 // What the line asks for. Standard output has the record in any case.
 pub(crate) fn live_of<'a>(matches: &ArgMatches<'a>) -> Result<Live<'a>, OptionFault>
     ensures port { IfOk result (λ live. IsPort live.port) }
-    ensures asks { IfOk result (AsksLive ⟦<u32 as FromStr>⟧.from_str_gives (found_of matches.now)) }
+    ensures asks { IfOk result (AsksLive (found_of matches.now)) }
 {
     let port = port_of(matches)?;
+    let record = record_of(matches)?;
     Ok(Live {
         file: matches.get_str("file"),
         port,
         changes: changes_of(matches)?,
-        record: matches.get_str("record").filter(|path| *path != STANDARD),
+        record: record.filter(|path| *path != STANDARD),
         must_connect: flag_of(matches, "must-connect"),
         verbose: flag_of(matches, "verbose"),
     })

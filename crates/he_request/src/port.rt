@@ -36,7 +36,7 @@ pub(crate) fn port_of<'a>(matches: &ArgMatches<'a>) -> Result<Port<'a>, OptionFa
 }
 
 // The port that a word says.
-fn read_port<'a>(word: &'a str) -> Option<Port<'a>>
+pub(crate) fn read_port<'a>(word: &'a str) -> Option<Port<'a>>
     ensures is { IfSome result IsPort }
     ensures says { IfSome result (SaysPort word.now) }
 {

@@ -1,15 +1,19 @@
 //! `he proxy`.
-ghost use Rattle.std.specs.Prelude.{◌≡◌, IfNone, IfOk, IfSome, map};
-ghost use Rattle.clap.specs.Matches.{found_of};
+ghost use Rattle.std.specs.Prelude.{◌≡◌, ◌≤◌, IfNone, IfOk, IfSome, codes, map, option_map};
+ghost use Rattle.clap.specs.Matches.{first_value, found_of};
 ghost use Rattle.he_addr.specs.Text.{SpellsPrefix};
 ghost use Rattle.he_request.specs.Proxies.{AreNamed, AsksProxy, NamesAddress, NamesNoAddress, log_of};
+ghost use Rattle.he_request.specs.Proxies.{whole_seconds};
+ghost use Rattle.he_request.specs.Times.{time_of};
+ghost use Rattle.he_request.specs.declared.limits.TheConstants.{MOST_IDLE, SECOND};
 
 use crate::arguments::{flag, flag_of, letter, plain, value, values_of};
-use crate::connect::{LINES_HELP, family_of};
-use crate::limits::{MOST_IDLE, MOST_RECORDS, MOST_SESSIONS};
+use crate::connect::{LINES_HELP, family_of, record_of};
+use crate::limits::{MOST_IDLE, MOST_RECORDS, MOST_SESSIONS, SECOND};
 use crate::refusal::{OptionFault, Refusal};
 use crate::resolver::{Resolver, resolver_of};
 use crate::settings::{changes_of, set, settings_of, timeout};
+use crate::time::time_of;
 use clap::{ArgAction, ArgMatches, Command, value_parser};
 use he_addr::{Family, Prefix, read_prefix};
 use he_timeline::Settings;
@@ -42,7 +46,7 @@ const HISTORY_HELP: &str =
 const MOST_HELP: &str = "Serve N clients at once; default is 1000";
 
 const IDLE_HELP: &str = "Close a tunnel on which nothing came for so many\n\
-seconds; by default none is closed";
+seconds, or as 90s; by default none is closed";
 
 const EXAMPLE: &str = "\
 Programs that know a proxy get the races of `he connect` by it. SOCKS 5 (with
@@ -91,7 +95,6 @@ pub(crate) fn command<'a>(alloc: Global) -> Result<Command<'a>, AllocError> {
         .conflicts_with("log-json")?;
     let most = value(alloc, "most", "N", MOST_HELP);
     let records = value(alloc, "record-most", "N", RECORD_MOST_HELP);
-    let idle = value(alloc, "idle", "SECONDS", IDLE_HELP);
     let args = vec![in alloc;
         value(alloc, "listen", "ADDR:PORT", LISTEN_HELP).action(ArgAction::Append),
         value(alloc, "allow", "NETWORK", ALLOW_HELP).action(ArgAction::Append),
@@ -106,7 +109,7 @@ pub(crate) fn command<'a>(alloc: Global) -> Result<Command<'a>, AllocError> {
         records.value_parser(value_parser!(u32).range(1..=i64::from(MOST_RECORDS))),
         value(alloc, "history", "FILE", HISTORY_HELP),
         most.value_parser(value_parser!(u32).range(1..=i64::from(MOST_SESSIONS))),
-        idle.value_parser(value_parser!(u32).range(1..=i64::from(MOST_IDLE))),
+        value(alloc, "idle", "SECONDS", IDLE_HELP),
         quiet,
         flag(
             alloc,
@@ -162,6 +165,8 @@ pub(crate) fn proxy_of<'a>(alloc: Global, matches: &ArgMatches<'a>) -> Result<Pr
     let allow = networks_in(alloc, values_of(matches, "allow"))?;
     let settings = settings_of(changes_of(matches)?);
     let resolver = resolver_of(matches)?;
+    let idle = idle_of(matches)?;
+    let record = record_of(matches)?;
     Ok(Proxy {
         listen,
         allow,
@@ -170,13 +175,32 @@ pub(crate) fn proxy_of<'a>(alloc: Global, matches: &ArgMatches<'a>) -> Result<Pr
         settings,
         lines: matches.get_str("host-lines"),
         resolver,
-        record: matches.get_str("record"),
+        record,
         record_most: matches.get_one::<u32>("record-most"),
         history: matches.get_str("history"),
         most: matches.get_one::<u32>("most"),
-        idle: matches.get_one::<u32>("idle"),
+        idle,
         log: log_of(flag_of(matches, "quiet"), flag_of(matches, "log-json")),
     })
+}
+
+// The seconds of `--idle`.
+fn idle_of(matches: &ArgMatches<'_>) -> Result<Option<u32>, OptionFault>
+    ensures { IfOk result (λ idle. idle
+        ≡ option_map whole_seconds (time_of SECOND (first_value (found_of matches.now) (codes "idle")))) }
+{
+    match time_of(matches, "idle", SECOND, MOST_IDLE, OptionFault::Idle)? {
+        Some(time) => Ok(Some(whole_seconds(time))),
+        None => Ok(None),
+    }
+}
+
+// The seconds of so many milliseconds, the last one begun.
+fn whole_seconds(time: u64) -> u32
+    requires { time ≤ MOST_IDLE }
+    ensures { result ≡ whole_seconds time }
+{
+    ((time + (SECOND - 1)) / SECOND) as u32
 }
 
 fn log_of(is_quiet: bool, is_json: bool) -> SessionLog

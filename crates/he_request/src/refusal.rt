@@ -18,8 +18,11 @@ pub enum Refusal {
     /// The words are wrong.
     #[error("{0}")]
     Words(Error),
+    /// The words are wrong, and mean a host and a port: the line that works.
+    #[error("he: HOST and PORT are two words: {0}\n\nFor more information, try '--help'.\n")]
+    Meant(String),
     /// An option has a value that it can't have.
-    #[error("error: {0}\n\nFor more information, try '--help'.\n")]
+    #[error("he: {0}\n\nFor more information, try '--help'.\n")]
     Option(OptionFault),
     /// Memory was refused.
     #[error("out of memory")]
@@ -43,6 +46,12 @@ pub enum OptionFault {
     Listen,
     #[error("invalid value for '--allow <NETWORK>': expected a prefix with no bit set past its length, as 192.0.2.0/24")]
     Network,
+    #[error("invalid value for '--timeout <MS>': expected 1 to 3600000 milliseconds, as 500, 500ms or 5s")]
+    Timeout,
+    #[error("invalid value for '--idle <SECONDS>': expected 1 to 1000000 seconds, as 90 or 90s, or less, as 500ms")]
+    Idle,
+    #[error("invalid value for '--record': the name is empty")]
+    NoName,
     #[error("more than 4294967296 files")]
     Files,
     #[error("invalid value for '--html <FILE>': the name of a page ends in `.html`, or is `-` for standard output")]

@@ -5,6 +5,7 @@ ghost use Rattle.he_request.specs.Requests.{HasTaskWorkers, IsRequest};
 use crate::connect::Connection;
 use crate::host::Host;
 use crate::live::Live;
+use crate::meant::or_meant;
 use crate::names::Names;
 use crate::proxy::Proxy;
 use crate::refusal::Refusal;
@@ -12,7 +13,7 @@ use crate::texts::{Task, Texts, texts_of};
 use crate::{
     check, compare, connect, draw, explain, host, live, names, order, proxy, replay, summary,
 };
-use clap::{ArgMatches, Command};
+use clap::{ArgMatches, Command, Error};
 use std::alloc::{AllocError, Global};
 
 /// What a command line asks for.
@@ -40,9 +41,12 @@ Exit status: 0 on success; 1 after a fault, which standard error reports; 2 for
 a command line that is refused; 3 if `connect` or `live --must-connect` made no
 connection.";
 
-// The whole command line of the program.
-fn command<'a>(alloc: Global, version: &'a str) -> Result<Command<'a>, AllocError> {
-    let commands = commands(alloc)?;
+// The command line of the program, with these commands.
+fn command<'a>(
+    alloc: Global,
+    version: &'a str,
+    commands: Vec<Command<'a>>,
+) -> Result<Command<'a>, AllocError> {
     Command::new(alloc, "he")
         .bin_name("he")?
         .version(version)
@@ -53,21 +57,48 @@ fn command<'a>(alloc: Global, version: &'a str) -> Result<Command<'a>, AllocErro
 }
 
 // The commands, in the order of use.
-fn commands<'a>(alloc: Global) -> Result<Vec<Command<'a>>, AllocError> {
+const COMMANDS: [&str; 12] = [
+    "connect", "proxy", "names", "host", "live", "replay", "explain", "draw", "summary", "compare",
+    "order", "check",
+];
+
+// The commands that a line needs: the one that its first word names, none for the version, and else all, which help
+// and a refusal tell of.
+fn commands_for<'a>(alloc: Global, first: &str) -> Result<Vec<Command<'a>>, AllocError> {
     let mut commands = Vec::new(alloc);
-    commands.push(connect::command(alloc)?)?;
-    commands.push(proxy::command(alloc)?)?;
-    commands.push(names::command(alloc)?)?;
-    commands.push(host::command(alloc)?)?;
-    commands.push(live::command(alloc)?)?;
-    commands.push(replay::command(alloc)?)?;
-    commands.push(explain::command(alloc)?)?;
-    commands.push(draw::command(alloc)?)?;
-    commands.push(summary::command(alloc)?)?;
-    commands.push(compare::command(alloc)?)?;
-    commands.push(order::command(alloc)?)?;
-    commands.push(check::command(alloc)?)?;
+    if let "--version" | "-V" = first {
+        return Ok(commands);
+    }
+    if let Some(command) = command_of(alloc, first)? {
+        commands.push(command)?;
+        return Ok(commands);
+    }
+    for name in &COMMANDS {
+        if let Some(command) = command_of(alloc, name)? {
+            commands.push(command)?;
+        }
+    }
     Ok(commands)
+}
+
+// The command of this name.
+fn command_of<'a>(alloc: Global, name: &str) -> Result<Option<Command<'a>>, AllocError> {
+    let command = match name {
+        "connect" => connect::command(alloc)?,
+        "proxy" => proxy::command(alloc)?,
+        "names" => names::command(alloc)?,
+        "host" => host::command(alloc)?,
+        "live" => live::command(alloc)?,
+        "replay" => replay::command(alloc)?,
+        "explain" => explain::command(alloc)?,
+        "draw" => draw::command(alloc)?,
+        "summary" => summary::command(alloc)?,
+        "compare" => compare::command(alloc)?,
+        "order" => order::command(alloc)?,
+        "check" => check::command(alloc)?,
+        _ => return Ok(None),
+    };
+    Ok(Some(command))
 }
 
 /// Reads the words of a command line, of which the first is the program's name; the version is what `--version`
@@ -84,8 +115,22 @@ pub fn read_words<'a>(
 ) -> Result<Request<'a>, Refusal>
     ensures { IfOk result IsRequest }
 {
-    let matches = command(alloc, version)?.try_get_matches_from(words)?;
-    request_of(alloc, &matches, columns)
+    let first = words.get(1).copied().unwrap_or("");
+    let commands = commands_for(alloc, first)?;
+    match command(alloc, version, commands)?.try_get_matches_from(words) {
+        Ok(matches) => request_of(alloc, &matches, columns),
+        Err(error) => Err(refusal_of(alloc, first, words, error)),
+    }
+}
+
+// Why clap does not take a line, of which this is the first word; where it is one to connect, the line that works.
+fn refusal_of(alloc: Global, first: &str, words: &[&str], error: Error) -> Refusal {
+    match Refusal::from(error) {
+        Refusal::Words(error) if first == "connect" => {
+            or_meant(alloc, words, Refusal::Words(error))
+        }
+        refusal => refusal,
+    }
 }
 
 // What the line asks for. clap has tested that it names a command.

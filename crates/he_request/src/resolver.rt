@@ -1,6 +1,7 @@
 //! The resolver that a line names.
-ghost use Rattle.std.specs.Prelude.{◌≡◌, IfNone, IfSome};
-ghost use Rattle.he_request.specs.Resolvers.{NamesNone, NamesResolver};
+ghost use Rattle.std.specs.Prelude.{◌≡◌, IfNone, IfOk, IfSome, codes};
+ghost use Rattle.clap.specs.Matches.{first_value, found_of};
+ghost use Rattle.he_request.specs.Resolvers.{AsksResolver, NamesNone, NamesResolver};
 
 use crate::arguments::value;
 use crate::limits::SERVER_PORT;
@@ -29,10 +30,15 @@ pub(crate) fn resolver_argument<'a>(alloc: Global) -> Arg<'a> {
 }
 
 // The resolver that the line names: that of the system's settings where it names none.
-pub(crate) fn resolver_of(matches: &ArgMatches<'_>) -> Result<Resolver, OptionFault> {
-    match matches.get_str("resolver") {
-        Some(text) => read_resolver(text.as_bytes()).ok_or(OptionFault::Resolver),
-        None => Ok(Resolver::Configured),
+pub(crate) fn resolver_of(matches: &ArgMatches<'_>) -> Result<Resolver, OptionFault>
+    ensures { IfOk result (AsksResolver (first_value (found_of matches.now) (codes "resolver"))) }
+{
+    let Some(text) = matches.get_str("resolver") else {
+        return Ok(Resolver::Configured);
+    };
+    match read_resolver(text.as_bytes()) {
+        Some(resolver) => Ok(resolver),
+        None => Err(OptionFault::Resolver),
     }
 }
 

@@ -1,31 +1,31 @@
 //! The settings of a race, as a line gives them.
 ghost use Rattle.std.specs.Prelude.{◌≡◌, All, IfOk, Ok, codes, map, true};
-ghost use Rattle.clap.specs.Matches.{found_of};
-ghost use Rattle.he_request.specs.Words.{AsksChanges, AsksSettings, HasNumber, connect_defaults, connect_settings};
+ghost use Rattle.clap.specs.Matches.{first_value, found_of};
+ghost use Rattle.he_request.specs.Times.{time_of};
+ghost use Rattle.he_request.specs.Words.{AsksChanges, AsksSettings, connect_defaults, connect_settings};
 ghost use Rattle.he_request.specs.Words.{is_setting, last_number, number_for, values_of};
 
 use crate::arguments::{value, values_of};
 use crate::limits::MOST_WAIT;
 use crate::refusal::OptionFault;
-use clap::{Arg, ArgAction, ArgMatches, value_parser};
+use crate::time::time_of;
+use clap::{Arg, ArgAction, ArgMatches};
 use he_addr::read_number;
 use he_timeline::limits::{
     DEFAULT_ATTEMPT, DEFAULT_COUNT, DEFAULT_LIMIT, DEFAULT_RESOLUTION, MIN_FLOOR,
 };
 use he_timeline::{Changes, Range, Settings};
 use std::alloc::Global;
-use std::str::FromStr;
 
-const TIMEOUT_HELP: &str = "Give up after MS milliseconds without a connection,\n1 to 3600000";
+const TIMEOUT_HELP: &str = "Give up after MS milliseconds without a connection,\n\
+1 to 3600000, or as 5s";
 
 const SET_HELP: &str = "Override a setting in every race; repeatable.\n\
 NAME is attempt, resolution, count, limit or floor";
 
 // How long a race may take.
 pub(crate) fn timeout<'a>(alloc: Global) -> Arg<'a> {
-    value(alloc, "timeout", "MS", TIMEOUT_HELP).value_parser(value_parser!(u32).range(
-        1..=i64::from(MOST_WAIT),
-    ))
+    value(alloc, "timeout", "MS", TIMEOUT_HELP)
 }
 
 // The settings of a race, each by its name.
@@ -35,9 +35,10 @@ pub(crate) fn set<'a>(alloc: Global) -> Arg<'a> {
 
 // The settings that the line gives.
 pub(crate) fn changes_of(matches: &ArgMatches<'_>) -> Result<Changes, OptionFault>
-    ensures { IfOk result (AsksChanges ⟦<u32 as FromStr>⟧.from_str_gives (found_of matches.now)) }
+    ensures { IfOk result (AsksChanges (found_of matches.now)) }
 {
-    changes_in(values_of(matches, "set"), timeout_of(matches))
+    let timeout = timeout_of(matches)?;
+    changes_in(values_of(matches, "set"), timeout)
 }
 
 // The settings of these texts of `--set`, and of `--timeout`. Of two for one name the later counts, and `--set
@@ -59,10 +60,16 @@ pub(crate) fn changes_in(texts: &[&str], timeout: Option<u64>) -> Result<Changes
 }
 
 // The milliseconds of `--timeout`.
-fn timeout_of(matches: &ArgMatches<'_>) -> Option<u64>
-    ensures { HasNumber ⟦<u32 as FromStr>⟧.from_str_gives (found_of matches.now) (codes "timeout") result }
+fn timeout_of(matches: &ArgMatches<'_>) -> Result<Option<u64>, OptionFault>
+    ensures { IfOk result (λ timeout. timeout ≡ time_of 1 (first_value (found_of matches.now) (codes "timeout"))) }
 {
-    Some(u64::from(matches.get_one::<u32>("timeout")?))
+    time_of(
+        matches,
+        "timeout",
+        1,
+        u64::from(MOST_WAIT),
+        OptionFault::Timeout,
+    )
 }
 
 // Whether each of the texts gives a setting a number.

@@ -11,7 +11,6 @@ use crate::settings::changes_of;
 use clap::ArgMatches;
 use he_timeline::Changes;
 use std::alloc::Global;
-use std::str::FromStr;
 
 /// What is done with a text of races.
 #[derive(Clone, Copy)]
@@ -125,7 +124,7 @@ pub(crate) fn texts_of<'a>(
 ) -> Result<Texts<'a>, Refusal>
     requires { HasTaskWorkers task }
     ensures is { IfOk result IsTexts }
-    ensures asks { IfOk result (AsksTexts ⟦<u32 as FromStr>⟧.from_str_gives (found_of matches.now) task
+    ensures asks { IfOk result (AsksTexts (found_of matches.now) task
         (option_map (λ path. path.now) page.entry)) }
 {
     Ok(Texts {

@@ -1,12 +1,15 @@
 -- What a family's look-up comes to with each step.
-use Rattle.std.proofs.Common.{◌≡◌, ◌≤◌, ◌∙◌, ℕ, List, Option, Some, None, Ok, Err, length, slice_get, vec_len, inl, inr, refl, subst, sym}
+use Rattle.std.proofs.Common.{◌≡◌, ◌≤◌, ◌∙◌, ℕ, List, Option, Some, None, Ok, Err, Bool, true, false, ap, is_some, length, slice_get, vec_len, inl, inr, refl, subst, sym}
+use Rattle.std.proofs.lemmas.Bool.{false≢true}
 use Rattle.std.proofs.lemmas.Option.{slice_get_cases}
 use Rattle.he_addr.specs.declared.ip.Family.{Family}
 use Rattle.he_dns.specs.Texts.{HostName}
-use Rattle.he_resolver.specs.Asking.{AsksNext, Takes}
-use Rattle.he_resolver.specs.Heard.{Heard, HearsOf, IsHeardOf, IsHeardOfOne}
+use Rattle.he_resolver.specs.Asking.{AsksNext, EndsThrough, IsOfAsking, Takes}
+use Rattle.he_resolver.specs.Faults.{is_of_server}
+use Rattle.he_resolver.specs.Heard.{Heard, HearsOf, IsHeardOf, IsHeardOfOne, IsSaidOf}
 use Rattle.he_resolver.specs.declared.family_lookup.FamilyLookup.{FamilyLookup}
 use Rattle.he_resolver.specs.declared.fault.NamesFault.{NamesFault}
+use Rattle.he_resolver.specs.declared.fault.NamesFault.TheVariants as faults
 use Rattle.he_resolver.specs.declared.plan.QueryPlan.{QueryPlan}
 
 past : {X : Type 0} (xs : List X) (i : ℕ) → slice_get xs i ≡ None → length xs ≤ i
@@ -17,8 +20,27 @@ past {X = X} xs i none = elim (slice_get_cases xs i).1 [
 
 -- every server was asked
 pub asked_all : (plan : QueryPlan) (old : FamilyLookup) (told : Option Heard) (fault : NamesFault) → told ≡ Some (Err fault)
-    → slice_get plan.servers.items old.begun ≡ None → vec_len old.queries ≡ 0 → AsksNext plan old told
-asked_all plan old told fault is none empty = subst (AsksNext plan old) (sym is) (inr (inr (past plan.servers.items old.begun none, empty)))
+    → is_of_server fault ≡ true → slice_get plan.servers.items old.begun ≡ None → vec_len old.queries ≡ 0 → AsksNext plan old told
+asked_all plan old told fault is failed none empty =
+    subst (AsksNext plan old) (sym is) (inr (inr (failed, (past plan.servers.items old.begun none, empty))))
+
+-- a fault of this machine or of a server is no answer of a server
+pub not_said : (octets : List ℕ) (family : Family) (fault : NamesFault) → IsOfAsking fault → IsSaidOf octets family fault
+not_said octets family faults.NoAddress (inl e) = absurd (false≢true (sym e))
+not_said octets family faults.NoAddress (inr e) = absurd (false≢true e)
+not_said octets family faults.NoSuchName (inl e) = absurd (false≢true (sym e))
+not_said octets family faults.NoSuchName (inr e) = absurd (false≢true e)
+not_said octets family (faults.Host host) of = tt
+not_said octets family (faults.Name name) of = tt
+not_said octets family faults.NoAnswer of = tt
+not_said octets family (faults.Server server) of = tt
+not_said octets family faults.NotAsked of = tt
+not_said octets family faults.System of = tt
+not_said octets family (faults.Unreadable file) of = tt
+not_said octets family faults.Interface of = tt
+not_said octets family faults.Files of = tt
+not_said octets family faults.Runtime of = tt
+not_said octets family faults.Memory of = tt
 
 -- nothing is told anew
 pub hears_same : (octets : List ℕ) (family : Family) (told : Option Heard) → HearsOf octets family told told
@@ -30,7 +52,9 @@ pub hears_asked : (octets : List ℕ) (family : Family) (plan : QueryPlan) (old 
     → AsksNext plan old told → HearsOf octets family old.told told
 hears_asked octets family plan old None asks = tt
 hears_asked octets family plan old (Some (Ok found)) asks = inl (sym asks)
-hears_asked octets family plan old (Some (Err fault)) asks = inr tt
+hears_asked octets family plan old (Some (Err fault)) (inl machine) = inr (not_said octets family fault (inl machine))
+hears_asked octets family plan old (Some (Err fault)) (inr (inl same)) = inl (sym same)
+hears_asked octets family plan old (Some (Err fault)) (inr (inr through)) = inr (not_said octets family fault (inr through.0))
 
 -- a server's answer is taken
 pub hears_taken : (octets : List ℕ) (family : Family) (answer : Heard) (old new : FamilyLookup)
@@ -38,7 +62,7 @@ pub hears_taken : (octets : List ℕ) (family : Family) (answer : Heard) (old ne
 hears_taken octets family (Ok found) old new heard taken = subst (HearsOf octets family old.told) (sym taken) (inr heard)
 hears_taken octets family (Err fault) old new heard (inl goes) =
     subst (HearsOf octets family old.told) (sym goes.1.0) (hears_same octets family old.told)
-hears_taken octets family (Err fault) old new heard (inr told) = subst (HearsOf octets family old.told) (sym told.1) (inr tt)
+hears_taken octets family (Err fault) old new heard (inr told) = subst (HearsOf octets family old.told) (sym told.1) (inr heard)
 
 -- of one of the names
 pub heard_of_one : (names : List HostName) (place : ℕ) (name : HostName) (family : Family) (old new : Option Heard)
@@ -46,4 +70,30 @@ pub heard_of_one : (names : List HostName) (place : ℕ) (name : HostName) (fami
 heard_of_one names place name family old None is hears before = tt
 heard_of_one names place name family old (Some (Ok found)) is (inl same) before = subst (IsHeardOfOne names family) (sym same) before
 heard_of_one names place name family old (Some (Ok found)) is (inr heard) before = (place, name, is, heard)
-heard_of_one names place name family old (Some (Err fault)) is hears before = tt
+heard_of_one names place name family old (Some (Err fault)) is (inl same) before = subst (IsHeardOfOne names family) (sym same) before
+heard_of_one names place name family old (Some (Err fault)) is (inr heard) before = λ absence. (place, name, is, heard)
+
+-- that a server's answer is taken tells nothing of all of them
+abbrev server_in : Option Heard → Bool
+server_in None = false
+server_in (Some (Ok found)) = false
+server_in (Some (Err fault)) = is_of_server fault
+
+pub ends_taken : (plan : QueryPlan) (told : Option Heard) (answer : Heard) (old new : FamilyLookup) → old.told ≡ told → Takes answer old new
+    → EndsThrough plan told new
+ends_taken plan told (Ok found) old new same taken = λ fault is of.
+    let e : false ≡ is_of_server fault = ap server_in (sym taken ∙ is) in absurd (false≢true (e ∙ of))
+ends_taken plan told (Err f) old new same (inl goes) = λ fault is of. inl (sym same ∙ sym goes.1.0 ∙ is)
+ends_taken plan told (Err f) old new same (inr ended) = λ fault is of.
+    let e : is_of_server f ≡ is_of_server fault = ap server_in (sym ended.1 ∙ is) in absurd (false≢true (sym ended.0 ∙ e ∙ of))
+
+pub ends_same : (plan : QueryPlan) (told : Option Heard) (new : FamilyLookup) → new.told ≡ told → EndsThrough plan told new
+ends_same plan told new same = λ fault is of. inl (sym same ∙ is)
+
+-- a step of one that was told nothing
+pub ends_next : (plan : QueryPlan) (told : Option Heard) (mid new : FamilyLookup) → is_some mid.told ≡ false
+    → EndsThrough plan mid.told new → EndsThrough plan told new
+ends_next plan told mid new none ends = λ fault is of. elim (ends fault is of) [
+  | inl same ↦ (let e : true ≡ false = sym (ap is_some same) ∙ none in cc)
+  | inr through ↦ inr through
+]

@@ -17,10 +17,6 @@ pub listens_kept : (old new : Context) (asking : FamilyLookup) → Keeps old new
 listens_kept old new asking keeps (inl told) = inl told
 listens_kept old new asking keeps (inr covers) = inr (covers_kept old new (family_needs asking) keeps covers)
 
-pub shared_listens : (cx : Context) (asking shared : FamilyLookup) → ((shared ≡ asking) ⊎ IsTold shared) → Listens cx asking → Listens cx shared
-shared_listens cx asking shared (inl same) h = subst (Listens cx) (sym same) h
-shared_listens cx asking shared (inr told) h = inl told
-
 -- what is told waits for nothing
 told_needs : (asking : FamilyLookup) (s : ℕ) → IsTold asking → family_needs asking s → ⊥
 unfolding family_needs

@@ -1,9 +1,10 @@
 -- How a family's look-up goes on: a server that fails leaves it to the next one, and any other answer ends it.
 use Rattle.std.specs.Prelude.{◌≡◌, ◌⊎◌, ◌≤◌, ⊤, true, false, Option, Some, None, Ok, Err, length, vec_len}
-use Rattle.he_resolver.specs.Faults.{is_of_server}
+use Rattle.he_resolver.specs.Faults.{is_of_host, is_of_server}
 use Rattle.he_resolver.specs.Heard.{Heard}
 use Rattle.he_resolver.specs.declared.family_lookup.FamilyLookup.{FamilyLookup}
 use Rattle.he_resolver.specs.declared.family_lookup.NextServer.TheVariants.{Now}
+use Rattle.he_resolver.specs.declared.fault.NamesFault.{NamesFault}
 use Rattle.he_resolver.specs.declared.plan.QueryPlan.{QueryPlan}
 
 -- the family, and whether it is settled what it is told, stay as they are
@@ -20,10 +21,22 @@ Takes (Ok answer) old new = new.told ≡ Some (Ok answer)
 Takes (Err fault) old new =
     ((is_of_server fault ≡ true) × GoesOn old new) ⊎ ((is_of_server fault ≡ false) × (new.told ≡ Some (Err fault)))
 
--- that no server tells anything is told only where each of them was asked and none is waited for
+-- each of the servers was asked, and none is waited for
+abbrev pub IsThrough : QueryPlan → FamilyLookup → Type 0
+IsThrough plan asking = (length plan.servers.items ≤ asking.begun) × (vec_len asking.queries ≡ 0)
+
+-- that the next server is asked tells nothing, unless this machine fails, or the servers are through and told nothing
 abbrev pub AsksNext : QueryPlan → FamilyLookup → Option Heard → Type 0
 AsksNext plan old None = ⊤
 AsksNext plan old (Some (Ok answer)) = old.told ≡ Some (Ok answer)
 AsksNext plan old (Some (Err fault)) =
-    (is_of_server fault ≡ false) ⊎ (old.told ≡ Some (Err fault))
-    ⊎ ((length plan.servers.items ≤ old.begun) × (vec_len old.queries ≡ 0))
+    (is_of_host fault ≡ false) ⊎ (old.told ≡ Some (Err fault)) ⊎ ((is_of_server fault ≡ true) × IsThrough plan old)
+
+-- that no server tells anything is told only where they are through
+abbrev pub EndsThrough : QueryPlan → Option Heard → FamilyLookup → Type 0
+EndsThrough plan told new = (fault : NamesFault) → new.told ≡ Some (Err fault) → is_of_server fault ≡ true
+    → (told ≡ Some (Err fault)) ⊎ IsThrough plan new
+
+-- a fault at which a server isn't asked, or not in another way: of this machine, or of the server
+abbrev pub IsOfAsking : NamesFault → Type 0
+IsOfAsking fault = (is_of_host fault ≡ false) ⊎ (is_of_server fault ≡ true)

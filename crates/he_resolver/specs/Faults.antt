@@ -1,7 +1,8 @@
 -- Which fault is told where the families differ, and which faults are of one server alone.
-use Rattle.std.specs.Prelude.{ℕ, Bool, true, false, nat_le, if◌then◌else◌}
+use Rattle.std.specs.Prelude.{◌≡◌, ⊤, ℕ, Bool, true, false, nat_le, if◌then◌else◌}
 use Rattle.he_names.specs.declared.target.HostFault.{HostFault}
 use Rattle.he_names.specs.declared.target.HostFault.TheVariants as hosts
+use Rattle.he_resolver.specs.declared.file_fault.SystemFile.{SystemFile}
 use Rattle.he_resolver.specs.declared.fault.NamesFault.{NamesFault}
 use Rattle.he_resolver.specs.declared.fault.NamesFault.TheVariants as faults
 
@@ -24,23 +25,34 @@ is_absence fault = false
 
 -- the machine failed, and not the host
 abbrev pub is_of_host : NamesFault → Bool
+is_of_host (faults.Unreadable file) = false
+is_of_host faults.Interface = false
 is_of_host faults.Files = false
 is_of_host faults.Runtime = false
 is_of_host faults.Memory = false
 is_of_host fault = true
 
+-- the fault of reading this file: the machine failed, or the fault names the file
+abbrev pub IsOfFile : SystemFile → NamesFault → Type 0
+IsOfFile file (faults.Unreadable fault) = fault.file ≡ file
+IsOfFile file faults.Files = ⊤
+IsOfFile file faults.Memory = ⊤
+IsOfFile file fault = ⊥
+
 -- The order in which faults are told: that of the machine first, then what holds for both families, then that no
--- server answered or that one failed, and what holds for one family last.
+-- server answered or that one failed, and last what a server says, which holds for one family.
 abbrev pub rank_of : NamesFault → ℕ
 rank_of faults.Memory = 0
+rank_of (faults.Unreadable file) = 1
+rank_of faults.Interface = 1
 rank_of faults.Files = 1
 rank_of faults.Runtime = 1
 rank_of (faults.Host fault) = 2
 rank_of (faults.Name fault) = 2
 rank_of faults.System = 2
-rank_of faults.NoSuchName = 3
-rank_of faults.NoAnswer = 4
-rank_of (faults.Server fault) = 5
+rank_of faults.NoAnswer = 3
+rank_of (faults.Server fault) = 4
+rank_of faults.NoSuchName = 5
 rank_of faults.NoAddress = 6
 rank_of faults.NotAsked = 7
 

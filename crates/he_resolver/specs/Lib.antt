@@ -4,6 +4,7 @@ pub mod Events
 pub mod Faults
 pub mod Heard
 pub mod Known
+pub mod Meant
 pub mod Needs
 pub mod Plans
 pub mod Replies

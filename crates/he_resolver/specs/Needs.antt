@@ -101,7 +101,8 @@ module _ {R : Type 0} where
 
   -- a look-up: what is known without asking, or has come, is to be polled for
   abbrev pub source_needs : Source R → Family → ℕ → Type 0
-  source_needs (sources.Known found) family s = ⊤
+  source_needs (sources.Known known) family s = ⊤
+  source_needs (sources.Told found) family s = ⊤
   source_needs (sources.Servers resolver) family s = resolver_needs resolver family s
   source_needs (sources.System query) family s = s ≡ completed_source query.found
 

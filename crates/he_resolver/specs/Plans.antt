@@ -1,5 +1,6 @@
 -- What a look-up asks: names, of the texts that resolver(5) gives for a host, and name servers.
-use Rattle.std.specs.Prelude.{◌≡◌, ◌≢◌, ◌⊎◌, ◌*◌, ℕ, List, [], ◌∷◌, Some, None, codes}
+use Rattle.std.specs.Prelude.{◌≡◌, ◌≢◌, ◌⊎◌, ◌*◌, ℕ, List, [], ◌∷◌, Some, None, codes, string_bytes, true}
+use Rattle.std.specs.List.{list_any}
 use Rattle.std.specs.Net.Addr.{IsIpv4OfBits, IsIpv6OfBits}
 use Rattle.std.specs.Net.Socket.{socket_scope_id, v4_ip, v4_port, v6_ip, v6_port}
 use Rattle.std.specs.declared.net.socket_addr.SocketAddr.{SocketAddr}
@@ -9,9 +10,14 @@ use Rattle.he_addr.specs.declared.ip.Ip.TheVariants as ips
 use Rattle.he_dns.specs.declared.fault.NameFault.{NameFault}
 use Rattle.he_dns.specs.declared.fault.NameFault.TheVariants as faults
 use Rattle.he_dns.specs.Texts.{HasNameFault, HostName, SpellsName}
-use Rattle.he_names.specs.Conf.{option_in, search_in, servers_in}
-use Rattle.he_names.specs.Literals.{Zoned}
+use Rattle.he_names.specs.Conf.{has_option, option_in, search_in, servers_in}
+use Rattle.he_names.specs.Environment.{amended}
+use Rattle.he_names.specs.Literals.{Zoned, zoned_of}
 use Rattle.he_names.specs.Order.{names_of}
+use Rattle.he_names.specs.Special.{is_of_local}
+use Rattle.he_names.specs.declared.environment.Environment.{Environment}
+use Rattle.he_names.specs.declared.target.Target.{Target}
+use Rattle.he_names.specs.declared.target.Target.TheVariants as targets
 use Rattle.he_resolver.specs.Scopes.{IsNoScope, IsScope}
 use Rattle.he_resolver.specs.declared.choice.Choice.{Choice}
 use Rattle.he_resolver.specs.declared.choice.Choice.TheVariants as choices
@@ -53,9 +59,12 @@ abbrev pub IsAbsent : Zoned → Type 0
 IsAbsent (ips.V6 n, Some zone_id) = IsNoScope zone_id
 IsAbsent server = ⊥
 
--- the server that is chosen alone; else those of the file, in their order
+-- the server that is chosen alone, over the interface of its zone where it has one; else those of the file, in their
+-- order
 abbrev pub AreServers : Choice → List ℕ → List SocketAddr → Type 0
 AreServers (choices.Server server) settings servers = servers ≡ server ∷ []
+AreServers (choices.OnLink server) settings servers =
+    (address : SocketAddr) × IsServer (zoned_of server) address × (servers ≡ address ∷ [])
 AreServers other settings servers = StandFor IsServer IsAbsent (servers_in settings) servers
 
 -- ---- both
@@ -66,3 +75,15 @@ pub record IsPlan (host settings : List ℕ) (choice : Choice) (plan : QueryPlan
       plan.names.items
   pub servers : AreServers choice settings plan.servers.items
   pub sends : plan.sends ≡ option_in (codes "timeout:") 1 5 30 settings * option_in (codes "attempts:") 1 2 5 settings
+  pub use_vc : plan.use_vc ≡ has_option (codes "use-vc") settings
+  pub no_aaaa : plan.no_aaaa ≡ has_option (codes "no-aaaa") settings
+
+-- by some file of resolver settings, as the environment amends it; a name that multicast DNS finds is asked of name
+-- servers only where the search list has a domain in local
+abbrev pub IsPlanFor : Choice → Environment → Target → QueryPlan → Type 0
+IsPlanFor choice environment (targets.Name name) plan =
+    (file : List ℕ) × IsPlan (string_bytes name) (amended environment file) choice plan
+IsPlanFor choice environment (targets.Multicast name) plan =
+    (file : List ℕ) × (list_any is_of_local (search_in (amended environment file)) ≡ true)
+    × IsPlan (string_bytes name) (amended environment file) choice plan
+IsPlanFor choice environment other plan = ⊥

@@ -29,6 +29,7 @@ fault_reply answers.Memory = replies.Memory
 fault_reply answers.ServerFailure = replies.Failure failures.ServerFailure
 fault_reply answers.Refused = replies.Failure failures.Refused
 fault_reply (answers.OtherCode code) = replies.Failure (failure_of code)
+fault_reply answers.ChainTooLong = replies.Failure failures.Aliases
 fault_reply fault = replies.Failure failures.Malformed
 
 -- the addresses; or that there are none, unless the server is lame

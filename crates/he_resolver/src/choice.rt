@@ -6,15 +6,18 @@ ghost use Rattle.he_resolver.specs.Plans.{IsAt};
 
 use crate::limits::SERVER_PORT;
 use he_addr::Ip;
+use he_names::ZonedIp;
 use std::net::{IpAddr, Ipv4Addr, Ipv6Addr, SocketAddr};
 
 /// Which resolver is asked.
 #[derive(Clone, Copy)]
-pub enum Choice {
+pub enum Choice<'a> {
     /// The name servers of the file of resolver settings.
     Configured,
     /// This name server in their place.
     Server(SocketAddr),
+    /// This one in their place, at the usual port and, of an address on a link, over the interface of its zone.
+    OnLink(ZonedIp<'a>),
     /// The system's resolver.
     System,
 }

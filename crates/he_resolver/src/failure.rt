@@ -29,9 +29,19 @@ pub enum Failure {
     /// What it answered can't be read.
     #[error("answered what can't be read")]
     Malformed,
+    /// It answered more aliases than are followed.
+    #[error("answered more than 16 aliases in a row, as in a loop of them")]
+    Aliases,
     /// There is no way to it, or nothing listens there.
     #[error("cannot be reached")]
     Unreachable,
+}
+
+impl Failure {
+    // Whether the server may have failed by the record that says how long a datagram of its answer may be.
+    pub(crate) fn is_of_room(self) -> bool {
+        matches!(self, Failure::FormatError | Failure::NotImplemented)
+    }
 }
 
 /// A name server that failed, and how.

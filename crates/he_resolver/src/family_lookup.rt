@@ -1,14 +1,15 @@
 // What one family asks: the servers in their order, beside one another, until one of them tells.
 
-ghost use Rattle.std.specs.Prelude.{◌≡◌, ◌<◌, ◌||◌, ◌⊎◌, Err, None, Some, if◌then◌else◌, is_some, not, vec_len};
+ghost use Rattle.std.specs.Prelude.{◌≡◌, ◌<◌, ◌||◌, ◌⊎◌, Err, IfErr, None, Some, true, if◌then◌else◌, is_some, not, vec_len};
 ghost use Rattle.futures.specs.Poll.{IfReady, OnPending};
 ghost use Rattle.futures.specs.Task.{Covers, IsArmed, Keeps};
 ghost use Rattle.he_resolver.specs.declared.fault.NamesFault.TheVariants.{NotAsked};
-ghost use Rattle.he_resolver.specs.Asking.{AsksNext, IsSame, Takes};
+ghost use Rattle.he_resolver.specs.Asking.{AsksNext, EndsThrough, IsOfAsking, IsSame, Takes};
+ghost use Rattle.he_resolver.specs.Faults.{is_of_server};
 ghost use Rattle.he_resolver.specs.Heard.{HearsOf, IsHeardOf, IsHeardOfOne};
 ghost use Rattle.he_resolver.specs.Needs.{Listens, any_needs, family_needs, next_server_needs};
-ghost use Rattle.std.specs.Option.{option_map};
 
+use crate::failure::ServerFault;
 use crate::fault::NamesFault;
 use crate::limits::{ALONE, MOST_STEPS};
 use crate::log::LookupEventKind;
@@ -19,6 +20,7 @@ use futures::task::{Context, Poll};
 use he_addr::Family;
 use he_dns::Answer;
 use std::alloc::Global;
+use std::io;
 use std::net::{Net, SocketAddr};
 use std::random::RandomSource;
 use std::time::Clock;
@@ -41,9 +43,12 @@ pub(crate) struct FamilyLookup {
     queries: Vec<Query>,
     // How many servers were asked.
     begun: usize,
+    // How many of the first servers are not waited for alone: they failed, or did not answer for an earlier name in
+    // time.
+    passed: usize,
     next: NextServer,
-    // Why the first server that failed told nothing.
-    lack: Option<NamesFault>,
+    // The first server that failed.
+    failed: Option<ServerFault>,
     told: Option<Result<Answer, NamesFault>>,
     // Whether no other name can change what is told.
     is_settled: bool,
@@ -60,8 +65,9 @@ impl FamilyLookup {
             family,
             queries: Vec::new(alloc),
             begun: 0,
+            passed: 0,
             next: NextServer::Now,
-            lack: None,
+            failed: None,
             told: if is_wanted {
                 None
             } else {
@@ -78,9 +84,10 @@ impl FamilyLookup {
     {
         if !self.is_settled {
             self.queries.clear();
+            self.passed = self.begun.saturating_sub(1);
             self.begun = 0;
             self.next = NextServer::Now;
-            self.lack = None;
+            self.failed = None;
             self.told = None;
         }
     }
@@ -105,10 +112,10 @@ impl FamilyLookup {
     }
 
     // The addresses, or why there are none, once that was told.
-    pub(crate) fn told(&self) -> Option<&Result<Answer, NamesFault>>
-        ensures { option_map (λ told. told.now) result ≡ self.now.told }
+    pub(crate) fn told(&self) -> &Option<Result<Answer, NamesFault>>
+        ensures { result.now ≡ self.now.told }
     {
-        self.told.as_ref()
+        &self.told
     }
 
     // Whether nothing can change what is told.
@@ -126,17 +133,20 @@ impl FamilyLookup {
     }
 
     // Ends the asking, which was told this.
-    pub(crate) fn tell(&mut self, told: Result<Answer, NamesFault>)
+    fn tell(&mut self, told: Result<Answer, NamesFault>)
         ensures told { self.new.told ≡ Some told }
         ensures same { IsSame self.old self.new }
+        ensures none { vec_len self.new.queries ≡ 0 }
+        ensures begun { self.new.begun ≡ self.old.begun }
     {
         self.queries.clear();
         self.next = NextServer::Never;
         self.told = Some(told);
     }
 
-    // Asks for the name at this place. Ready once it is told what addresses the family has, or why none.
-    #[tactic(auto, using(crate::proofs::Asking::heard_of_one))]
+    // Asks for the name at this place. Ready once it is told what addresses the family has, or why none: by a message
+    // that answers the query for this family, or since no server tells anything.
+    #[tactic(auto, using(crate::proofs::Asking::heard_of_one, crate::proofs::Asking::ends_next))]
     pub(crate) fn poll<R: Net + RandomSource + Clock>(
         &mut self,
         setup: &Setup<'_, R>,
@@ -147,10 +157,11 @@ impl FamilyLookup {
         ensures same { IsSame self.old self.new }
         ensures heard { IsHeardOfOne setup.now.plan.names.items self.old.family self.old.told
             → IsHeardOfOne setup.now.plan.names.items self.old.family self.new.told }
+        ensures ends { EndsThrough setup.now.plan self.old.told self.new }
         ensures kept { Keeps cx.old cx.new }
     {
         let Some(name) = setup.plan.name(place) else {
-            self.tell(Err(NamesFault::NoAnswer));
+            self.tell(Err(NamesFault::Runtime));
             return Poll::Ready(());
         };
         let question = Question {
@@ -169,7 +180,7 @@ impl FamilyLookup {
     }
 
     // One step: asks the next server where that is due, or looks what became of the queries.
-    #[tactic(auto, unfolding(crate::specs::Needs::family_needs), using(crate::proofs::Asking::hears_asked, crate::proofs::Asking::hears_same, crate::proofs::Asking::hears_taken))]
+    #[tactic(auto, unfolding(crate::specs::Needs::family_needs), using(crate::proofs::Asking::hears_asked, crate::proofs::Asking::hears_same, crate::proofs::Asking::hears_taken, crate::proofs::Asking::ends_same, crate::proofs::Asking::ends_taken))]
     fn step<R: Net + RandomSource + Clock>(
         &mut self,
         setup: &Setup<'_, R>,
@@ -179,6 +190,7 @@ impl FamilyLookup {
         ensures waits { OnPending result (Covers cx.new (family_needs self.new)) }
         ensures same { IsSame self.old self.new }
         ensures heard { HearsOf question.entry.name.now.octets question.entry.family self.old.told self.new.told }
+        ensures ends { EndsThrough setup.now.plan self.old.told self.new }
         ensures kept { Keeps cx.old cx.new }
     {
         if self.queries.is_empty() || self.next.is_now() {
@@ -211,11 +223,12 @@ impl FamilyLookup {
     )
         ensures same { IsSame self.old self.new }
         ensures asks { AsksNext setup.now.plan self.old self.new.told }
+        ensures ends { EndsThrough setup.now.plan self.old.told self.new }
     {
         let Some(server) = setup.plan.server(self.begun) else {
             self.next = NextServer::Never;
             if self.queries.is_empty() {
-                self.tell(Err(self.lack.unwrap_or(NamesFault::NoAnswer)));
+                self.tell(Err(self.failed()));
             }
             return;
         };
@@ -233,10 +246,12 @@ impl FamilyLookup {
     ) -> Result<(), NamesFault>
         ensures same { IsSame self.old self.new }
         ensures told { self.new.told ≡ self.old.told }
+        ensures fault { IfErr result IsOfAsking }
     {
         let query = Query::begin(setup, server, question)?;
+        let is_alone = query.is_sent() && self.begun > self.passed;
         self.queries.push(query)?;
-        self.next = NextServer::After(setup.sleep(ALONE)?);
+        self.next = next_server(setup, is_alone)?;
         Ok(())
     }
 
@@ -258,16 +273,44 @@ impl FamilyLookup {
         ensures same { IsSame self.old self.new }
         ensures takes { Takes answer self.old self.new }
     {
-        if let Some(kind) = LookupEventKind::of_answer(server, &answer) {
+        let event = LookupEventKind::of_answer(setup.alloc, self.family, server, &answer);
+        if let Ok(Some(kind)) = event {
             setup.note(self.family, kind);
         }
         match answer {
             Err(fault) if fault.is_of_server() => {
-                self.lack = Some(self.lack.unwrap_or(fault));
+                self.note_failed(fault);
                 self.next = NextServer::Now;
             }
             told => self.tell(told),
         }
+    }
+
+    fn note_failed(&mut self, fault: NamesFault)
+        ensures { self.new ≡ record self.old { failed = self.new.failed } }
+    {
+        if let NamesFault::Server(fault) = fault {
+            self.failed = self.failed.or(Some(fault));
+        }
+    }
+
+    // Why none of the servers told anything.
+    fn failed(&self) -> NamesFault
+        ensures { is_of_server result ≡ true }
+    {
+        match self.failed {
+            Some(fault) => NamesFault::Server(fault),
+            None => NamesFault::NoAnswer,
+        }
+    }
+}
+
+// When the next server is asked, where the one that is asked now is waited for alone or not.
+fn next_server<R: Clock>(setup: &Setup<'_, R>, is_alone: bool) -> io::Result<NextServer> {
+    if is_alone {
+        Ok(NextServer::After(setup.sleep(ALONE)?))
+    } else {
+        Ok(NextServer::Now)
     }
 }
 

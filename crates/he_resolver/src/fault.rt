@@ -6,6 +6,7 @@ ghost use Rattle.he_resolver.specs.declared.fault.NamesFault.TheVariants.{Files,
 ghost use Rattle.he_resolver.specs.declared.fault.TellFault.TheVariants.{Names, Write};
 
 use crate::failure::ServerFault;
+use crate::file_fault::FileFault;
 use he_dns::NameFault;
 use he_names::HostFault;
 use he_stream::WriteFault;
@@ -40,11 +41,17 @@ pub enum NamesFault {
     #[error("name server {0}")]
     Server(ServerFault),
     /// The family is not asked for.
-    #[error("not asked")]
+    #[error("not asked for: the option no-aaaa of /etc/resolv.conf or RES_OPTIONS")]
     NotAsked,
     /// The system's resolver has no address of the name.
     #[error("the system's resolver has no address")]
     System,
+    /// A file of the system that is there can't be read.
+    #[error("{0}")]
+    Unreadable(FileFault),
+    /// This machine has no such interface as the name server is to be asked over.
+    #[error("this machine has no such interface as the name server's")]
+    Interface,
     /// The process or the machine has as many files open as it may.
     #[error("too many open files")]
     Files,
@@ -63,7 +70,11 @@ impl NamesFault {
     {
         !matches!(
             self,
-            NamesFault::Files | NamesFault::Runtime | NamesFault::Memory
+            NamesFault::Unreadable(_)
+                | NamesFault::Interface
+                | NamesFault::Files
+                | NamesFault::Runtime
+                | NamesFault::Memory
         )
     }
 
@@ -87,11 +98,14 @@ impl NamesFault {
     {
         match self {
             NamesFault::Memory => 0,
-            NamesFault::Files | NamesFault::Runtime => 1,
+            NamesFault::Unreadable(_)
+            | NamesFault::Interface
+            | NamesFault::Files
+            | NamesFault::Runtime => 1,
             NamesFault::Host(_) | NamesFault::Name(_) | NamesFault::System => 2,
-            NamesFault::NoSuchName => 3,
-            NamesFault::NoAnswer => 4,
-            NamesFault::Server(_) => 5,
+            NamesFault::NoAnswer => 3,
+            NamesFault::Server(_) => 4,
+            NamesFault::NoSuchName => 5,
             NamesFault::NoAddress => 6,
             NamesFault::NotAsked => 7,
         }
@@ -177,8 +191,8 @@ impl From<WriteFault> for TellFault {
 }
 
 /// Which fault is reported where neither family has an address, of that of IPv6 and that of IPv4: want of memory or of
-/// files first; that there is no such name, which holds for both families; then that no server answered, that one
-/// failed, and that there is no address.
+/// files first; then that no server answered and that one failed; that there is no such name, and that there is no
+/// address.
 pub fn first_fault(v6: NamesFault, v4: NamesFault) -> NamesFault
     ensures { result ≡ first_of v6 v4 }
 {

@@ -2,9 +2,11 @@
 
 ghost use Rattle.std.specs.Prelude.{◌≡◌, IfErr, IfOk};
 ghost use Rattle.he_resolver.specs.Scopes.{FindsScope, MayBeScope};
-ghost use Rattle.he_resolver.specs.declared.fault.NamesFault.TheVariants.{Memory};
+ghost use Rattle.he_resolver.specs.Faults.{IsOfFile};
 
 use crate::fault::NamesFault;
+use crate::file_fault::{FileError, FileFault, SystemFile};
+use crate::limits::MOST_STEPS;
 use he_addr::read_number;
 use he_names::{HostFault, Target, read_host};
 use std::alloc::{AllocGlobal, Global};
@@ -16,18 +18,45 @@ pub(crate) const HOSTS: &str = "/etc/hosts";
 
 pub(crate) const SETTINGS: &str = "/etc/resolv.conf";
 
-// The bytes of a file; none where it can't be read.
+// The bytes of a file; none where there is no such file.
 pub(crate) fn read_file<R: Files + AllocGlobal>(
     rt: &R,
     alloc: Global,
     path: &str,
+    file: SystemFile,
 ) -> Result<Vec<u8>, NamesFault>
-    ensures { IfErr result (λ fault. fault ≡ Memory) }
+    ensures { IfErr result (IsOfFile file) }
 {
-    match fs::read(rt, path) {
-        Ok(text) => Ok(text),
-        Err(error) if error.kind() == io::ErrorKind::OutOfMemory => Err(NamesFault::Memory),
-        Err(_) => Ok(Vec::new(alloc)),
+    for _ in 0..MOST_STEPS {
+        match fs::read(rt, path) {
+            Ok(text) => return Ok(text),
+            Err(error) if error.kind() == io::ErrorKind::Interrupted => {}
+            Err(error) => return unread(alloc, file, error),
+        }
+    }
+    Err(fault_of(file, io::ErrorKind::Interrupted.into()))
+}
+
+// No bytes, where there is no such file; else why it can't be read.
+fn unread(alloc: Global, file: SystemFile, error: io::Error) -> Result<Vec<u8>, NamesFault>
+    ensures { IfErr result (IsOfFile file) }
+{
+    match error.kind() {
+        io::ErrorKind::NotFound | io::ErrorKind::NotADirectory => Ok(Vec::new(alloc)),
+        _ => Err(fault_of(file, error)),
+    }
+}
+
+fn fault_of(file: SystemFile, error: io::Error) -> NamesFault
+    ensures { IsOfFile file result }
+{
+    match NamesFault::from(error) {
+        NamesFault::Memory => NamesFault::Memory,
+        NamesFault::Files => NamesFault::Files,
+        _ => NamesFault::Unreadable(FileFault {
+            file,
+            error: FileError::new(&error),
+        }),
     }
 }
 
@@ -36,7 +65,7 @@ pub(crate) fn read_file<R: Files + AllocGlobal>(
 ///
 /// # Errors
 ///
-/// `Memory`.
+/// `Unreadable`, `Files`, `Memory`.
 pub fn read_scope<R: Files + AllocGlobal>(
     rt: &R,
     alloc: Global,
@@ -51,7 +80,7 @@ pub fn read_scope<R: Files + AllocGlobal>(
         return Ok(None);
     };
     let path = format!(in alloc; "/sys/class/net/{name}/ifindex")?;
-    let text = read_file(rt, alloc, path.as_str())?;
+    let text = read_file(rt, alloc, path.as_str(), SystemFile::Interface)?;
     let digits = match text.as_slice() {
         [digits @ .., b'\n'] => digits,
         digits => digits,
@@ -67,7 +96,7 @@ pub fn read_scope<R: Files + AllocGlobal>(
 ///
 /// # Errors
 ///
-/// `Host` where the text names no host, or an interface that this machine has not; `Memory`.
+/// `Host` where the text names no host, or an interface that this machine has not; `Unreadable`, `Files`, `Memory`.
 pub fn find_scope<R: Files + AllocGlobal>(
     rt: &R,
     alloc: Global,

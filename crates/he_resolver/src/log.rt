@@ -1,11 +1,12 @@
 //! What happened in a look-up.
 
-ghost use Rattle.std.specs.Prelude.{◌≡◌};
-ghost use Rattle.he_resolver.specs.Events.{event_of};
+ghost use Rattle.std.specs.Prelude.{◌≡◌, IfOk};
+ghost use Rattle.he_resolver.specs.Events.{event_of, event_of_fault};
 
 use crate::failure::{Failure, ServerFault, ShownServer};
 use crate::fault::NamesFault;
 use crate::limits::{ALONE, MOST_EVENTS};
+use crate::meant::addresses_of;
 use he_addr::Family;
 use he_dns::Answer;
 use std::alloc::{AllocError, Global};
@@ -30,9 +31,10 @@ pub struct LookupEvent {
 pub enum LookupEventKind {
     /// It isn't asked for: the other family is wanted alone.
     NotAsked,
-    /// So many addresses were known without a name server: of the host itself, of the file of hosts, or of the
-    /// system's resolver.
-    Known(usize),
+    /// IPv6 isn't asked for, by the option no-aaaa of the settings.
+    LeftOut,
+    /// So many addresses were known without a name server.
+    Known(usize, Origin),
     /// The first server has not answered for [`ALONE`] milliseconds, and the second one is asked too.
     Slow(SocketAddr, SocketAddr),
     /// The server has not answered in all its time.
@@ -47,22 +49,44 @@ pub enum LookupEventKind {
     NoSuchName(SocketAddr),
 }
 
+/// Where addresses come from that no name server told.
+#[derive(Clone, Copy, PartialEq, Eq)]
+pub enum Origin {
+    /// The host itself, the file of hosts, or an earlier look-up.
+    Known,
+    /// The system's resolver.
+    System,
+}
+
 impl LookupEventKind {
     // What a server's answer is an event of; None where the machine failed.
     pub(crate) fn of_answer(
+        alloc: Global,
+        family: Family,
         server: SocketAddr,
         answer: &Result<Answer, NamesFault>,
-    ) -> Option<LookupEventKind>
-        ensures { result ≡ event_of server answer.now }
+    ) -> Result<Option<LookupEventKind>, NamesFault>
+        ensures { IfOk result (λ event. event ≡ event_of family server answer.now) }
     {
         match answer {
-            Ok(answer) => Some(LookupEventKind::Addresses(answer.addresses.len(), server)),
-            Err(NamesFault::NoAddress) => Some(LookupEventKind::NoAddress(server)),
-            Err(NamesFault::NoSuchName) => Some(LookupEventKind::NoSuchName(server)),
-            Err(NamesFault::NoAnswer) => Some(LookupEventKind::Silent(server)),
-            Err(NamesFault::Server(fault)) => Some(LookupEventKind::Failed(*fault)),
-            Err(_) => None,
+            Ok(answer) => {
+                let count = addresses_of(alloc, family, &answer.addresses)?.len();
+                Ok(Some(LookupEventKind::Addresses(count, server)))
+            }
+            Err(fault) => Ok(event_of_fault(server, *fault)),
         }
+    }
+}
+
+fn event_of_fault(server: SocketAddr, fault: NamesFault) -> Option<LookupEventKind>
+    ensures { result ≡ event_of_fault server fault }
+{
+    match fault {
+        NamesFault::NoAddress => Some(LookupEventKind::NoAddress(server)),
+        NamesFault::NoSuchName => Some(LookupEventKind::NoSuchName(server)),
+        NamesFault::NoAnswer => Some(LookupEventKind::Silent(server)),
+        NamesFault::Server(fault) => Some(LookupEventKind::Failed(fault)),
+        _ => None,
     }
 }
 
@@ -75,9 +99,14 @@ impl fmt::Display for LookupEvent {
         };
         match self.kind {
             LookupEventKind::NotAsked => write!(f, "{kind} not asked ({only})"),
-            LookupEventKind::Known(count) => {
+            LookupEventKind::LeftOut => write!(f, "{kind} not asked (option no-aaaa)"),
+            LookupEventKind::Known(count, Origin::Known) => {
                 let counted = Counted(count);
                 write!(f, "{kind} answer: {counted}, no name server asked")
+            }
+            LookupEventKind::Known(count, Origin::System) => {
+                let counted = Counted(count);
+                write!(f, "{kind} answer: {counted} from the system's resolver")
             }
             LookupEventKind::Slow(server, next) => {
                 let (server, next) = (ShownServer(server), ShownServer(next));
@@ -112,7 +141,7 @@ fn write_failure<W: fmt::Write>(
     let server = ShownServer(fault.server);
     let failure = fault.failure;
     match failure {
-        Failure::Lame | Failure::Malformed | Failure::Unreachable => {
+        Failure::Lame | Failure::Malformed | Failure::Aliases | Failure::Unreachable => {
             write!(f, "{kind}: {server} {failure}")
         }
         _ => write!(f, "{kind}: {failure} from {server}"),

@@ -5,28 +5,28 @@ ghost use Rattle.futures.specs.Poll.{IfReady, OnPending};
 ghost use Rattle.futures.specs.Task.{Covers, Keeps};
 ghost use Rattle.he_names.specs.Answers.{IsAnswer};
 ghost use Rattle.he_resolver.specs.Begins.{BeginsFor};
-ghost use Rattle.he_resolver.specs.Heard.{AreOwnOf, IsSound, Tells, TellsKnown, asked_names, ttl_in};
+ghost use Rattle.he_resolver.specs.Heard.{AreOwnOf, IsSound, Tells, TellsKnown, origin_of, ttl_in};
 ghost use Rattle.he_resolver.specs.Needs.{lookup_needs};
 ghost use Rattle.he_resolver.specs.declared.lookup.Source.TheVariants as sources;
 
 use crate::choice::Choice;
 use crate::fault::NamesFault;
-use crate::known::known_to;
-use crate::log::{LookupEventKind, LookupLog};
+use crate::known::known_by_itself;
+use crate::log::{LookupEventKind, LookupLog, Origin};
 use crate::plan::plan_for;
 use crate::resolver::Resolver;
 use crate::setup::Setup;
 use crate::system::{SystemQuery, SystemResolver};
 use futures::task::{Context, Poll};
 use he_addr::{Family, Ip};
-use he_names::{HostFault, SpecialUse, Target, clean_of, read_host};
+use he_names::{Environment, Target, clean_of, read_host};
 use std::alloc::{AllocError, AllocGlobal, Global};
 use std::net::Net;
 use std::random::RandomSource;
 use std::rt::Files;
 use std::thread::Threads;
 use std::time::Clock;
-use tokio::reactor::Handle;
+use tokio::runtime::Handle;
 
 /// What a look-up is to find.
 #[derive(Clone, Copy)]
@@ -36,7 +36,9 @@ pub struct Wanted<'a> {
     /// The family that is asked for alone; both are where there is none.
     pub only: Option<Family>,
     /// Which resolver is asked.
-    pub choice: Choice,
+    pub choice: Choice<'a>,
+    /// By which the file of resolver settings is amended.
+    pub environment: Environment<'a>,
 }
 
 /// Finds the addresses of a host, and returns each family's as soon as they are known: a resolver for a race that runs
@@ -52,36 +54,38 @@ pub struct Lookup<'h, R> {
 // Where the addresses come from.
 #[derive(Drop)]
 pub(crate) enum Source<'h, R> {
-    Known(Result<Vec<Ip>, NamesFault>),
+    Known(Vec<Ip>),
     Servers(Resolver<'h, R>),
     System(SystemQuery),
+    // What the system's resolver told.
+    Told(Result<Vec<Ip>, NamesFault>),
 }
 
 impl<'h, R: Net + RandomSource + Clock> Lookup<'h, R> {
-    /// Reads what the host is, and takes what is known of it without asking: an address, the addresses of this
-    /// machine, and what the file of hosts has, unless the system's resolver is asked. Nothing is sent before the
-    /// first poll; the system's own resolver is called at once, in a thread.
+    /// A look-up of a host of which nothing is known ([`find_known`](crate::find_known)): the file of hosts is not
+    /// read. What is an address, or this machine, is its own answer. Nothing is sent before the first poll; the
+    /// system's own resolver is called at once, in a thread.
     ///
     /// # Errors
     ///
-    /// `Host` and `Name` where it is no host name, or one that is not asked for; `Runtime` where no thread can be
-    /// made; `Memory`.
+    /// `Host` and `Name` where it is no host name, or one that is not asked for; `Unreadable` and `Files` where a file
+    /// of the system is there and can't be read; `Interface` where this machine has none such as the chosen name
+    /// server is to be asked over; `Runtime` where no thread can be made; `Memory`.
     pub fn new(
         rt: &'h R,
         alloc: Global,
-        reactor: &'h Handle,
-        timers: &'h tokio::time::Handle,
+        handle: &'h Handle,
         wanted: Wanted<'_>,
     ) -> Result<Lookup<'h, R>, NamesFault>
     where
         R: Files + AllocGlobal + SystemResolver + Threads + Copy + Send + 'static,
-        ensures begins { IfOk result (λ lookup. BeginsFor wanted.entry.host.now wanted.entry.choice wanted.entry.only
-            lookup.source) }
+        ensures begins { IfOk result (λ lookup. BeginsFor wanted.entry.host.now wanted.entry.choice
+            wanted.entry.environment wanted.entry.only lookup.source) }
         ensures sound { IfOk result (λ lookup. IsSound lookup.source) }
     {
         match wanted.choice {
             Choice::System => Lookup::by_system(rt, alloc, wanted),
-            _ => Lookup::by_servers(rt, alloc, reactor, timers, wanted),
+            _ => Lookup::by_servers(rt, alloc, handle, wanted),
         }
     }
 
@@ -93,78 +97,74 @@ impl<'h, R: Net + RandomSource + Clock> Lookup<'h, R> {
     pub fn by_servers(
         rt: &'h R,
         alloc: Global,
-        reactor: &'h Handle,
-        timers: &'h tokio::time::Handle,
+        handle: &'h Handle,
         wanted: Wanted<'_>,
     ) -> Result<Lookup<'h, R>, NamesFault>
     where
         R: Files + AllocGlobal,
-        ensures begins { IfOk result (λ lookup. BeginsFor wanted.entry.host.now wanted.entry.choice wanted.entry.only
-            lookup.source) }
+        ensures begins { IfOk result (λ lookup. BeginsFor wanted.entry.host.now wanted.entry.choice
+            wanted.entry.environment wanted.entry.only lookup.source) }
         ensures sound { IfOk result (λ lookup. IsSound lookup.source) }
     {
-        let log = LookupLog::new(rt, alloc)?;
         let target = read_host(alloc, wanted.host)?;
-        if let Some(known) = known_to(rt, alloc, &target, wanted.choice)? {
-            note_known(rt, &log, &known);
-            return Ok(Lookup::with(rt, alloc, Source::Known(Ok(known)), log));
+        if let Some(known) = known_by_itself(alloc, &target)? {
+            return Ok(Lookup::of_known(rt, alloc, known)?);
         }
-        match (target, wanted.choice) {
-            (_, Choice::System) => Err(NamesFault::System),
-            (Target::Name(name), choice) => {
-                let setup = Setup {
-                    rt,
-                    alloc,
-                    reactor,
-                    timers,
-                    plan: plan_for(rt, alloc, name.as_bytes(), choice)?,
-                    log: log.share()?,
-                };
-                let resolver = Resolver::new(setup, wanted.only);
-                Ok(Lookup::with(rt, alloc, Source::Servers(resolver), log))
-            }
-            _ => Err(NamesFault::Host(HostFault::Special(SpecialUse::Local))),
+        if let Choice::System = wanted.choice {
+            return Err(NamesFault::System);
         }
+        let log = LookupLog::new(rt, alloc)?;
+        let setup = Setup {
+            rt,
+            alloc,
+            reactor: handle.reactor(),
+            timers: handle.time(),
+            plan: plan_for(rt, alloc, &target, wanted)?,
+            log: log.share()?,
+        };
+        let resolver = Resolver::new(setup, wanted.only);
+        Ok(Lookup::with(rt, alloc, Source::Servers(resolver), log))
     }
 
     // By the system's own resolver, which gives both families.
     fn by_system(rt: &'h R, alloc: Global, wanted: Wanted<'_>) -> Result<Lookup<'h, R>, NamesFault>
     where
-        R: Files + AllocGlobal + SystemResolver + Threads + Copy + Send + 'static,
-        ensures begins { IfOk result (λ lookup. BeginsFor wanted.entry.host.now wanted.entry.choice wanted.entry.only
-            lookup.source) }
+        R: AllocGlobal + SystemResolver + Threads + Copy + Send + 'static,
+        ensures begins { IfOk result (λ lookup. BeginsFor wanted.entry.host.now wanted.entry.choice
+            wanted.entry.environment wanted.entry.only lookup.source) }
         ensures sound { IfOk result (λ lookup. IsSound lookup.source) }
     {
-        let log = LookupLog::new(rt, alloc)?;
         let target = read_host(alloc, wanted.host)?;
-        if let Some(known) = known_to(rt, alloc, &target, wanted.choice)? {
-            note_known(rt, &log, &known);
-            return Ok(Lookup::with(rt, alloc, Source::Known(Ok(known)), log));
+        if let Some(known) = known_by_itself(alloc, &target)? {
+            return Ok(Lookup::of_known(rt, alloc, known)?);
         }
         match (target, wanted.choice) {
             (Target::Multicast(name), Choice::System) => {
                 let query = SystemQuery::begin(*rt, alloc, name.as_str())?;
+                let log = LookupLog::new(rt, alloc)?;
                 Ok(Lookup::with(rt, alloc, Source::System(query), log))
             }
             (Target::Name(name), Choice::System) => {
                 let query = SystemQuery::begin(*rt, alloc, name.as_str())?;
+                let log = LookupLog::new(rt, alloc)?;
                 Ok(Lookup::with(rt, alloc, Source::System(query), log))
             }
-            _ => Err(NamesFault::Host(HostFault::Special(SpecialUse::Local))),
+            _ => Err(NamesFault::System),
         }
     }
 
-    /// A look-up of a host whose addresses are known from an earlier one: it returns these; nothing is read or asked.
+    /// A look-up of a host whose addresses are known, by [`find_known`](crate::find_known) or from an earlier one: it
+    /// returns these; nothing is read or asked.
     ///
     /// # Errors
     ///
-    /// `Runtime` where the clock fails; `Memory`.
+    /// `Memory`.
     pub fn of_known(rt: &'h R, alloc: Global, known: Vec<Ip>) -> Result<Lookup<'h, R>, NamesFault>
-        ensures { IfOk result (λ lookup. lookup.source ≡ sources.Known (Ok known)) }
+        ensures { IfOk result (λ lookup. lookup.source ≡ sources.Known known) }
     {
         let log = LookupLog::new(rt, alloc)?;
-        note_known(rt, &log, &known);
-        Ok(Lookup::with(rt, alloc, Source::Known(Ok(known)), log))
+        note_counts(rt, alloc, &log, &known, Origin::Known);
+        Ok(Lookup::with(rt, alloc, Source::Known(known), log))
     }
 
     fn with(rt: &'h R, alloc: Global, source: Source<'h, R>, log: LookupLog) -> Lookup<'h, R>
@@ -215,14 +215,15 @@ impl<'h, R: Net + RandomSource + Clock> Lookup<'h, R> {
         ensures told { IsSound self.old.source → IfReady result (Tells self.new.source family) }
         ensures own { IfReady result (λ told. IfOk told (λ ips. AreOwnOf self.new.source family ips.items)) }
         ensures sound { IsSound self.old.source → IsSound self.new.source }
-        ensures names { asked_names self.new.source ≡ asked_names self.old.source }
+        ensures origin { origin_of self.new.source ≡ origin_of self.old.source }
         ensures waits { OnPending result (Covers cx.new (lookup_needs self.new family)) }
         ensures other { (other : _) → other ≢ family → Covers cx.old (lookup_needs self.old other)
             → Covers cx.new (lookup_needs self.new other) }
         ensures kept { Keeps cx.old cx.new }
     {
         match &mut self.source {
-            Source::Known(found) => Poll::Ready(answer_of(self.alloc, family, found)),
+            Source::Known(known) => Poll::Ready(part_of(self.alloc, family, known)),
+            Source::Told(found) => Poll::Ready(answer_of(self.alloc, family, found)),
             Source::Servers(resolver) => match resolver.poll_settled(family, cx) {
                 Poll::Pending => Poll::Pending,
                 Poll::Ready(()) => Poll::Ready(resolver.answer(family)),
@@ -231,10 +232,10 @@ impl<'h, R: Net + RandomSource + Clock> Lookup<'h, R> {
                 Poll::Pending => Poll::Pending,
                 Poll::Ready(found) => {
                     if let Ok(ips) = &found {
-                        note_known(self.rt, &self.log, ips);
+                        note_counts(self.rt, self.alloc, &self.log, ips, Origin::System);
                     }
                     let answer = answer_of(self.alloc, family, &found);
-                    self.source = Source::Known(found);
+                    self.source = Source::Told(found);
                     let _: Poll<()> = cx.yield_now();
                     Poll::Ready(answer)
                 }
@@ -255,7 +256,7 @@ impl<'h, R: Net + RandomSource + Clock> Lookup<'h, R> {
     }
 }
 
-// The family's part of what was found.
+// The family's part of what the system's resolver told.
 fn answer_of(
     alloc: Global,
     family: Family,
@@ -265,15 +266,24 @@ fn answer_of(
     ensures told { TellsKnown found.now family result }
 {
     match found {
-        Ok(ips) => Ok(clean_of(alloc, family, ips)?),
+        Ok(ips) => part_of(alloc, family, ips),
         Err(fault) => Err(*fault),
     }
 }
 
-// Notes how many addresses are known of each family.
-fn note_known<R: Clock>(rt: &R, log: &LookupLog, known: &[Ip]) {
+// The family's part of the addresses, each once and at most 256.
+fn part_of(alloc: Global, family: Family, ips: &Vec<Ip>) -> Result<Vec<Ip>, NamesFault>
+    ensures answer { IfOk result (λ part. IsAnswer family part.items) }
+    ensures told { TellsKnown (Ok ips.now) family result }
+{
+    Ok(clean_of(alloc, family, ips)?)
+}
+
+// Notes how many addresses of each family count.
+fn note_counts<R: Clock>(rt: &R, alloc: Global, log: &LookupLog, known: &[Ip], origin: Origin) {
     for family in [Family::V6, Family::V4] {
-        let count = known.iter().filter(|ip| ip.family() == family).count();
-        log.note(rt, family, LookupEventKind::Known(count));
+        if let Ok(ips) = clean_of(alloc, family, known) {
+            log.note(rt, family, LookupEventKind::Known(ips.len(), origin));
+        }
     }
 }

@@ -6,6 +6,7 @@ ghost use Rattle.he_resolver.specs.Told.{IsNamesText, TellsNames};
 
 use crate::fault::{NamesFault, TellFault};
 use crate::gathering::{Gathered, Gathering};
+use crate::known::find_known;
 use crate::log::LookupEvent;
 use crate::lookup::{Lookup, Wanted};
 use crate::system::SystemResolver;
@@ -18,7 +19,7 @@ use std::rt::Files;
 use std::sync::Wait;
 use std::thread::Threads;
 use std::time::Clock;
-use tokio::runtime::LocalRuntime;
+use tokio::runtime::{Handle, LocalRuntime};
 
 /// What is to be said of a look-up beside its answers.
 #[derive(Drop)]
@@ -49,8 +50,8 @@ impl LookupReport {
 /// # Errors
 ///
 /// `Names` where the host has no address of either family (`NoSuchName`, `NoAddress`, `NoAnswer`, `Server`, `System`),
-/// is no host name or none to be asked for (`Host`, `Name`), or could not be asked for (`Files`, `Runtime`, `Memory`):
-/// then nothing was written. After `Write` a first part was.
+/// is no host name or none to be asked for (`Host`, `Name`), or could not be asked for (`Unreadable`, `Files`,
+/// `Runtime`, `Memory`): then nothing was written. After `Write` a first part was.
 pub fn write_names<R, O>(
     rt: &R,
     alloc: Global,
@@ -93,7 +94,7 @@ where
 {
     let mut runtime = LocalRuntime::new(rt)?;
     let handle = runtime.handle().clone()?;
-    let lookup = Lookup::new(rt, alloc, handle.reactor(), handle.time(), wanted)?;
+    let lookup = look_up(rt, alloc, &handle, wanted)?;
     let log = lookup.log()?;
     let gathered = runtime.block_on(rt, Gathering::new(alloc, lookup));
     report.events = log.take();
@@ -101,4 +102,21 @@ where
     report.v6 = v6;
     report.v4 = v4;
     found
+}
+
+// A look-up of the host, of what is known of it or by asking.
+fn look_up<'h, R>(
+    rt: &'h R,
+    alloc: Global,
+    handle: &'h Handle,
+    wanted: Wanted<'_>,
+) -> Result<Lookup<'h, R>, NamesFault>
+where
+    R: Clock + RandomSource + AllocGlobal + Net + Files + Threads,
+    R: SystemResolver + Copy + Send + 'static,
+{
+    match find_known(rt, alloc, wanted.host, wanted.choice)? {
+        Some(known) => Lookup::of_known(rt, alloc, known),
+        None => Lookup::new(rt, alloc, handle, wanted),
+    }
 }

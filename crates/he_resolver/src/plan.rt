@@ -1,32 +1,40 @@
 // What is asked for a host, and of whom.
 
-ghost use Rattle.std.specs.Prelude.{◌≡◌, ◌≢◌, IfOk, IfSome, MatchOption, OnOk, Some, codes, map, slice_get};
+ghost use Rattle.std.specs.Prelude.{◌≡◌, ◌≢◌, IfOk, IfSome, MatchOption, OnOk, Some, codes, map, slice_get, true};
+ghost use Rattle.std.specs.List.{list_any};
 ghost use Rattle.he_dns.specs.declared.fault.NameFault.TheVariants as faults;
 ghost use Rattle.he_names.specs.Conf.{option_in, search_in};
+ghost use Rattle.he_names.specs.Environment.{amended};
 ghost use Rattle.he_names.specs.Literals.{zoned_of};
 ghost use Rattle.he_names.specs.Order.{names_of};
-ghost use Rattle.he_resolver.specs.Plans.{AreServers, AreSpelled, IsAbsent, IsPlan, IsServer, StandFor};
+ghost use Rattle.he_names.specs.Special.{is_of_local};
+ghost use Rattle.he_resolver.specs.Plans.{AreServers, AreSpelled, IsAbsent, IsPlan, IsPlanFor, IsServer, StandFor};
 
 use crate::choice::{Choice, server_at};
 use crate::fault::NamesFault;
+use crate::file_fault::SystemFile;
 use crate::files::{SETTINGS, read_file, read_scope};
 use crate::limits::SERVER_PORT;
+use crate::lookup::Wanted;
 use he_addr::Ip;
 use he_dns::{Name, NameFault};
 use he_names::{
-    ZonedIp, names_to_ask, read_attempts, read_ndots, read_search, read_servers, read_timeout,
+    HostFault, SpecialUse, Target, ZonedIp, amend, names_to_ask, read_attempts, read_ndots,
+    read_no_aaaa, read_search, read_servers, read_timeout, read_use_vc, serves_local,
 };
 use std::alloc::{AllocGlobal, Global};
 use std::net::{Ipv6Addr, SocketAddr, SocketAddrV6};
 use std::rt::Files;
 
-// What a resolver asks: the names in their order, until one has an address; the servers in their order, and how many
-// times a query is sent to each.
+// What a resolver asks: the names in their order, until one has an address; the servers in their order, how many times
+// a query is sent to each, and what the options say of how they are asked.
 #[derive(Drop)]
 pub(crate) struct QueryPlan {
     names: Vec<Name>,
     servers: Vec<SocketAddr>,
     sends: u64,
+    use_vc: bool,
+    no_aaaa: bool,
 }
 
 impl QueryPlan {
@@ -54,20 +62,57 @@ impl QueryPlan {
     {
         self.sends
     }
+
+    // Whether the servers are asked over TCP alone.
+    pub(crate) fn uses_tcp(&self) -> bool
+        ensures { result ≡ self.now.use_vc }
+    {
+        self.use_vc
+    }
+
+    // Whether no addresses of IPv6 are asked for.
+    pub(crate) fn leaves_out_six(&self) -> bool
+        ensures { result ≡ self.now.no_aaaa }
+    {
+        self.no_aaaa
+    }
 }
 
-// What is asked for a host, by the file of resolver settings of this machine.
+// What is asked for a host, by the file of resolver settings of this machine as the environment amends it.
 pub(crate) fn plan_for<R: Files + AllocGlobal>(
     rt: &R,
     alloc: Global,
-    host: &[u8],
-    choice: Choice,
+    target: &Target,
+    wanted: Wanted<'_>,
 ) -> Result<QueryPlan, NamesFault>
-    ensures { IfOk result (λ plan. (settings : _) × IsPlan host.now settings choice plan) }
+    ensures { IfOk result (IsPlanFor wanted.entry.choice wanted.entry.environment target.now) }
 {
-    let settings = read_file(rt, alloc, SETTINGS)?;
-    let plan = plan_of(rt, alloc, host, &settings, choice)?;
-    Ok(plan)
+    let mut settings = read_file(rt, alloc, SETTINGS, SystemFile::Settings)?;
+    amend(alloc, wanted.environment, &mut settings)?;
+    match target {
+        Target::Name(name) => {
+            let plan = plan_of(rt, alloc, name.as_bytes(), &settings, wanted.choice)?;
+            Ok(plan)
+        }
+        Target::Multicast(name) => {
+            check_served(alloc, &settings)?;
+            let plan = plan_of(rt, alloc, name.as_bytes(), &settings, wanted.choice)?;
+            Ok(plan)
+        }
+        _ => Err(NamesFault::Runtime),
+    }
+}
+
+// Refuses a name of multicast DNS where the search list has no domain in `local`.
+fn check_served(alloc: Global, settings: &[u8]) -> Result<(), NamesFault>
+    ensures { OnOk result (list_any is_of_local (search_in settings.now) ≡ true) }
+{
+    let search = read_search(alloc, settings)?;
+    if serves_local(alloc, &search)? {
+        Ok(())
+    } else {
+        Err(NamesFault::Host(HostFault::Special(SpecialUse::Local)))
+    }
 }
 
 // What is asked for a host, by a file of resolver settings.
@@ -76,14 +121,16 @@ fn plan_of<R: Files + AllocGlobal>(
     alloc: Global,
     host: &[u8],
     settings: &[u8],
-    choice: Choice,
+    choice: Choice<'_>,
 ) -> Result<QueryPlan, NamesFault>
-    ensures { IfOk result (IsPlan host.now settings.now choice) }
+    ensures { IfOk result (IsPlan host.now settings.now choice.entry) }
 {
     Ok(QueryPlan {
         names: names_of(alloc, host, settings)?,
         servers: servers_of(rt, alloc, settings, choice)?,
         sends: read_timeout(alloc, settings)?.saturating_mul(read_attempts(alloc, settings)?),
+        use_vc: read_use_vc(alloc, settings)?,
+        no_aaaa: read_no_aaaa(alloc, settings)?,
     })
 }
 
@@ -91,12 +138,16 @@ fn servers_of<R: Files + AllocGlobal>(
     rt: &R,
     alloc: Global,
     settings: &[u8],
-    choice: Choice,
+    choice: Choice<'_>,
 ) -> Result<Vec<SocketAddr>, NamesFault>
-    ensures { IfOk result (λ servers. AreServers choice settings.now servers.items) }
+    ensures { IfOk result (λ servers. AreServers choice.entry settings.now servers.items) }
 {
     match choice {
         Choice::Server(server) => Ok(Vec::from_slice(alloc, &[server])?),
+        Choice::OnLink(server) => match address_of(rt, alloc, server)? {
+            Some(address) => Ok(Vec::from_slice(alloc, &[address])?),
+            None => Err(NamesFault::Interface),
+        },
         Choice::Configured | Choice::System => {
             addresses_of(rt, alloc, &read_servers(alloc, settings)?)
         }

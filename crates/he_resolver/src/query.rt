@@ -1,9 +1,11 @@
 // What one name server is asked: over UDP, and over TCP where its answer is cut off (RFC 7766 section 5).
 
-ghost use Rattle.std.specs.Prelude.{IfSome};
+ghost use Rattle.std.specs.Prelude.{◌≡◌, IfErr, IfOk, IfSome, true};
 ghost use Rattle.futures.specs.Poll.{IfReady, OnPending};
 ghost use Rattle.futures.specs.Task.{Covers, Keeps};
-ghost use Rattle.he_resolver.specs.Heard.{IsHeardOf, RepliesTo, id_of};
+ghost use Rattle.he_resolver.specs.Asking.{IsOfAsking};
+ghost use Rattle.he_resolver.specs.Faults.{is_of_server};
+ghost use Rattle.he_resolver.specs.Heard.{IsHeardOf, IsWay, RepliesTo, id_of};
 ghost use Rattle.he_resolver.specs.Needs.{query_needs, transport_needs};
 
 use crate::datagrams::Datagrams;
@@ -64,12 +66,23 @@ impl Query {
         self.server
     }
 
-    // Asks the server, over UDP.
+    // Whether its first datagram left this machine.
+    pub(crate) fn is_sent(&self) -> bool {
+        match &self.transport {
+            Transport::Datagrams(query) => query.is_sent(),
+            Transport::Stream(_) => true,
+        }
+    }
+
+    // Asks the server, over UDP unless the settings say TCP.
     pub(crate) fn begin<R: Net + RandomSource + Clock>(
         setup: &Setup<'_, R>,
         server: SocketAddr,
         question: Question<'_>,
-    ) -> Result<Query, NamesFault> {
+    ) -> Result<Query, NamesFault>
+        ensures way { IfOk result (λ query. IsWay setup.now.plan.use_vc query.transport) }
+        ensures fault { IfErr result IsOfAsking }
+    {
         let room = Some(OFFERED_ROOM);
         Ok(Query {
             server,
@@ -102,7 +115,7 @@ impl Query {
                 Poll::Pending => match self.timer.poll_elapsed(cx) {
                     Poll::Pending => return Poll::Pending,
                     Poll::Ready(_) => {
-                        if let Err(fault) = self.send_again(setup) {
+                        if let Err(fault) = self.send_again(setup, question) {
                             return Poll::Ready(Err(fault));
                         }
                     }
@@ -113,16 +126,34 @@ impl Query {
     }
 
     // Sends the query again, unless it was sent as often as the settings say.
-    fn send_again<R: Clock>(&mut self, setup: &Setup<'_, R>) -> Result<(), NamesFault> {
+    fn send_again<R: Clock>(
+        &mut self,
+        setup: &Setup<'_, R>,
+        question: Question<'_>,
+    ) -> Result<(), NamesFault>
+        ensures fault { IfErr result IsOfAsking }
+    {
         if self.sends >= setup.plan.sends() {
             return Err(NamesFault::NoAnswer);
         }
         self.sends = self.sends.saturating_add(1);
         self.timer = setup.sleep(AGAIN)?;
-        if let Transport::Datagrams(query) = &self.transport {
-            query.send_again();
+        if self.sends_datagram(setup.alloc, question) {
+            Ok(())
+        } else {
+            Err(failed(self.server, Failure::Unreachable))
         }
-        Ok(())
+    }
+
+    // Sends the datagram again, where it is one. Whether there is a way to the server.
+    fn sends_datagram(&mut self, alloc: Global, question: Question<'_>) -> bool {
+        match &mut self.transport {
+            Transport::Datagrams(query) => {
+                self.room = None;
+                query.send_again(alloc, question)
+            }
+            Transport::Stream(_) => true,
+        }
     }
 
     // What a reply tells; None where it has the server asked in another way.
@@ -140,8 +171,9 @@ impl Query {
             Reply::NoAddress => Some(Err(NamesFault::NoAddress)),
             Reply::NoSuchName => Some(Err(NamesFault::NoSuchName)),
             Reply::Memory => Some(Err(NamesFault::Memory)),
+            Reply::Files => Some(Err(NamesFault::Files)),
             Reply::Truncated => self.ask_over_tcp(setup, question).err().map(Err),
-            Reply::Failure(Failure::FormatError) if self.room.is_some() => {
+            Reply::Failure(failure) if self.room.is_some() && failure.is_of_room() => {
                 self.ask_plainly(setup, question).err().map(Err)
             }
             Reply::Failure(failure) => Some(Err(failed(self.server, failure))),
@@ -153,7 +185,9 @@ impl Query {
         &mut self,
         setup: &Setup<'_, R>,
         question: Question<'_>,
-    ) -> Result<(), NamesFault> {
+    ) -> Result<(), NamesFault>
+        ensures fault { IfErr result IsOfAsking }
+    {
         if let Transport::Stream(_) = &self.transport {
             return Err(failed(self.server, Failure::Malformed));
         }
@@ -162,12 +196,14 @@ impl Query {
         Ok(())
     }
 
-    // Asks a server that could not read the query again without the record of RFC 6891 (section 7).
+    // Asks a server again without the record of RFC 6891 (section 7), which it could not read or doesn't implement.
     fn ask_plainly<R: Net + RandomSource>(
         &mut self,
         setup: &Setup<'_, R>,
         question: Question<'_>,
-    ) -> Result<(), NamesFault> {
+    ) -> Result<(), NamesFault>
+        ensures fault { IfErr result IsOfAsking }
+    {
         self.room = None;
         self.transport = send(setup, self.server, question, None)?;
         Ok(())
@@ -179,13 +215,22 @@ fn send<R: Net + RandomSource>(
     server: SocketAddr,
     question: Question<'_>,
     room: Option<u16>,
-) -> Result<Transport, NamesFault> {
+) -> Result<Transport, NamesFault>
+    ensures way { IfOk result (IsWay setup.now.plan.use_vc) }
+    ensures fault { IfErr result IsOfAsking }
+{
+    if setup.plan.uses_tcp() {
+        let query = StreamQuery::begin(setup, server, question, room)?;
+        return Ok(Transport::Stream(query));
+    }
     match Datagrams::send(setup, server, question, room)? {
         Some(query) => Ok(Transport::Datagrams(query)),
         None => Err(failed(server, Failure::Unreachable)),
     }
 }
 
-fn failed(server: SocketAddr, failure: Failure) -> NamesFault {
+fn failed(server: SocketAddr, failure: Failure) -> NamesFault
+    ensures { is_of_server result ≡ true }
+{
     NamesFault::Server(ServerFault { server, failure })
 }

@@ -26,6 +26,8 @@ pub(crate) enum Reply {
     Truncated,
     Failure(Failure),
     Memory,
+    // No descriptor was left for the connection.
+    Files,
 }
 
 // What a message tells; None where it is no response to the question.
@@ -71,6 +73,7 @@ fn fault_reply(fault: AnswerFault) -> Reply
         AnswerFault::ServerFailure => Reply::Failure(Failure::ServerFailure),
         AnswerFault::Refused => Reply::Failure(Failure::Refused),
         AnswerFault::OtherCode(code) => Reply::Failure(failure_of(code)),
+        AnswerFault::ChainTooLong => Reply::Failure(Failure::Aliases),
         _ => Reply::Failure(Failure::Malformed),
     }
 }

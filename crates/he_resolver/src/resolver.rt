@@ -1,31 +1,33 @@
 // Name servers that are asked for a host.
 
-ghost use Rattle.std.specs.Prelude.{◌≡◌, ◌⊎◌, ◌&&◌, Err, IfOk, Some, ⊤, true, false, is_some, not};
+ghost use Rattle.std.specs.Prelude.{◌≡◌, ◌&&◌, IfOk, ⊤, true, false, is_some, not};
 ghost use Rattle.futures.specs.Poll.{OnPending};
 ghost use Rattle.futures.specs.Task.{Covers, Keeps};
 ghost use Rattle.he_names.specs.Answers.{IsAnswer};
-ghost use Rattle.he_resolver.specs.declared.fault.NamesFault.TheVariants.{NoSuchName};
-ghost use Rattle.he_resolver.specs.Asking.{IsSame};
-ghost use Rattle.he_resolver.specs.Begins.{AsksFor};
-ghost use Rattle.he_resolver.specs.Heard.{AreOwn, IsFaithful, TellsHeard, heard_of, names_of, ttl_of};
-ghost use Rattle.he_resolver.specs.Needs.{IsTold, family_of, is_settled, names_needs, other_of, resolver_needs};
+ghost use Rattle.he_resolver.specs.Begins.{AsksFor, wants};
+ghost use Rattle.he_resolver.specs.Heard.{AreOwn, IsFaithful, IsOwn, TellsHeard, heard_of, names_of, ttl_of};
+ghost use Rattle.he_resolver.specs.Needs.{family_of, is_settled, names_needs, other_of, resolver_needs};
 
 use crate::family_lookup::FamilyLookup;
 use crate::fault::NamesFault;
 use crate::limits::MOST_STEPS;
 use crate::log::LookupEventKind;
+use crate::meant::addresses_of;
 use crate::setup::Setup;
 use futures::task::{Context, Poll};
 use he_addr::{Family, Ip};
-use he_names::clean_of;
+use he_dns::Answer;
+use std::alloc::Global;
 use std::net::Net;
 use std::random::RandomSource;
 use std::time::Clock;
 
 // Asks name servers for the families of a host at once, and tells each family's addresses as they come.
 //
-// The queries leave at the first poll, that for IPv6 first. Where neither family has an address of a name, the next
-// name is asked for: so a family without one is told at once only where no other name can follow.
+// The queries leave at the first poll, that for IPv6 first. That there is no such name is an answer for its own
+// family, as that there is no address is: there are servers that say so of AAAA and have an A (RFC 4074 section 4.2).
+// Where neither family has an address of a name, the next name is asked for: so a family without one is told at once
+// only where no other name can follow.
 #[derive(Drop)]
 pub(crate) struct Resolver<'h, R> {
     setup: Setup<'h, R>,
@@ -45,10 +47,18 @@ impl<'h, R: Net + RandomSource + Clock> Resolver<'h, R> {
         if let Some(family) = only {
             setup.note(other_of(family), LookupEventKind::NotAsked);
         }
+        let leaves_out_six = setup.plan.leaves_out_six();
+        if wants(only, Family::V6) && leaves_out_six {
+            setup.note(Family::V6, LookupEventKind::LeftOut);
+        }
         Resolver {
             place: 0,
-            v6: FamilyLookup::new(setup.alloc, Family::V6, only != Some(Family::V4)),
-            v4: FamilyLookup::new(setup.alloc, Family::V4, only != Some(Family::V6)),
+            v6: FamilyLookup::new(
+                setup.alloc,
+                Family::V6,
+                wants(only, Family::V6) && !leaves_out_six,
+            ),
+            v4: FamilyLookup::new(setup.alloc, Family::V4, wants(only, Family::V4)),
             setup,
         }
     }
@@ -81,11 +91,7 @@ impl<'h, R: Net + RandomSource + Clock> Resolver<'h, R> {
         ensures told { IsFaithful self.now → TellsHeard (names_of self.now) family result }
         ensures own { IfOk result (λ ips. AreOwn (heard_of self.now family) family ips.items) }
     {
-        match self.asking(family).told() {
-            Some(Ok(answer)) => Ok(clean_of(self.setup.alloc, family, &answer.addresses)?),
-            Some(Err(fault)) => Err(*fault),
-            None => Err(NamesFault::NoAnswer),
-        }
+        answer_of(self.setup.alloc, family, self.asking(family).told())
     }
 
     // The TTL of the answer that the addresses of the family are of.
@@ -155,7 +161,6 @@ impl<'h, R: Net + RandomSource + Clock> Resolver<'h, R> {
     {
         let _: Poll<()> = self.v6.poll(&self.setup, self.place, cx);
         let _: Poll<()> = self.v4.poll(&self.setup, self.place, cx);
-        share_absence(&mut self.v6, &mut self.v4);
         are_told(&self.v6, &self.v4)
     }
 
@@ -186,6 +191,16 @@ impl<'h, R: Net + RandomSource + Clock> Resolver<'h, R> {
         let v4 = is_over || can_settle(&self.v4, &self.v6, is_last);
         self.v6.settle(v6);
         self.v4.settle(v4);
+    }
+}
+
+// Whether the family is asked for.
+fn wants(only: Option<Family>, family: Family) -> bool
+    ensures { result ≡ wants only family }
+{
+    match (only, family) {
+        (Some(Family::V6), Family::V4) | (Some(Family::V4), Family::V6) => false,
+        _ => true,
     }
 }
 
@@ -220,19 +235,18 @@ fn can_settle(own: &FamilyLookup, other: &FamilyLookup, is_last: bool) -> bool {
     own.has_found() || (own.lack().is_some() && (is_last || other.has_found()))
 }
 
-// That there is no such name is said of both families (RFC 8020 section 2).
-fn share_absence(v6: &mut FamilyLookup, v4: &mut FamilyLookup)
-    ensures six { (v6.new ≡ v6.old) ⊎ IsTold v6.new }
-    ensures four { (v4.new ≡ v4.old) ⊎ IsTold v4.new }
-    ensures six_same { IsSame v6.old v6.new }
-    ensures four_same { IsSame v4.old v4.new }
-    ensures six_told { (v6.new.told ≡ v6.old.told) ⊎ (v6.new.told ≡ Some (Err NoSuchName)) }
-    ensures four_told { (v4.new.told ≡ v4.old.told) ⊎ (v4.new.told ≡ Some (Err NoSuchName)) }
+// What is told of a family of which this was heard.
+fn answer_of(
+    alloc: Global,
+    family: Family,
+    heard: &Option<Result<Answer, NamesFault>>,
+) -> Result<Vec<Ip>, NamesFault>
+    ensures answer { IfOk result (λ ips. IsAnswer family ips.items) }
+    ensures own { IsOwn heard.now family result }
 {
-    if v6.lack() == Some(NamesFault::NoSuchName) && !v4.is_told() {
-        v4.tell(Err(NamesFault::NoSuchName));
-    }
-    if v4.lack() == Some(NamesFault::NoSuchName) && !v6.is_told() {
-        v6.tell(Err(NamesFault::NoSuchName));
+    match heard {
+        Some(Ok(answer)) => Ok(addresses_of(alloc, family, &answer.addresses)?),
+        Some(Err(fault)) => Err(*fault),
+        None => Err(NamesFault::NoAnswer),
     }
 }

@@ -1,9 +1,10 @@
 // A query over TCP (RFC 1035 section 4.2.2): each message stands behind its length in two bytes.
 
-ghost use Rattle.std.specs.Prelude.{◌≡◌, ◌++◌, IfOk, length};
+ghost use Rattle.std.specs.Prelude.{◌≡◌, ◌++◌, IfErr, IfOk, false, length};
 ghost use Rattle.std.specs.Int.{to_be_bytes, w16};
 ghost use Rattle.futures.specs.Poll.{IfReady, OnPending};
 ghost use Rattle.futures.specs.Task.{Covers, Keeps};
+ghost use Rattle.he_resolver.specs.Faults.{is_of_host};
 ghost use Rattle.he_resolver.specs.Heard.{IsToSend, RepliesTo};
 ghost use Rattle.he_resolver.specs.Needs.{CoversWait, stage_needs};
 
@@ -53,6 +54,7 @@ impl StreamQuery {
     ) -> Result<StreamQuery, NamesFault>
         ensures sends { IfOk result (λ query. IsToSend query.id question.entry.name.now.octets question.entry.family
             query.stage) }
+        ensures fault { IfErr result (λ fault. is_of_host fault ≡ false) }
     {
         let id = random_id(setup.rt)?;
         let message = write_query(setup.alloc, id, question.name, question.family, room)?;
@@ -101,7 +103,8 @@ impl StreamQuery {
 
 // The message behind its length.
 fn framed(alloc: Global, message: &[u8]) -> Result<Vec<u8>, NamesFault>
-    ensures { IfOk result (λ request. request.items ≡ to_be_bytes w16 (length message.now) ++ message.now) }
+    ensures framed { IfOk result (λ request. request.items ≡ to_be_bytes w16 (length message.now) ++ message.now) }
+    ensures fault { IfErr result (λ fault. is_of_host fault ≡ false) }
 {
     let Ok(len) = u16::try_from(message.len()) else {
         return Err(NamesFault::Runtime);
@@ -137,8 +140,9 @@ fn length_of(bytes: &[u8]) -> usize {
 fn reply_of(error: io::Error) -> Reply
     ensures { (id : _) (octets : _) (family : _) → RepliesTo id octets family result }
 {
-    match error.kind() {
-        io::ErrorKind::OutOfMemory => Reply::Memory,
+    match NamesFault::from(error) {
+        NamesFault::Memory => Reply::Memory,
+        NamesFault::Files => Reply::Files,
         _ => Reply::Failure(Failure::Unreachable),
     }
 }

@@ -45,6 +45,6 @@ Asks octets asks.More = ⊤
 Asks octets (asks.Greeting len) = ⊤
 Asks octets asks.NoMethod = ⊤
 Asks octets (asks.Tunnel protocol asked len) = AsksTunnel octets protocol asked len
-Asks octets (asks.Page path host) = ⊤
+Asks octets (asks.Page extent path host) = ⊤
 Asks octets (asks.Refused protocol ended) = IsFailure ended
 Asks octets asks.Unknown = ⊤

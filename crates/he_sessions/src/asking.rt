@@ -23,6 +23,15 @@ pub enum Protocol {
     Http,
 }
 
+/// How much of a page is asked for (RFC 9110 sections 9.3.1 and 9.3.2).
+#[derive(Clone, Copy, Debug, PartialEq, Eq)]
+pub enum Extent {
+    /// All of it, by GET.
+    Whole,
+    /// Its head, by HEAD.
+    Head,
+}
+
 /// What octets ask for.
 #[derive(Drop)]
 pub enum Ask {
@@ -34,8 +43,8 @@ pub enum Ask {
     NoMethod,
     /// A tunnel, by so many octets.
     Tunnel(Protocol, Asked, usize),
-    /// A page: where its path and the value of the field Host stand.
-    Page(Span, Option<Span>),
+    /// A page, or its head alone: where its path and the value of the field Host stand.
+    Page(Extent, Span, Option<Span>),
     /// What is refused, with how it ends.
     Refused(Protocol, Ended),
     /// No protocol of this proxy.
@@ -103,7 +112,9 @@ fn read_http(alloc: Global, octets: &[u8]) -> Result<Ask, AllocError>
 {
     match read_head(octets) {
         ReadHead::Whole(Head::Tunnel(target), len) => read_connect(alloc, octets, target, len),
-        ReadHead::Whole(Head::Get(path, host), _) => Ok(Ask::Page(path, host)),
+        ReadHead::Whole(Head::Get(path, host), _) => Ok(Ask::Page(Extent::Whole, path, host)),
+        ReadHead::Whole(Head::Head(path, host), _) => Ok(Ask::Page(Extent::Head, path, host)),
+        ReadHead::Whole(Head::TwoHosts, _) => Ok(Ask::Refused(Protocol::Http, Ended::Kind)),
         ReadHead::Whole(Head::Other, _) => Ok(Ask::Refused(Protocol::Http, Ended::Command)),
         ReadHead::Partial => Ok(Ask::More),
         ReadHead::Refused => Ok(Ask::Refused(Protocol::Http, Ended::Kind)),

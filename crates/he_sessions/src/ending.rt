@@ -19,6 +19,8 @@ pub enum Ending {
     Idle,
     /// The client went away before its tunnel was open.
     Left,
+    /// It had not asked for anything yet, and made room for another client.
+    Displaced,
     /// The request was not whole, or its answer not taken, in the time for it.
     Late,
     /// The client was refused, or its race was lost, and it was told so.
@@ -35,15 +37,16 @@ impl Display for Ending {
     fn fmt<W: Write>(&self, f: &mut Formatter<W>) -> fmt::Result {
         f.write_str(match self {
             Ending::Closed => "closed",
-            Ending::ClientBroke => "the client's connection broke off",
-            Ending::ServerBroke => "the server's connection broke off",
+            Ending::ClientBroke => "client-broke",
+            Ending::ServerBroke => "server-broke",
             Ending::Idle => "idle",
-            Ending::Left => "the client left",
-            Ending::Late => "the request came too late",
+            Ending::Left => "client-left",
+            Ending::Displaced => "displaced",
+            Ending::Late => "too-late",
             Ending::Refused => "refused",
             Ending::Page => "page",
-            Ending::Unknown => "unknown protocol",
-            Ending::Failed => "out of memory",
+            Ending::Unknown => "unknown-protocol",
+            Ending::Failed => "no-memory",
         })
     }
 }

@@ -1,9 +1,11 @@
 //! Sessions of a proxy: what one client asks for is read, raced for, answered and relayed, as a future.
 //!
 //! A [`Session`] is the whole of one client's connection. It reads what the client asks for: a tunnel by SOCKS 5
-//! (RFC 1928) or by CONNECT (RFC 9110 section 9.3.6), or a page by GET. It has a [`Racer`] race for the connection,
-//! keeps what the client sends meanwhile, at most 16 KiB, and ends the race where the client leaves. It answers in the
-//! client's protocol, and relays both ways until both have ended. A client that is refused is told why before the
+//! (RFC 1928) or by CONNECT (RFC 9110 section 9.3.6), or a page by GET or HEAD; until it has asked, its client may
+//! have to make room for another one ([`Place`]). It has a [`Racer`] race for the connection, keeps what the client
+//! sends meanwhile, at most 16 KiB, and ends the race where the client leaves. It answers in the client's protocol,
+//! and relays both ways until both have ended. Where one connection breaks off, the other one is reset, once what came
+//! before was passed on; that is waited for at most ten seconds. A client that is refused is told why before the
 //! connection is closed. SOCKS 4 and other methods of HTTP are refused; a client whose first octet begins neither
 //! protocol is closed. What asks has at most 8 KiB. Each session has one timer: a request that is not whole within
 //! [`Limits::request`] is closed, and so is a tunnel in which no byte moves for [`Limits::idle`]. A race has the
@@ -34,5 +36,5 @@ pub mod session;
 pub mod states;
 
 pub use ending::{Ending, SessionEnd};
-pub use racer::{Racer, Winner, Won};
+pub use racer::{PageAsked, Place, Racer, Winner, Won};
 pub use session::{Limits, Session};

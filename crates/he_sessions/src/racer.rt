@@ -1,13 +1,17 @@
 //! Races that connections are asked of.
-ghost use Rattle.std.specs.Prelude.{ℕ, List, Result, IfOk};
+ghost use Rattle.std.specs.Prelude.{ℕ, List, Result, IfOk, IsTrue};
+ghost use Rattle.std.specs.declared.net.socket_addr.SocketAddr.{SocketAddr};
+ghost use Rattle.futures.specs.Task.{Keeps};
 ghost use Rattle.he_front.specs.declared.replies.Ended.{Ended};
 ghost use Rattle.he_sessions.specs.declared.racer.Won.{Won};
 
 use crate::ending::SessionEnd;
 use futures::Future;
+use futures::task::{Context, Poll};
 use he_addr::Ip;
 use he_front::Ended;
 use std::alloc::AllocError;
+use std::io;
 use std::net::SocketAddr;
 use tokio::net::TcpStream;
 
@@ -31,13 +35,50 @@ pub struct Won {
     pub winner: Winner,
 }
 
+/// A page that a client asks for.
+#[derive(Clone, Copy, Debug, PartialEq, Eq)]
+pub struct PageAsked<'a> {
+    /// The client's address.
+    pub client: SocketAddr,
+    /// The address at which it came.
+    pub at: SocketAddr,
+    /// The target of the request.
+    pub path: &'a [u8],
+    /// The value of its field Host.
+    pub host: Option<&'a [u8]>,
+}
+
+/// A client's place among those that have not asked for anything yet. It is given back where it is dropped.
+pub trait Place: Drop {
+    /// Ready once the client is to go, since another one takes its place.
+    fn poll_lost(&mut self, cx: &mut Context<'_>) -> Poll<()>
+        ensures kept { Keeps cx.old cx.new };
+}
+
 /// What races for connections, shows pages and logs sessions.
 pub trait Racer {
     /// A race that is under way.
     type Race: Future<Output = Result<Won, Ended>>;
 
-    // May be the end of a race for the host of these octets at this port.
-    ghost answers: { List ℕ → ℕ → Result Won Ended → Type 0 };
+    /// A place of a client that has not asked for anything yet.
+    type Place: Place;
+
+    // The client of this address is served.
+    ghost serves: { Self → SocketAddr → Type 0 };
+
+    // May be the end of a race that the client of this address asks for, for the host of these octets at this port.
+    ghost answers: { Self → SocketAddr → List ℕ → ℕ → Result Won Ended → Type 0 };
+
+    /// Whether the client of this address is served.
+    fn is_served(&self, client: SocketAddr) -> bool
+        ensures { IsTrue result → Self.serves self.now client };
+
+    /// The place of the client of this address, which has just connected.
+    ///
+    /// # Errors
+    ///
+    /// Those of the clock, and `OutOfMemory`.
+    fn place(&self, client: SocketAddr) -> io::Result<Self::Place>;
 
     /// Begins to race for a connection to the host, the text of an address or a name, at the port.
     ///
@@ -48,20 +89,18 @@ pub trait Racer {
     fn race(&self, client: SocketAddr, host: &str, port: u16) -> Result<Self::Race, Ended>
         ensures can { IfOk result Self.Race.can_poll }
         ensures answers { IfOk result (λ race. (end : Result Won Ended)
-            → Self.Race.gives race end → Self.answers host.now port end) };
+            → Self.Race.gives race end → Self.answers self.now client host.now port end) };
 
-    /// Writes the whole HTTP response to a GET of this path, whose field Host has this value.
+    /// Writes the whole HTTP response to a GET of a page.
     ///
     /// # Errors
     ///
     /// `AllocError` where an allocation was refused.
-    fn page(
-        &self,
-        client: SocketAddr,
-        path: &[u8],
-        host: Option<&[u8]>,
-        out: &mut Vec<u8>,
-    ) -> Result<(), AllocError>;
+    fn page(&self, asked: &PageAsked<'_>, out: &mut Vec<u8>) -> Result<(), AllocError>;
+
+    /// Hears that the client of this address has left while its race runs. The race is polled once more after that,
+    /// and then dropped.
+    fn left(&self, client: SocketAddr);
 
     /// Takes note of how a session ended, once for each that does.
     fn ended(&self, end: &SessionEnd<'_>);

@@ -4,7 +4,8 @@ use crate::asking::Protocol;
 use crate::ending::Ending;
 use crate::racer::Won;
 use bytes::BytesMut;
-use he_relay::Tunnel;
+use he_relay::{Cut, Tunnel};
+use std::time::Instant;
 use tokio::net::TcpStream;
 
 /// How far a session is.
@@ -20,6 +21,8 @@ pub enum State<F> {
     Closing(Closing),
     /// The tunnel is open.
     Relaying(Relaying),
+    /// One of its two connections broke off, and the other one is to be reset.
+    Cutting(Cutting),
     /// It has ended.
     Over,
 }
@@ -44,6 +47,8 @@ pub struct Racing<F> {
     pub client: TcpStream,
     /// What it sent after its request.
     pub early: Vec<u8>,
+    /// Whether it sends no more.
+    pub has_ended: bool,
     /// Which protocol it is answered in.
     pub protocol: Protocol,
     /// The race.
@@ -79,6 +84,19 @@ pub struct Closing {
 pub struct Relaying {
     /// The tunnel.
     pub tunnel: Tunnel<TcpStream, TcpStream>,
-    /// How many bytes had moved both ways when it was last looked whether it is idle.
+    /// How many bytes had moved both ways when it was last looked.
     pub seen: u64,
+    /// Until when it may be idle, once a byte moved.
+    pub until: Option<Instant>,
+}
+
+/// The tunnel broke off.
+#[derive(Drop)]
+pub struct Cutting {
+    /// The connection that did not break off.
+    pub cut: Cut,
+    /// How the session ends.
+    pub how: Ending,
+    /// How often it is looked at most whether all is sent.
+    pub looks: u32,
 }

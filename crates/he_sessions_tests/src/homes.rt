@@ -7,7 +7,7 @@ use futures::future::join3;
 use futures::task::{Context, Poll};
 use he_addr::Ip;
 use he_front::Ended;
-use he_sessions::{Ending, Limits, Racer, Session, SessionEnd, Winner, Won};
+use he_sessions::{Ending, Limits, PageAsked, Place, Racer, Session, SessionEnd, Winner, Won};
 use std::alloc::{AllocError, AllocGlobal, Global};
 use std::cell::Cell;
 use std::io;
@@ -101,12 +101,34 @@ pub struct OneTarget {
     pub told: Cell<Option<Told>>,
 }
 
+/// A place that is never lost.
+#[derive(Drop)]
+pub struct Kept;
+
+impl Place for Kept {
+    fn poll_lost(&mut self, _cx: &mut Context<'_>) -> Poll<()> {
+        Poll::Pending
+    }
+}
+
 impl Racer for OneTarget {
     type Race = Race;
 
+    type Place = Kept;
+
     ghost use Rattle.std.specs.Prelude.{⊤};
 
-    ghost answers = { λ _ _ _. ⊤ };
+    ghost serves = { λ _ _. ⊤ };
+
+    ghost answers = { λ _ _ _ _ _. ⊤ };
+
+    fn is_served(&self, _client: SocketAddr) -> bool {
+        true
+    }
+
+    fn place(&self, _client: SocketAddr) -> io::Result<Kept> {
+        Ok(Kept)
+    }
 
     fn race(&self, _client: SocketAddr, host: &str, port: u16) -> Result<Race, Ended> {
         if host != self.host || port != self.port {
@@ -118,17 +140,13 @@ impl Racer for OneTarget {
         }
     }
 
-    fn page(
-        &self,
-        _client: SocketAddr,
-        path: &[u8],
-        host: Option<&[u8]>,
-        out: &mut Vec<u8>,
-    ) -> Result<(), AllocError> {
-        out.extend_from_slice(path)?;
+    fn page(&self, asked: &PageAsked<'_>, out: &mut Vec<u8>) -> Result<(), AllocError> {
+        out.extend_from_slice(asked.path)?;
         out.extend_from_slice(b" at ")?;
-        out.extend_from_slice(host.unwrap_or(b"none"))
+        out.extend_from_slice(asked.host.unwrap_or(b"none"))
     }
+
+    fn left(&self, _client: SocketAddr) {}
 
     fn ended(&self, end: &SessionEnd<'_>) {
         self.told.set(Some(Told {

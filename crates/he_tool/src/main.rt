@@ -8,11 +8,11 @@ mod build;
 
 use build::VERSION;
 use he_command::{
-    Session, System, columns_of, read_words, report, report_not_text, run_line, takes_text,
-    tell_waiting,
+    Session, System, columns_of, read_words, report, report_not_text, report_path, run_line,
+    takes_text, tell_short_timeout, tell_waiting,
 };
 use he_inputs::StreamFault;
-use he_relay::Waiting;
+use he_relay::{NULL_DEVICE, Waiting, open_standard};
 use he_stream::{FromReader, ToWriter};
 use std::io::IsTerminal;
 use std::process::ExitCode;
@@ -28,6 +28,9 @@ fn run_program<R>(rt: &HostRuntime, system: &R) -> u8
 where
     R: System,
 {
+    if let Err(error) = open_standard(rt) {
+        return report_path(rt.alloc(), NULL_DEVICE, error, &mut rt.stderr());
+    }
     match words_of(rt) {
         Ok(words) => run_texts(rt, system, words.as_slice()),
         Err(error) if error.kind() == io::ErrorKind::OutOfMemory => report(
@@ -72,6 +75,7 @@ where
         unread: 0,
     };
     let line = read_words(session.alloc, words, VERSION, columns_of(system));
+    tell_short_timeout(words, &line, &mut session.faults);
     if takes_text(&line) && rt.stdin().is_terminal() {
         tell_waiting(&mut session.faults);
     }

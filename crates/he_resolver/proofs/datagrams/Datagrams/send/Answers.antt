@@ -1,4 +1,4 @@
 use Rattle.he_resolver.proofs.datagrams.Datagrams.send.Goals as goal
 
-pub returns : goal.returns
-returns g c = record { sent = (c.args.room, c.in_ok-query.ensures) }
+pub returns-clause-sent : goal.returns-clause-sent
+returns-clause-sent g c = (c.args.room, c.in_ok-query.ensures)

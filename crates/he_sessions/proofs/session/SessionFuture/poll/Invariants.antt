@@ -4,4 +4,6 @@ use Rattle.he_sessions.proofs.session.SessionFuture.poll.Given as goal
 
 abbrev pub invariant-loop : goal.invariant-loop
 invariant-loop g l =
-    MayPoll g.Q.Race.Future.can_poll g.Q.Race.Future.gives g.Q.Racer.answers l.self.asked l.self.state × Keeps l.fn.cx l.cx
+    g.Q.Racer.serves l.self.asker.racer.now l.self.asker.address
+    × (MayPoll g.Q.Race.Future.can_poll g.Q.Race.Future.gives g.Q.Racer.answers l.self.asker l.self.asked l.self.state
+    × Keeps l.fn.cx l.cx)

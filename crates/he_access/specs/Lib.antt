@@ -1,0 +1,4 @@
+pub mod Registries
+pub mod Table
+pub mod Reaching
+pub mod Tests

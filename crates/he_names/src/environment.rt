@@ -1,0 +1,93 @@
+//! The settings of a resolver as the environment amends them.
+
+ghost use Rattle.std.specs.Prelude.{◌≡◌, IfOk, OnOk};
+ghost use Rattle.he_names.specs.Environment.{amended, domains_or_root, first_line, with_line, with_local_domain, with_res_options};
+
+use crate::fields::{LINE_END, before, fields};
+use he_addr::Memory;
+use std::alloc::Allocator;
+
+const ROOT: &[u8] = b".";
+
+/// What the environment says of a resolver (resolver(5)): the values of its variables, where they are set.
+#[derive(Clone, Copy, Debug, PartialEq, Eq)]
+pub struct Environment<'a> {
+    /// LOCALDOMAIN: domains that take the place of the search list.
+    pub local_domain: Option<&'a str>,
+    /// RES_OPTIONS: options that count after those of the file.
+    pub res_options: Option<&'a str>,
+}
+
+/// Appends to a file of resolver settings the lines by which the environment amends it.
+///
+/// # Errors
+///
+/// [`Memory`] where an allocation was refused.
+pub fn amend<A: Allocator + Copy>(
+    alloc: A,
+    environment: Environment<'_>,
+    settings: &mut Vec<u8, A>,
+) -> Result<(), Memory>
+    ensures { OnOk result (settings.new.items ≡ amended environment.entry settings.old.items) }
+{
+    if let Some(domains) = environment.local_domain {
+        add_local_domain(alloc, domains.as_bytes(), settings)?;
+    }
+    if let Some(options) = environment.res_options {
+        add_res_options(options.as_bytes(), settings)?;
+    }
+    Ok(())
+}
+
+// Its domains take the place of the file's search list, and the list is empty where it names none (resolver(5)).
+fn add_local_domain<A: Allocator + Copy>(
+    alloc: A,
+    domains: &[u8],
+    settings: &mut Vec<u8, A>,
+) -> Result<(), Memory>
+    ensures { OnOk result (settings.new.items ≡ with_local_domain domains.now settings.old.items) }
+{
+    let domains = domains_or_root(alloc, first_line(domains))?;
+    add_line(b"search ", domains, settings)
+}
+
+// Its options count after those of the file (resolver(5)).
+fn add_res_options<A: Allocator + Copy>(
+    options: &[u8],
+    settings: &mut Vec<u8, A>,
+) -> Result<(), Memory>
+    ensures { OnOk result (settings.new.items ≡ with_res_options options.now settings.old.items) }
+{
+    add_line(b"options ", first_line(options), settings)
+}
+
+fn first_line(text: &[u8]) -> &[u8]
+    ensures { result.now ≡ first_line text.now }
+{
+    before(text, LINE_END)
+}
+
+// The domains, or the root where there are none.
+fn domains_or_root<'t, A: Allocator + Copy>(alloc: A, domains: &'t [u8]) -> Result<&'t [u8], Memory>
+    ensures { IfOk result (λ given. given.now ≡ domains_or_root domains.now) }
+{
+    if fields(alloc, domains)?.is_empty() {
+        Ok(ROOT)
+    } else {
+        Ok(domains)
+    }
+}
+
+// Appends a line to a text.
+fn add_line<A: Allocator + Copy>(
+    keyword: &[u8],
+    values: &[u8],
+    text: &mut Vec<u8, A>,
+) -> Result<(), Memory>
+    ensures { OnOk result (text.new.items ≡ with_line keyword.now values.now text.old.items) }
+{
+    text.push(LINE_END)?;
+    text.extend_from_slice(keyword)?;
+    text.extend_from_slice(values)?;
+    Ok(())
+}
