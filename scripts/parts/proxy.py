@@ -507,13 +507,16 @@ def check_few_descriptors():
 def check_no_descriptor_for_names():
     """Where no descriptor is left to look a name up with, the reply is that the proxy failed, and not that there is no
     such host."""
-    codes = []
-    with Proxy(limits=support.limit("NOFILE", 24)) as proxy, contextlib.ExitStack() as held:
-        with contextlib.suppress(TimeoutError):
-            while len(codes) < 24:
-                codes.append(proxy.ask(f"no.such.name{len(codes)}.test", 80, seconds=1.0)[0])
-                held.enter_context(proxy.connect())
-        must(codes[0] == 4 and 1 in codes and "fault=no-descriptor" in proxy.said(), codes, proxy.said()[-300:])
+    codes, held = [], []
+    with Proxy(limits=support.limit("NOFILE", 24)) as proxy, contextlib.ExitStack() as clients:
+        while 1 not in codes and len(codes) < 40:
+            try:
+                codes.append(proxy.ask(f"no.such.name{len(codes)}.test", 80, seconds=SOON)[0])
+                held.append(clients.enter_context(proxy.connect()))
+            except TimeoutError:  # none is left for the client itself
+                held.pop().close()
+        is_said = comes(lambda: "fault=no-descriptor" in proxy.said(), SOON)
+        must(codes[0] == 4 and codes[-1] == 1 and is_said, codes, proxy.said()[-600:])
 
 
 @timed

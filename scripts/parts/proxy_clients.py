@@ -20,12 +20,12 @@ from parts.proxy import ALL, HE, SOON, Proxy, all_of, destination, echo, get, he
 from support import (FOUR, TIMEOUT, WIDE_FOUR, comes, greet, must, serving, set_to_reset, timed, unused_port)
 
 SETUP = support.NETWORK
-AT_ONCE = 3.0  # seconds within which a client is answered beside others that say nothing, on a busy machine too
+AT_ONCE = 1.0  # seconds within which a client is answered beside others that say nothing
 SILENT = 1_000  # clients that say nothing
 OTHERS = ("127.0.0.2", "127.0.0.3")  # addresses of this machine from which clients come
 QUARTER = 100  # clients of one address that have asked for nothing
 MOST_HEAD = 8_192  # bytes of a request's head
-MOST_IDLE = 30  # kB of memory of a tunnel on which nothing moves
+MOST_IDLE = 20  # kB of memory of a tunnel on which nothing moves
 SIOCOUTQ = 0x5411
 KEEPALIVE = 2  # the timer of a socket in /proc/net/tcp
 
