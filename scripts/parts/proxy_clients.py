@@ -274,6 +274,13 @@ def check_long_head():
     must(status == 400, status, head)
 
 
+def is_reached(address, port):
+    """Whether something listens there."""
+    with contextlib.suppress(ConnectionRefusedError), socket.create_connection((address, port), SOON):
+        return True
+    return False
+
+
 @timed
 def check_where_it_came():
     """Where the proxy listens at all addresses, the configuration for browsers and the advice name the one at which
@@ -281,6 +288,7 @@ def check_where_it_came():
     for wide, at in (("0.0.0.0", FOUR), ("0.0.0.0", WIDE_FOUR), ("[::]", FOUR), ("[::]", "::1")):
         wide_port = unused_port()
         with Proxy("--listen", f"{wide}:{wide_port}", "--allow", f"{WIDE_FOUR}/32"):
+            must(comes(lambda: is_reached(at, wide_port), SOON), "does not listen at all addresses")
             name = f"[{at}]:{wide_port}" if ":" in at else f"{at}:{wide_port}"
             for path, wanted in (("/proxy.pac", f"SOCKS5 {name};"), ("/no", f"socks5h://{name},")):
                 with socket.create_connection((at, wide_port), SOON, source_address=(at, 0)) as client:
