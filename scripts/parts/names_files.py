@@ -62,7 +62,7 @@ SERVERS = {
     (0, 0): ["good", "down good", "lame good", "servfail good", "refused good", "bare good", "notimp good",
              "formerr good", "garbage good", "servfail refused good", "old", "older", "cut-off", "cut-off-strange",
              "strange"],
-    (ALONE, 270 - NOISE): ["dead good"],
+    (ALONE, 320 - NOISE): ["dead good"],
     (ALONE, ALONE): ["slow good", "servfail dead good", "other-id good"],
     (2 * ALONE, 2 * ALONE): ["dead dead good"],
     (1_000 * SLOW, 1_000 * SLOW): ["slow dead", "slow dead dead"],
