@@ -5,4 +5,5 @@ pub mod KeyOf
 pub mod Lawfulness
 pub mod Lists
 pub mod Sums
+pub mod Trying
 pub mod Witnesses

@@ -3,3 +3,4 @@ pub mod Lawful
 pub mod Notes
 pub mod Passes
 pub mod Plays
+pub mod Workers

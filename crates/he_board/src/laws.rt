@@ -3,7 +3,8 @@ ghost use Rattle.std.specs.Prelude.{◌≡◌, ◌<◌, ◌≤◌, ◌⊎◌, �
 ghost use Rattle.he_board.specs.Balance.{Balanced};
 ghost use Rattle.he_board.specs.Lawful.{Lawful};
 ghost use Rattle.he_board.specs.Notes.{key_of, least_of, winner_of};
-ghost use Rattle.he_board.specs.declared.limits.TheConstants.{JOBS, LAST_TICK, NO_OFFER, PARTS, PLACES, RACES};
+ghost use Rattle.he_board.specs.Workers.{least_workers, most_workers};
+ghost use Rattle.he_board.specs.declared.limits.TheConstants.{JOBS, LAST_TICK, LEAST_WORKERS, MOST_WORKERS, NO_OFFER, PARTS, PLACES, RACES};
 ghost use Rattle.he_board.specs.declared.view.View.{View};
 
 /// The rule of a board's table, by sums and minima, holds exactly of the lawful states. The table keeps its rule from
@@ -44,4 +45,10 @@ pub fn limits_as_numbers()
     ensures parts { PARTS ≡ 1048576 }
     ensures last_tick { LAST_TICK ≡ 7200000 }
     ensures no_offer { NO_OFFER ≡ 18446744073709551615 }
+{}
+
+/// The limits of workers are the numbers that the definitions name.
+pub fn limits_of_workers()
+    ensures least { LEAST_WORKERS ≡ least_workers }
+    ensures most { MOST_WORKERS ≡ most_workers }
 {}

@@ -62,7 +62,8 @@ pub use fault::BoardFault;
 pub use keys::{key, tick_and_place};
 pub use laws::{
     board_is_lawful, keys_are_ordered, keys_read_back, least_is_least, limits_as_numbers,
+    limits_of_workers,
 };
-pub use limits::{JOBS, LAST_TICK, NO_OFFER, PARTS, PLACES, RACES};
+pub use limits::{JOBS, LAST_TICK, LEAST_WORKERS, MOST_WORKERS, NO_OFFER, PARTS, PLACES, RACES};
 pub use pass::Pass;
 pub use view::{Layout, View};

@@ -12,6 +12,12 @@ pub const PARTS: u32 = 1_048_576;
 /// The places of a race, from 0 on. Also the factor of the tick in a key.
 pub const PLACES: usize = 512;
 
+/// The fewest workers who share a board.
+pub const LEAST_WORKERS: u16 = 1;
+
+/// The most workers who share a board.
+pub const MOST_WORKERS: u16 = 64;
+
 /// The last tick at which an attempt can be offered.
 pub const LAST_TICK: u64 = 7_200_000;
 

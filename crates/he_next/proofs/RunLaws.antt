@@ -28,9 +28,9 @@ use Rattle.he_plan.proofs.Growing.{pause-below}
 use Rattle.he_plan.proofs.InTurn.{in_turn-follow, in_turn-more, in_turn-none}
 use Rattle.he_plan.proofs.Lawful.{attempts-prefix}
 use Rattle.he_plan.proofs.Stopping.{none_before}
-use Rattle.he_race.specs.Heard.{cleaned, ips_of}
-use Rattle.he_race.proofs.Cleaned.{cleaned-own}
-use Rattle.he_race.proofs.Learnt.{heard-attempts}
+use Rattle.he_turns.specs.Heard.{cleaned, ips_of}
+use Rattle.he_turns.proofs.Cleaned.{cleaned-own}
+use Rattle.he_turns.proofs.Learnt.{heard-attempts}
 use Rattle.he_next.specs.Runs.{AreBelow, IsOver, IsWritten, Runs, Sleeps, State, attempt_of, with_started}
 use Rattle.he_next.proofs.StepLaws.{lt_past, not_late}
 use Rattle.he_next.specs.Steps.{action_of, before_tick, due_action, end_action, end_tick}

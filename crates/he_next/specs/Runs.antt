@@ -9,7 +9,7 @@ use Rattle.he_plan.specs.Transcript.{IsTranscript, Report}
 use Rattle.he_plan.specs.RaceState.{EndsOne}
 use Rattle.he_plan.specs.declared.attempts.Attempt.{Attempt}
 use Rattle.he_plan.specs.declared.transcript.Line.{Line}
-use Rattle.he_race.specs.Heard.{AnswerLists, with_told}
+use Rattle.he_turns.specs.Heard.{AnswerLists, with_told}
 use Rattle.he_next.specs.Steps.{action_of, end_tick, late_start}
 use Rattle.he_next.specs.declared.step.Action.{Action}
 use Rattle.he_next.specs.declared.step.Action.TheVariants.{Start, Wait, Won, Exhausted, Limit}

@@ -12,6 +12,8 @@ use Rattle.he_timeline.specs.declared.outcome.Outcome.{Outcome}
 use Rattle.he_timeline.specs.declared.outcome.Outcome.TheVariants as outcomes
 use Rattle.he_plan.specs.Alternating.{interlace}
 use Rattle.he_plan.specs.Attempts.{AreNextInTurn, HasWaited, HaveFailed, IsAnswered, IsNext, IsPositive, MayBegin, MayFollow, MayStart, has_failed, has_failed_by, is_untried, last_of, order, order_at, received, received_of}
+use Rattle.he_plan.specs.Planning.{is_received}
+use Rattle.he_plan.specs.RaceState.{IsReceivedAlike}
 use Rattle.he_timeline.specs.Seen.{seen}
 use Rattle.he_timeline.specs.Building.{with_answer}
 use Rattle.he_timeline.specs.Race.{outcome_of, History, Race, Reply, addresses_of, known_of as told_in, reply_of, usable_addresses}
@@ -129,14 +131,43 @@ module _ (race : Race) (r : IsRace race) (reply : Reply) where
   same_settings families.V6 = refl
   same_settings families.V4 = refl
 
-  pub order-before : (family : Family) → reply_of race family ≡ None → (t : ℕ) → t < reply.tick → order_at race t ≡ order_at (with_answer race family reply) t
-  order-before family none t below =
+  ordered_before : (family : Family) → reply_of race family ≡ None → (t : ℕ) → t < reply.tick → order race (received race t) ≡ order (with_answer race family reply) (received (with_answer race family reply) t)
+  ordered_before family none t below =
       let new : Race = with_answer race family reply in
       let same : received race t ≡ received new t = received-before family none t below in
       let stands : Each (Stands (usable_addresses new)) (received race t) = subst (Each (Stands (usable_addresses new))) (sym same) (received_stands new t) in
-      let ordered : order race (received race t) ≡ order new (received race t) = order_both race new (same_policy family) (same_host family) (same_history family) (received race t) (received_stands race t) stands in
-      ap (λ (ips : List Ip). interlace ips race.settings.count) (ordered ∙ ap (order new) same)
+      order_both race new (same_policy family) (same_host family) (same_history family) (received race t) (received_stands race t) stands ∙ ap (order new) same
+
+  pub order-before : (family : Family) → reply_of race family ≡ None → (t : ℕ) → t < reply.tick → order_at race t ≡ order_at (with_answer race family reply) t
+  order-before family none t below =
+      let new : Race = with_answer race family reply in
+      ap (λ (ips : List Ip). interlace ips race.settings.count) (ordered_before family none t below)
       ∙ ap (λ (count : ℕ). interlace (order new (received new t)) count) (sym (ap (λ settings. settings.count) (same_settings family)))
+
+  flag_again : (family : Family) (t : ℕ) (o : Option Reply) → is_received (with_answer race family reply) t o ≡ is_received race t o
+  flag_again families.V6 t None = refl
+  flag_again families.V6 t (Some other) = refl
+  flag_again families.V4 t None = refl
+  flag_again families.V4 t (Some other) = refl
+
+  flag_new : (t : ℕ) → t < reply.tick → (o : Option Reply) → o ≡ None → is_received race t (Some reply) ≡ is_received race t o
+  flag_new t below o none =
+      not_le (seen race reply.tick) t (omega (arith, below, (IsSeen-seen race r reply.tick).holds.0)) ∙ sym (ap (is_received race t) none)
+
+  -- before its tick the answer isn't received, and the others are in the order in which they were
+  pub received-alike : (family : Family) → reply_of race family ≡ None → (t : ℕ) → t < reply.tick → IsReceivedAlike race (with_answer race family reply) t
+  received-alike families.V6 none t below = record {
+    six = flag_again families.V6 t (Some reply) ∙ flag_new t below race.aaaa none;
+    four = flag_again families.V6 t race.a;
+    addresses = sym (received-before families.V6 none t below);
+    ordered = sym (ordered_before families.V6 none t below);
+  }
+  received-alike families.V4 none t below = record {
+    six = flag_again families.V4 t race.aaaa;
+    four = flag_again families.V4 t (Some reply) ∙ flag_new t below race.a none;
+    addresses = sym (received-before families.V4 none t below);
+    ordered = sym (ordered_before families.V4 none t below);
+  }
 
   failed_again : (family : Family) (t start : ℕ) (o : Option Outcome) → has_failed_by (with_answer race family reply) t start o ≡ has_failed_by race t start o
   failed_again families.V6 t start None = refl

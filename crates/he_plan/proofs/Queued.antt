@@ -46,7 +46,7 @@ part_is : (race : Race) (t : ℕ) (reply : Option Reply) → received_of race t 
 part_is race t None = refl
 part_is race t (Some reply) = refl
 
-received_is : (race : Race) (t : ℕ) (v6 v4 : Bool) → v6 ≡ is_received race t race.aaaa → v4 ≡ is_received race t race.a → received race t ≡ parts_of race v6 v4
+pub received_is : (race : Race) (t : ℕ) (v6 v4 : Bool) → v6 ≡ is_received race t race.aaaa → v4 ≡ is_received race t race.a → received race t ≡ parts_of race v6 v4
 received_is race t v6 v4 six four =
     let f : List Ip → List Ip → List Ip = λ xs ys. xs ++ ys in
     ap (λ xs. f xs (received_of race t race.a)) (part_is race t race.aaaa ∙ ap (λ b. part_of b race.aaaa) (sym six))
@@ -142,13 +142,23 @@ IsQueue-sorted race done q sorted queue are = record {
   four = queue.four;
 }
 
-order-none : (race : Race) → order race [] ≡ []
+pub order-none : (race : Race) → order race [] ≡ []
 unfolding by_preference
 order-none race = refl
 
+-- where no answer is included there is no address
+pub no_parts : (race : Race) → parts_of race false false ≡ []
+no_parts race = nothing race.aaaa race.a
+  where
+    nothing : (x y : Option Reply) → part_of false x ++ part_of false y ≡ []
+    nothing None None = refl
+    nothing None (Some y) = refl
+    nothing (Some x) None = refl
+    nothing (Some x) (Some y) = refl
+
 pub IsQueue-new : (race : Race) → IsQueue race [] nothing_received
 IsQueue-new race =
-    let none : parts_of race false false ≡ [] = nothing race.aaaa race.a in
+    let none : parts_of race false false ≡ [] = no_parts race in
     let sorted : order race (parts_of race false false) ≡ [] = ap (order race) none ∙ order-none race in
     record {
       rest = record {
@@ -161,12 +171,6 @@ IsQueue-new race =
       six = refl;
       four = refl;
     }
-  where
-    nothing : (x y : Option Reply) → part_of false x ++ part_of false y ≡ []
-    nothing None None = refl
-    nothing None (Some y) = refl
-    nothing (Some x) None = refl
-    nothing (Some x) (Some y) = refl
 
 filter_twice : (p q : Ip → Bool) (xs : List Ip) → filter p (filter q xs) ≡ filter (λ x. q x && p x) xs
 filter_twice p q [] = refl

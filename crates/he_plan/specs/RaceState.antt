@@ -11,7 +11,7 @@ use Rattle.he_plan.specs.declared.finish.Fate.{Fate}
 use Rattle.he_plan.specs.declared.finish.Fate.TheVariants.{Failed}
 use Rattle.he_timeline.specs.declared.outcome.Outcome.{Outcome}
 use Rattle.he_timeline.specs.declared.limits.TheConstants.{MAX_LIMIT}
-use Rattle.he_plan.specs.Attempts.{AreNextInTurn, IsNext, MayStart, is_untried, last_of, order, order_at}
+use Rattle.he_plan.specs.Attempts.{AreNextInTurn, IsNext, MayStart, is_untried, last_of, order, order_at, received}
 use Rattle.he_plan.specs.Finish.{IsWinner, fate_of}
 use Rattle.he_plan.specs.Planning.{interlaced_list, is_received, parts_of}
 use Rattle.he_timeline.specs.Building.{with_outcome}
@@ -102,6 +102,22 @@ pub record EndsOne (old new : Race) (attempts : List Attempt) (x : Attempt) : Ty
   pub outcome : Outcome
   pub told : new ≡ with_outcome old x.ip outcome
   pub late : IsTrue (list_all (λ y. nat_lt y.tick (x.tick + duration_of outcome)) attempts)
+
+-- by the tick both races have received the same answers, whose addresses have the same order
+pub record IsReceivedAlike (old new : Race) (t : ℕ) : Type 0 where
+  pub six : is_received new t new.aaaa ≡ is_received old t old.aaaa
+  pub four : is_received new t new.a ≡ is_received old t old.a
+  pub addresses : received new t ≡ received old t
+  pub ordered : order new (received new t) ≡ order old (received old t)
+
+-- the second race has the settings and the record of the first, and differs from it in nothing that these attempts
+-- depend on, as where one more answer comes after the last start
+pub record IsAlikeSoFar (old new : Race) (attempts : List Attempt) : Type 0 where
+  pub in_turn : AreNextInTurn new attempts
+  pub settings : new.settings ≡ old.settings
+  pub outcomes : new.outcomes ≡ old.outcomes
+  pub pauses : new.pauses ≡ old.pauses
+  pub last : IfSome (last_of attempts) (λ x. IsReceivedAlike old new x.tick)
 
 -- one more attempt, the next one, at the tick
 pub record MakesNext (race : Race) (done all : List Attempt) (tick : ℕ) : Type 0 where

@@ -6,7 +6,7 @@ ghost use Rattle.he_plan.specs.Attempts.{MayStart};
 ghost use Rattle.he_plan.specs.Planning.{all_failed};
 ghost use Rattle.he_timeline.specs.Race.{Race};
 ghost use Rattle.he_timeline.specs.Timeline.{IsRace};
-ghost use Rattle.he_plan.specs.RaceState.{AreSorted, EndsOne, IsUnderway, MakesNext, counted, not_begun};
+ghost use Rattle.he_plan.specs.RaceState.{AreSorted, EndsOne, IsAlikeSoFar, IsUnderway, MakesNext, counted, not_begun};
 
 use crate::attempts::Attempt;
 use crate::finish::{Fate, fate_of};
@@ -143,6 +143,16 @@ impl<A: Allocator + Copy> RaceState<A> {
         let fate = fate_of(timeline, &attempt);
         self.fates[attempt.place] = fate;
         self.count(fate);
+    }
+
+    /// Takes note that one more answer has come, after the last start: the addresses are sorted again for the next list
+    /// that needs it.
+    pub fn hear(&mut self)
+        ensures same { self.new.attempts ≡ self.old.attempts }
+        ensures underway { (race new : Race) → IsUnderway race self.old → IsAlikeSoFar race new self.old.attempts
+            → IsUnderway new self.new }
+    {
+        self.queue.forget_order();
     }
 
     // Counts one more fate.

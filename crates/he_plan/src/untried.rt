@@ -79,6 +79,13 @@ impl<A: Allocator + Copy> Untried<A> {
 }
 
 impl<A: Allocator> Untried<A> {
+    // The addresses of both answers are to be sorted again.
+    pub(crate) fn forget_order(&mut self)
+        ensures { self.new ≡ record self.old { sorted = [] } }
+    {
+        self.sorted.clear();
+    }
+
     pub(crate) fn is_empty(&self) -> bool
         ensures some { result ≡ false → 0 < length self.now.ips }
         ensures none { result ≡ true → length self.now.ips ≡ 0 }

@@ -8,13 +8,15 @@ use Rattle.std.proofs.lemmas.List.Elements.{All-nil, All-push}
 use Rattle.he_board.specs.declared.limits.TheConstants.{PLACES}
 use Rattle.he_board.specs.declared.view.View.{View}
 use Rattle.he_board.specs.Notes.{blank, times}
-use Rattle.he_board.proofs.Lists.{times-append, times-one_same}
+use Rattle.he_board.specs.Workers.{IsTried}
+use Rattle.he_board.proofs.Lists.{times-append}
+use Rattle.he_board.proofs.Trying.{tried-next}
 use Rattle.he_plan.specs.declared.attempts.Attempt.{Attempt}
 use Rattle.he_plan.specs.Attempts.{AreAttempts}
 use Rattle.he_timeline.specs.Race.{Race}
 use Rattle.he_pool.specs.declared.attempting.Done.{Done}
 use Rattle.he_pool.specs.Batch.{IsOfSuccess, batch_jobs, job_at, job_count}
-use Rattle.he_pool.specs.Working.{ArePlans, HasTried, IsBlank, IsHeld, IsHonestAt, IsMore, IsSound, IsTried, IsTrying, IsWorked, firsts_from}
+use Rattle.he_pool.specs.Working.{ArePlans, HasTried, IsBlank, IsHeld, IsHonestAt, IsMore, IsSound, IsTrying, IsWorked, firsts_from}
 
 pub firsts-at : (job n d : ℕ) (races : List Race) → n ≤ length races → get_or (firsts_from job races) n d ≡ job + batch_jobs (take n races)
 firsts-at job zero d [] le = omega arith
@@ -90,17 +92,6 @@ tried-more low high old new tried more job from to = let a : 0 < times job old =
 
 pub tried-none : (low high : ℕ) (known : List ℕ) → high ≤ low → IsTried low high known
 tried-none low high known le job from to = absurd (omega arith)
-
-pub tried-next : (low high next : ℕ) (old new : List ℕ) → IsTried low high old → new ≡ old ++ high ∷ [] → next ≡ high + 1 → IsTried low next new
-tried-next low high next old new tried e end job from to =
-    let all : times job new ≡ times job old + times job (high ∷ []) = ap (times job) e ∙ times-append job old (high ∷ []) in
-    elim (cases_lt job high) [
-      | inl before ↦ let a : 0 < times job old = tried job from before in omega arith
-      | inr after ↦
-          let last : job ≡ high = omega arith in
-          let one : times job (high ∷ []) ≡ 1 = subst (λ (n : ℕ). times job (n ∷ []) ≡ 1) last (times-one_same job) in
-          omega arith
-    ]
 
 pub tried-join : (low middle high : ℕ) (known : List ℕ) → IsTried low middle known → IsTried middle high known → IsTried low high known
 tried-join low middle high known first second job from to =

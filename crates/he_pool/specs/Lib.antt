@@ -1,3 +1,2 @@
 pub mod Batch
-pub mod Limits
 pub mod Working

@@ -2,11 +2,12 @@
 use Rattle.std.specs.Prelude.{ℕ, ◌≡◌, ◌+◌, ◌<◌, ◌≤◌, ◌/◌, ◌⊎◌, List, [], ◌∷◌, map, All, IfSome, Option, Some, length, slice_get, set, take}
 use Rattle.std.specs.List.{AllZip}
 use Rattle.he_board.specs.declared.board.Board.{Board}
-use Rattle.he_board.specs.declared.limits.TheConstants.{PLACES, RACES}
+use Rattle.he_board.specs.declared.limits.TheConstants.{MOST_WORKERS, PLACES, RACES}
 use Rattle.he_board.specs.declared.pass.Pass.{Pass}
 use Rattle.he_board.specs.declared.view.View.{View}
 use Rattle.he_board.specs.Notes.{blank, key_of, least_of, times, winner_of}
 use Rattle.he_board.specs.Passes.{IsPassOf, jobs_of, notes, races_of}
+use Rattle.he_board.specs.Workers.{IsTried}
 use Rattle.he_plan.specs.declared.attempts.Attempt.{Attempt}
 use Rattle.he_plan.specs.declared.finish.Fate.{Fate}
 use Rattle.he_plan.specs.declared.finish.Fate.TheVariants.{Skipped, Succeeded}
@@ -16,7 +17,6 @@ use Rattle.he_timeline.specs.Race.{Race}
 use Rattle.he_plan.specs.Transcript.{IsTranscript, Report}
 use Rattle.he_pool.specs.Batch.{IsOfSuccess, IsWinnerOf, batch_jobs, job_at, job_count}
 use Rattle.he_pool.specs.declared.attempting.Done.{Done}
-use Rattle.he_pool.specs.declared.limits.TheConstants.{MOST_WORKERS}
 use Rattle.he_pool.specs.declared.pool.Range.{Range}
 
 -- values noted of a race only fall
@@ -62,10 +62,6 @@ pub record IsHeld (races : List Race) (v : View) (done : List Done)
   pub real : All (IsOfSuccess races) v.offers
   pub sound : IsSound races v done
   pub planned : ArePlans races plans
-
--- each job from low up to high is known to be taken
-abbrev pub IsTried : ℕ → ℕ → List ℕ → Type 0
-IsTried low high known = (job : ℕ) → low ≤ job → job < high → 0 < times job known
 
 -- no number stands less often
 abbrev pub IsMore : List ℕ → List ℕ → Type 0

@@ -1,12 +1,11 @@
 //! Batches of races, whose jobs workers take from a board.
 ghost use Rattle.std.specs.Prelude.{◌≡◌, ◌≤◌, All, IfOk, length};
 ghost use Rattle.std.specs.List.{AllZip};
-ghost use Rattle.he_board.specs.declared.limits.TheConstants.{PARTS, RACES};
+ghost use Rattle.he_board.specs.declared.limits.TheConstants.{LEAST_WORKERS, MOST_WORKERS, PARTS, RACES};
 ghost use Rattle.he_board.specs.Notes.{blank};
 ghost use Rattle.he_board.specs.Passes.{IsPassOf, jobs_of, notes, races_of};
 ghost use Rattle.he_plan.specs.Transcript.{IsTranscript};
 ghost use Rattle.he_pool.specs.Batch.{HasTakenAll, HasWinners, IsOfSuccess, batch_jobs};
-ghost use Rattle.he_pool.specs.declared.limits.TheConstants.{LEAST_WORKERS, MOST_WORKERS};
 
 use crate::gate::Gate;
 use crate::jobs::first_jobs;

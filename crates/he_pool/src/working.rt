@@ -1,13 +1,13 @@
 //! One worker: tries all jobs of the batch, and runs those that it takes.
 ghost use Rattle.std.specs.Prelude.{◌≡◌, ◌+◌, ◌<◌, ◌≤◌, ◌++◌, ◌∷◌, ℕ, List, [], All, IfOk, IfSome, None, Ok, OnOk, Some, length, replicate, slice_get, take};
-ghost use Rattle.he_board.specs.declared.limits.TheConstants.{PLACES};
+ghost use Rattle.he_board.specs.declared.limits.TheConstants.{MOST_WORKERS, PLACES};
 ghost use Rattle.he_board.specs.Passes.{IsPassOf, jobs_of, notes, races_of};
 ghost use Rattle.he_plan.specs.Attempts.{AreAttempts};
 ghost use Rattle.he_plan.specs.declared.attempts.Attempt.{Attempt};
 ghost use Rattle.he_timeline.specs.Race.{Race};
 ghost use Rattle.he_pool.specs.Batch.{IsOfSuccess, batch_jobs, job_at};
-ghost use Rattle.he_pool.specs.declared.limits.TheConstants.{MOST_WORKERS};
-ghost use Rattle.he_pool.specs.Working.{IsBlank, IsHeld, IsMore, IsReady, IsSound, IsTried, IsWorked};
+ghost use Rattle.he_board.specs.Workers.{IsTried};
+ghost use Rattle.he_pool.specs.Working.{IsBlank, IsHeld, IsMore, IsReady, IsSound, IsWorked};
 
 use crate::attempting::{Done, run_job};
 use crate::gate::Gate;

@@ -13,8 +13,8 @@ use Rattle.he_plan.proofs.Growing.{pause-away}
 use Rattle.he_plan.proofs.Lawful.{is_paused-more, seen_past-more}
 use Rattle.he_timeline.proofs.Seen.{IsSeen-seen}
 use Rattle.he_plan.proofs.Starting.{SeesOwn, SeesOwn-free}
-use Rattle.he_race.specs.Kept.{first_after}
-use Rattle.he_race.specs.Recording.{slept}
+use Rattle.he_turns.specs.Kept.{first_after}
+use Rattle.he_turns.specs.Recording.{slept}
 
 -- nothing of the script is passed over before the tick
 abbrev pub NonePassed : Race → ℕ → ℕ → Type 0

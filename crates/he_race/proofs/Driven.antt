@@ -1,5 +1,5 @@
 -- What a poll of a race that follows a script comes to, over a ticker that then jumps.
-use Rattle.std.proofs.Common.{◌≡◌, ℕ, ◌+◌, ◌≤◌, ◌<◌, Bool, true, false, List, [], ◌∷◌, if◌then◌else◌, max, min, nat_le, Option, Some, None, Result, Ok, Err, IfOk, IsOk, IsSomeAnd, refl, sym, ◌∙◌, ap, subst, arith, inl, inr}
+use Rattle.std.proofs.Common.{◌≡◌, ℕ, ◌+◌, ◌≤◌, ◌<◌, Bool, true, false, List, [], ◌∷◌, if◌then◌else◌, max, min, Option, Some, None, Result, Ok, Err, IfOk, IsOk, IsSomeAnd, refl, sym, ◌∙◌, ap, subst, arith, inl, inr}
 use Rattle.std.specs.BTreeSet.{insert_key}
 use Rattle.std.specs.List.{All, list_all}
 use Rattle.std.specs.Ordering.{nat_cmp}
@@ -14,33 +14,32 @@ use Rattle.he_plan.specs.Due.{IsAfterTurn}
 use Rattle.he_timeline.specs.Race.{Race, Reply}
 use Rattle.he_timeline.specs.Timeline.{IsRace}
 use Rattle.he_plan.specs.Transcript.{IsTranscript}
-use Rattle.he_timeline.proofs.Bools.{clash, lt_test, not_le, not_lt}
+use Rattle.he_timeline.proofs.Bools.{clash, lt_test, not_lt}
 use Rattle.he_plan.proofs.InTurn.{in_turn-none}
 use Rattle.he_timeline.proofs.Seen.{IsSeen-seen}
-use Rattle.he_race.specs.declared.connector.Connector.{Ghosts as ConnectorOf}
-use Rattle.he_race.specs.declared.faults.RaceFault.{RaceFault}
-use Rattle.he_race.specs.declared.faults.RaceFault.TheVariants as faults
-use Rattle.he_race.specs.declared.faults.TickFault.TheVariants as clocks
-use Rattle.he_race.specs.declared.live.Live.{Live}
-use Rattle.he_race.specs.declared.live.Raced.{Raced}
-use Rattle.he_race.specs.declared.live.AfterPoll.{AfterPoll}
-use Rattle.he_race.specs.declared.live.Unfinished.{Unfinished}
-use Rattle.he_race.specs.declared.live.AfterPoll.TheVariants as after_polls
-use Rattle.he_race.specs.declared.race.RaceFuture.{RaceFuture}
+use Rattle.he_turns.specs.declared.connector.Connector.{Ghosts as ConnectorOf}
+use Rattle.he_turns.specs.declared.faults.RaceFault.{RaceFault}
+use Rattle.he_turns.specs.declared.faults.RaceFault.TheVariants as faults
+use Rattle.he_turns.specs.declared.faults.TickFault.TheVariants as clocks
+use Rattle.he_turns.specs.declared.live.Live.{Live}
+use Rattle.he_turns.specs.declared.live.Raced.{Raced}
+use Rattle.he_turns.specs.declared.live.Unfinished.{Unfinished}
+use Rattle.he_turns.specs.declared.race.RaceFuture.{RaceFuture}
 use Rattle.he_race.specs.declared.scripted.ScriptedTrial.{ScriptedTrial}
-use Rattle.he_race.specs.declared.ticker.Ticker.{Ghosts as TickerOf}
+use Rattle.he_turns.specs.declared.ticker.Ticker.{Ghosts as TickerOf}
 use Rattle.he_race.specs.Following.{Follows, GivesScripts, IsAsScripted, IsConnecting, IsScript, IsUnderWay, SeesAs, is_held}
-use Rattle.he_race.specs.Racing.{AsksFor, GoesOn, LivePolls, PollsFrom, RacePolls}
-use Rattle.he_race.specs.Kept.{first_after, IsLive}
+use Rattle.he_turns.specs.Racing.{AsksFor, Ends, GoesOn, LivePolls, PollsFrom, RacePolls}
+use Rattle.he_turns.specs.Kept.{first_after, IsLive}
 use Rattle.he_race.specs.Running.{IsScripted, scripted_trial}
-use Rattle.he_race.specs.Turns.{Goes, IsNew, PolledAt, PolledFrom, Turned, begun}
-use Rattle.he_race.specs.Winner.{MayPoll}
+use Rattle.he_turns.specs.Turns.{Goes, IsNew, PolledAt, begun}
+use Rattle.he_turns.specs.Winner.{MayPoll}
 use Rattle.he_race.specs.Wheel.{Asks, Jumps, Wheel, counted, last_tick, moved}
 use Rattle.he_race.proofs.Finished.{ended-late, ended-polled}
 use Rattle.he_race.proofs.Onward.{follows-on}
-use Rattle.he_race.proofs.Runs.{at_false, seen_from}
-use Rattle.he_race.proofs.Turning.{same_limit}
-use Rattle.he_race.proofs.Winning.{polled-aims-on}
+use Rattle.he_race.proofs.Runs.{seen_from}
+use Rattle.he_turns.proofs.Turned.{polled-turned}
+use Rattle.he_turns.proofs.Turning.{same_limit}
+use Rattle.he_turns.proofs.Winning.{polled-aims-on}
 
 -- what a ticker that jumps does
 abbrev pub wheel_ticker : TickerOf Wheel
@@ -55,18 +54,6 @@ module _ {C : Type 0} (connector : ConnectorOf C (Unit {0}) ScriptedTrial) where
   abbrev Future : Type 0
   Future = RaceFuture C Wheel (Unit {0}) ScriptedTrial
 
-  abbrev AfterPolls : Type 0
-  AfterPolls = AfterPoll C (Unit {0}) ScriptedTrial
-
-  -- a poll where the ticker stands is a turn
-  polled_turned : (c c' : C) (live : Live C (Unit {0}) ScriptedTrial) (at : ℕ) (step : AfterPolls) → IsLive connector scripted_trial live → first_after live.recorder.turn ≤ at → PolledAt connector scripted_trial c live at c' step → Turned connector scripted_trial c live (min at (live.recorder.recorded.settings.limit + 1)) c' step
-  polled_turned c c' live at step kept later h = by_turn live.recorder.turn later kept.recorder.rests.after h
-    where
-      by_turn : (turn : Option ℕ) → first_after turn ≤ at → IsAfterTurn live.recorder.recorded turn live.recorder.underway.attempts → PolledFrom connector scripted_trial turn c live (min at (live.recorder.recorded.settings.limit + 1)) c' step → Turned connector scripted_trial c live (min at (live.recorder.recorded.settings.limit + 1)) c' step
-      by_turn None later after h = h
-      by_turn (Some turn) later after h =
-          at_false ((c' ≡ c) × (step ≡ after_polls.Waits live (turn + 1))) (Turned connector scripted_trial c live (min at (live.recorder.recorded.settings.limit + 1)) c' step) (nat_le (min at (live.recorder.recorded.settings.limit + 1)) turn) (not_le (min at (live.recorder.recorded.settings.limit + 1)) turn (omega (arith, after.1))) h
-
   live_polls : (old new : Future) (live : Live C (Unit {0}) ScriptedTrial) (result : Poll (Result (Raced (Unit {0})) RaceFault)) → old.live ≡ Some live → RacePolls connector scripted_trial wheel_ticker old result new → LivePolls (PolledAt connector scripted_trial) wheel_ticker old live result new
   live_polls old new live result is h = subst (λ (x : Option (Live C (Unit {0}) ScriptedTrial)). PollsFrom (PolledAt connector scripted_trial) wheel_ticker x old result new) is h
 
@@ -74,15 +61,15 @@ module _ {C : Type 0} (connector : ConnectorOf C (Unit {0}) ScriptedTrial) where
   pub gives-script : (turns : ℕ) (old new : Future) (given : Result (Raced (Unit {0})) RaceFault) → IsUnderWay connector turns old → RacePolls connector scripted_trial wheel_ticker old (Ready given) new → GivesScripts old.ticker.race given
   gives-script turns old new given u h = by_given given (live_polls old new u.live (Ready given) u.is h)
     where
-      ended : (raced : Raced (Unit {0})) (now : ℕ) → now ≡ old.ticker.at → PolledAt connector scripted_trial old.connector u.live now new.connector (after_polls.Ended raced) → IsTranscript old.ticker.race raced.transcript
-      ended raced now at polled =
-          elim (polled_turned old.connector new.connector u.live old.ticker.at (after_polls.Ended raced) u.kept.kept u.follows.later (subst (λ (n : ℕ). PolledAt connector scripted_trial old.connector u.live n new.connector (after_polls.Ended raced)) at polled)) [
+      ended : (raced : Raced (Unit {0})) → Ends (PolledAt connector scripted_trial) wheel_ticker old u.live new raced → IsTranscript old.ticker.race raced.transcript
+      ended raced e =
+          elim (polled-turned connector scripted_trial old.connector new.connector u.live old.ticker.at u.kept.kept u.follows.later e.now e.tells.0 _ e.polled) [
             | inl late ↦ ended-late connector old.ticker.race u.script old.connector u.scripted u.live old.ticker.at u.follows u.kept.kept (min old.ticker.at (u.live.recorder.recorded.settings.limit + 1)) new.connector raced refl late
             | inr swept ↦ ended-polled connector old.ticker.race u.script old.connector u.scripted u.live old.ticker.at u.follows u.kept.kept (min old.ticker.at (u.live.recorder.recorded.settings.limit + 1)) new.connector raced refl swept
           ]
 
       by_given : (given : Result (Raced (Unit {0})) RaceFault) → LivePolls (PolledAt connector scripted_trial) wheel_ticker old u.live (Ready given) new → GivesScripts old.ticker.race given
-      by_given (Ok raced) e = ended raced e.now e.tells.0 e.polled
+      by_given (Ok raced) e = ended raced e
       by_given (Err faults.Memory) e = refl
       by_given (Err faults.Clock) e = let lost : clocks.Lost ≡ clocks.Memory = e.asks.0 in cc
       by_given (Err faults.Over) e = absurd e
@@ -103,13 +90,10 @@ module _ {C : Type 0} (connector : ConnectorOf C (Unit {0}) ScriptedTrial) where
       limit : ℕ
       limit = u.live.recorder.recorded.settings.limit
 
-      turned : (now : ℕ) → now ≡ old.ticker.at → (next : Live C (Unit {0}) ScriptedTrial) (tick : ℕ) → PolledAt connector scripted_trial old.connector u.live now polled.connector (after_polls.Waits next tick) → Goes connector scripted_trial (begun old.connector u.live (min old.ticker.at (limit + 1))) u.live.unfinished.items (min old.ticker.at (limit + 1)) polled.connector next tick
-      turned now at next tick p = polled_turned old.connector polled.connector u.live old.ticker.at (after_polls.Waits next tick) u.kept.kept u.follows.later (subst (λ (n : ℕ). PolledAt connector scripted_trial old.connector u.live n polled.connector (after_polls.Waits next tick)) at p)
-
       by_asked : GoesOn (PolledAt connector scripted_trial) wheel_ticker old u.live polled → IsUnderWay connector (turns + 1) (record polled { ticker = left }) × (left.race ≡ old.ticker.race)
       by_asked g =
           let a : AsksFor (PolledAt connector scripted_trial) wheel_ticker old u.live polled (Ok tt) = g.asked in
-          let t : Goes connector scripted_trial (begun old.connector u.live (min old.ticker.at (limit + 1))) u.live.unfinished.items (min old.ticker.at (limit + 1)) polled.connector a.next a.tick = turned a.now a.tells.0 a.next a.tick a.polled in
+          let t : Goes connector scripted_trial (begun old.connector u.live (min old.ticker.at (limit + 1))) u.live.unfinished.items (min old.ticker.at (limit + 1)) polled.connector a.next a.tick = polled-turned connector scripted_trial old.connector polled.connector u.live old.ticker.at u.kept.kept u.follows.later a.now a.tells.0 _ a.polled in
           let on = follows-on connector old.ticker.race u.script old.connector u.scripted u.live old.ticker.at u.follows u.kept.kept (min old.ticker.at (limit + 1)) polled.connector a.next a.tick refl t in
           let early : old.ticker.at < last_tick = early_by a.next t.kept on.2 in
           let stands : left ≡ record old.ticker { at = seen old.ticker.race (max a.tick (old.ticker.at + 1)); asked = [] } = gone old.ticker polled.ticker left went a.tick u.script.valid u.asked early (a.asks ∙ ap (λ (w : Wheel). record w { asked = insert_key nat_cmp w.asked (counted w.at a.tick) }) a.tells.1) jumps in (

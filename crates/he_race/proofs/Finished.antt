@@ -16,24 +16,24 @@ use Rattle.he_timeline.specs.Race.{outcome_of, Race, Reply, has_outcome}
 use Rattle.he_timeline.specs.Timeline.{duration_of}
 use Rattle.he_plan.specs.Transcript.{IsTranscript, Report}
 use Rattle.he_timeline.proofs.Bools.{and_left, and_right, le_from, or_one}
-use Rattle.he_race.specs.declared.connector.Connector.{Ghosts as ConnectorOf}
-use Rattle.he_race.specs.declared.live.Live.{Live}
-use Rattle.he_race.specs.declared.live.Raced.{Raced}
-use Rattle.he_race.specs.declared.live.Unfinished.{Unfinished}
+use Rattle.he_turns.specs.declared.connector.Connector.{Ghosts as ConnectorOf}
+use Rattle.he_turns.specs.declared.live.Live.{Live}
+use Rattle.he_turns.specs.declared.live.Raced.{Raced}
+use Rattle.he_turns.specs.declared.live.Unfinished.{Unfinished}
 use Rattle.he_race.specs.declared.scripted.ScriptedTrial.{ScriptedTrial}
-use Rattle.he_race.specs.Answered.{is_tried_out_by}
+use Rattle.he_turns.specs.Answered.{is_tried_out_by}
 use Rattle.he_race.specs.Following.{Follows, IsAsScripted, IsConnecting, IsScript, SeesAs, is_held}
-use Rattle.he_race.specs.Kept.{first_after, IsLive}
-use Rattle.he_race.specs.Recording.{EndsRace, slept}
+use Rattle.he_turns.specs.Kept.{first_after, IsLive}
+use Rattle.he_turns.specs.Recording.{EndsRace, slept}
 use Rattle.he_race.specs.Running.{IsScripted, scripted_trial}
-use Rattle.he_race.specs.Turns.{EndsLate, EndsPolled, Sweep, begun, is_over}
+use Rattle.he_turns.specs.Turns.{EndsLate, EndsPolled, Sweep, begun, is_over}
 use Rattle.he_race.proofs.Awake.{free-slept, sees-by}
 use Rattle.he_race.proofs.Held.{held-all}
 use Rattle.he_race.proofs.Onward.{above-turn, due-four, due-six, free-end, polled-at, sees-end, slept_outcomes}
 use Rattle.he_race.proofs.Replayed.{EndsAfter, SeesAlike, ends-sooner, replays-script}
 use Rattle.he_race.proofs.Runs.{seen_from}
 use Rattle.he_race.proofs.Swept.{IsPending, Sweeps}
-use Rattle.he_race.proofs.Turning.{alike-later, same_limit, slept-alike}
+use Rattle.he_turns.proofs.Turning.{alike-later, same_limit, slept-alike}
 
 module _ {C : Type 0} (connector : ConnectorOf C (Unit {0}) ScriptedTrial) (race : Race) (ss : IsScript race) (c : C) (sc : IsScripted connector race c) (live : Live C (Unit {0}) ScriptedTrial) (at : ℕ) (f : Follows race live at) (kept : IsLive connector scripted_trial live) where
   abbrev Held : Type 0

@@ -7,11 +7,12 @@ use Rattle.he_plan.specs.declared.attempts.Attempt.{Attempt}
 use Rattle.he_plan.specs.Attempts.{AreNextInTurn}
 use Rattle.he_timeline.specs.Race.{outcome_of, Race, has_outcome}
 use Rattle.he_timeline.proofs.Bools.{clash, or_one}
-use Rattle.he_race.specs.declared.live.Unfinished.{Unfinished}
+use Rattle.he_turns.specs.declared.live.Unfinished.{Unfinished}
 use Rattle.he_race.specs.declared.scripted.ScriptedTrial.{ScriptedTrial}
 use Rattle.he_race.specs.Following.{is_held}
-use Rattle.he_race.proofs.Failing.{at-one}
-use Rattle.he_race.proofs.Replayed.{none-told, same-attempt}
+use Rattle.he_turns.proofs.Failing.{at-one}
+use Rattle.he_turns.proofs.Recorded.{same-attempt}
+use Rattle.he_race.proofs.Replayed.{none-told}
 
 abbrev Held : Type 0 → Type 0
 Held C = Unfinished C (Unit {0}) ScriptedTrial

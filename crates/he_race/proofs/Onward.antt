@@ -1,5 +1,5 @@
 -- What a turn leaves of a race that follows a script, and what its ticker is asked for.
-use Rattle.std.proofs.Common.{◌≡◌, ℕ, zero, suc, ◌+◌, ◌≤◌, ◌<◌, ◌↔◌, ◌||◌, ◌++◌, ◌⊎◌, Bool, true, false, List, [], ◌∷◌, if◌then◌else◌, length, get_or, take, find, Option, Some, None, Result, Ok, IfSome, is_some, max, min, nat_lt, refl, sym, ◌∙◌, ap, subst, arith, inl, inr, length-append}
+use Rattle.std.proofs.Common.{◌≡◌, ℕ, zero, suc, ◌+◌, ◌≤◌, ◌<◌, ◌↔◌, ◌||◌, ◌++◌, ◌⊎◌, Bool, true, false, List, [], ◌∷◌, if◌then◌else◌, length, get_or, find, Option, Some, None, Result, Ok, IfSome, is_some, max, min, nat_lt, refl, sym, ◌∙◌, ap, subst, arith, inl, inr, length-append}
 use Rattle.std.specs.List.{All, Contains, list_all, list_any}
 use Rattle.std.proofs.lemmas.Bool.{cases_lt}
 use Rattle.std.proofs.lemmas.List.{append-nil, get_or_append_left}
@@ -24,31 +24,32 @@ use Rattle.he_timeline.proofs.Lasting.{outcome_in-lasts}
 use Rattle.he_plan.proofs.InTurn.{in_turn-more}
 use Rattle.he_timeline.proofs.Ranges.{list_all-weaker}
 use Rattle.he_timeline.proofs.Seen.{IsSeen-seen}
-use Rattle.he_race.specs.declared.attempt.AttemptFuture.{AttemptFuture}
-use Rattle.he_race.specs.declared.attempt.AttemptFuture.TheVariants.{Connecting}
-use Rattle.he_race.specs.declared.connector.Connector.{Ghosts as ConnectorOf}
-use Rattle.he_race.specs.declared.faults.AttemptFault.{AttemptFault}
-use Rattle.he_race.specs.declared.live.Live.{Live}
-use Rattle.he_race.specs.declared.live.Unfinished.{Unfinished}
+use Rattle.he_turns.specs.declared.attempt.AttemptFuture.{AttemptFuture}
+use Rattle.he_turns.specs.declared.attempt.AttemptFuture.TheVariants.{Connecting}
+use Rattle.he_turns.specs.declared.connector.Connector.{Ghosts as ConnectorOf}
+use Rattle.he_turns.specs.declared.faults.AttemptFault.{AttemptFault}
+use Rattle.he_turns.specs.declared.live.Live.{Live}
+use Rattle.he_turns.specs.declared.live.Unfinished.{Unfinished}
 use Rattle.he_race.specs.declared.scripted.ScriptedTrial.{ScriptedTrial}
-use Rattle.he_race.specs.declared.trial.Trial.{Ghosts as TrialOf}
-use Rattle.he_race.specs.Answered.{earliest}
-use Rattle.he_race.specs.Attempt.{due_of}
+use Rattle.he_turns.specs.declared.trial.Trial.{Ghosts as TrialOf}
+use Rattle.he_turns.specs.Answered.{earliest}
+use Rattle.he_turns.specs.Attempt.{due_of}
 use Rattle.he_race.specs.Following.{EndsFrom, Follows, IsAsScripted, IsConnecting, IsScript, SeesAs, is_held}
-use Rattle.he_race.specs.Kept.{FailedBelow, first_after, IsLive}
-use Rattle.he_race.specs.Recording.{slept}
+use Rattle.he_turns.specs.Kept.{FailedBelow, first_after, IsLive}
+use Rattle.he_turns.specs.Recording.{slept}
 use Rattle.he_race.specs.Running.{IsScripted, scripted_trial}
 use Rattle.he_race.specs.Scripted.{script, script_of, tick_of}
-use Rattle.he_race.specs.Turns.{ArePolled, BeginsNext, Goes, StaysAs, Sweep, asked_tick, begun, unpolled}
+use Rattle.he_turns.specs.Turns.{ArePolled, BeginsNext, Goes, StaysAs, Sweep, asked_tick, begun, unpolled}
 use Rattle.he_race.proofs.Awake.{free-slept, sees-by, sees-same}
-use Rattle.he_race.proofs.Failing.{all-same}
+use Rattle.he_turns.proofs.Failing.{all-same}
 use Rattle.he_race.proofs.Held.{held-all}
-use Rattle.he_race.proofs.Recorded.{due_later, get_last, own_ip}
+use Rattle.he_turns.proofs.Recorded.{due_later, get_last, own_ip, take_all_of}
 use Rattle.he_race.proofs.Replayed.{EndsAfter, fail-same, failed-script, told-as}
-use Rattle.he_race.proofs.Runs.{at_false, seen_from, seen_rises}
-use Rattle.he_race.proofs.Sweeps.{asked-early}
+use Rattle.he_turns.proofs.Turned.{at_false}
+use Rattle.he_race.proofs.Runs.{seen_from, seen_rises}
+use Rattle.he_turns.proofs.Sweeps.{asked-early}
 use Rattle.he_race.proofs.Swept.{IsPending, Sweeps, swept-all}
-use Rattle.he_race.proofs.Turning.{alike-later, contains-at, going-early, same_limit, slept-alike}
+use Rattle.he_turns.proofs.Turning.{alike-later, contains-at, going-early, same_limit, slept-alike}
 
 get_push : (xs : List Attempt) (x d : Attempt) → get_or (xs ++ x ∷ []) (length xs) d ≡ x
 get_push [] x d = refl
@@ -82,10 +83,6 @@ next_script race end rr re alike free xs x same clear is = record {
       | inl sooner ↦ is.tick.least t ((both t (omega arith) (starts-free race rr xs t m)).0 m)
       | inr by ↦ by
     ]
-
-pub take_all_of : (xs : List Attempt) (x : Attempt) → take (length xs) (xs ++ x ∷ []) ≡ xs
-take_all_of [] x = refl
-take_all_of (y ∷ xs) x = ap (λ (zs : List Attempt). y ∷ zs) (take_all_of xs x)
 
 pub slept_outcomes : (race : Race) (due now : ℕ) → (slept race due now).outcomes ≡ race.outcomes
 slept_outcomes race due now = by_test (nat_lt due now)

@@ -29,11 +29,11 @@ use Rattle.he_plan.proofs.Finishing.{IsWinner-more}
 use Rattle.he_plan.proofs.Lawful.{transcript-one}
 use Rattle.he_plan.proofs.Stopping.{stopped-is}
 use Rattle.he_race.specs.Following.{EndsAs, IsAsScripted, IsScript}
-use Rattle.he_race.specs.Recording.{EndedBy, EndsRace}
-use Rattle.he_race.proofs.Ending.{Known, ended-known, winner-stop}
-use Rattle.he_race.proofs.Failing.{all-same, seen-free}
-use Rattle.he_race.proofs.Recorded.{one_attempt}
-use Rattle.he_race.proofs.Turning.{contains-at, same_limit}
+use Rattle.he_turns.specs.Recording.{EndedBy, EndsRace}
+use Rattle.he_turns.proofs.Ending.{Known, ended-known, winner-stop}
+use Rattle.he_turns.proofs.Failing.{all-same, seen-free}
+use Rattle.he_turns.proofs.Recorded.{same-attempt}
+use Rattle.he_turns.proofs.Turning.{contains-at, same_limit}
 
 -- attempts of a race have a winner, or none
 winner_from : (done more : List Fate) (best : Option (ℕ × ℕ)) → IsWinner done best → (winner : Option (ℕ × ℕ)) × IsWinner (done ++ more) winner
@@ -47,12 +47,6 @@ winner_of fates = winner_from [] fates None (λ key h. none key h)
   where
     none : (key : ℕ × ℕ) → ¬ (slice_get [] key.1 ≡ Some (Succeeded key.0))
     none key h = cc
-
--- an attempt of the race that is at the address of another is it
-pub same-attempt : (race : Race) (xs : List Attempt) → AreNextInTurn race xs → (x y : Attempt) → Contains xs x → Contains xs y → same_ip y.ip x.ip ≡ true → y ≡ x
-same-attempt race xs turn x y made at same =
-    let here : get_or xs made.0 x ≡ x = made.2 in
-    sym (sym here ∙ one_attempt race xs turn y at made.0 x made.1 (ap (λ (z : Attempt). same_ip y.ip z.ip) here ∙ same))
 
 -- the script's outcome of what is recorded
 pub record IsToldAs (script : Race) (x : Attempt) (told : Outcome) : Type 0 where

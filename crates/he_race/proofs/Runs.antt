@@ -1,5 +1,5 @@
 -- How an attempt of a recorded race that runs by itself comes to its fate.
-use Rattle.std.proofs.Common.{◌≡◌, ℕ, zero, suc, ◌+◌, ◌≤◌, ◌<◌, Bool, true, false, if◌then◌else◌, Option, Some, None, Result, Ok, Err, IfSome, MatchBool, nat_le, nat_lt, refl, sym, ◌∙◌, ap, subst, arith, inl, inr}
+use Rattle.std.proofs.Common.{◌≡◌, ℕ, zero, suc, ◌+◌, ◌≤◌, ◌<◌, Bool, true, false, if◌then◌else◌, Option, Some, None, Result, Ok, Err, IfSome, nat_le, nat_lt, refl, sym, ◌∙◌, ap, subst, arith, inl, inr}
 use Rattle.std.proofs.lemmas.Bool.{cases_lt}
 use Rattle.futures.specs.declared.task.Poll.{Poll}
 use Rattle.futures.specs.declared.task.Poll.TheVariants.{Ready, Pending}
@@ -15,17 +15,18 @@ use Rattle.he_timeline.specs.Timeline.{IsRace, duration_of}
 use Rattle.he_timeline.proofs.Bools.{clash, le_test, lt_test, not_le, not_lt}
 use Rattle.he_timeline.proofs.Lasting.{outcome_in-lasts}
 use Rattle.he_timeline.proofs.Seen.{IsSeen-seen}
-use Rattle.he_race.specs.declared.attempt.AttemptFuture.{AttemptFuture}
-use Rattle.he_race.specs.declared.attempt.AttemptFuture.TheVariants.{Sleeping, Connecting}
-use Rattle.he_race.specs.declared.attempt.Finish.{Finish}
-use Rattle.he_race.specs.declared.connector.Connector.{Ghosts as ConnectorOf}
-use Rattle.he_race.specs.declared.faults.AttemptFault.{AttemptFault}
-use Rattle.he_race.specs.declared.faults.AttemptFault.TheVariants.{Failed as Refused}
+use Rattle.he_turns.specs.declared.attempt.AttemptFuture.{AttemptFuture}
+use Rattle.he_turns.specs.declared.attempt.AttemptFuture.TheVariants.{Sleeping, Connecting}
+use Rattle.he_turns.specs.declared.attempt.Finish.{Finish}
+use Rattle.he_turns.specs.declared.connector.Connector.{Ghosts as ConnectorOf}
+use Rattle.he_turns.specs.declared.faults.AttemptFault.{AttemptFault}
+use Rattle.he_turns.specs.declared.faults.AttemptFault.TheVariants.{Failed as Refused}
 use Rattle.he_race.specs.declared.scripted.ScriptedTrial.{ScriptedTrial}
-use Rattle.he_race.specs.Attempt.{AttemptPolls, CanPoll, RunAnswers, due_of}
+use Rattle.he_turns.specs.Attempt.{AttemptPolls, CanPoll, RunAnswers, due_of}
 use Rattle.he_race.specs.Running.{IsScripted, fate_at, result_at, scripted_trial}
 use Rattle.he_race.specs.Scripted.{answer_of, script, script_of, tick_of}
-use Rattle.he_race.proofs.Waits.{not_pending}
+use Rattle.he_turns.proofs.Turned.{at_false}
+use Rattle.he_turns.proofs.Waits.{not_pending}
 
 pub le_of : (m n : ℕ) → nat_lt m n ≡ false → n ≤ m
 le_of m n e = elim (cases_lt m n) [ inl h ↦ absurd (clash (nat_lt m n) (lt_test m n h) e) | inr k ↦ k ]
@@ -86,10 +87,6 @@ fate_ready race s now (Some (outcomes.Fail d)) r h fin e = by_tick (nat_lt now (
         let same : seen race (s + d) ≡ now = fin over in
         let in_time : nat_le (finish_of race s d) race.settings.limit ≡ true = le_test _ _ (omega (arith, same)) in
         rw (in_time, same, ready_is r (Err Refused) e)
-
-pub at_false : (X Y : Type 0) (b : Bool) → b ≡ false → MatchBool b X Y → Y
-at_false X Y false e y = y
-at_false X Y true e x = let P : Bool → Type 0 = λ b. MatchBool b X Y in subst P e x
 
 pub pending_over : (o : Option Outcome) (s now d : ℕ) → tick_of (script o s) ≡ Some d → d ≤ now → ◌≡◌ {A = Poll Answer} Pending (answer_of (script o s) now) → ⊥
 pending_over None s now d e over p = cc

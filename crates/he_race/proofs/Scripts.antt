@@ -1,12 +1,12 @@
 -- What a pending poll of a scripted trial waits for.
 use Rattle.std.proofs.Common.{Some, None, Ok, Err, ◌∙◌}
 use Rattle.futures.specs.declared.task.Poll.TheVariants.{Ready, Pending}
-use Rattle.he_race.specs.declared.faults.AttemptFault.TheVariants.{Failed}
+use Rattle.he_turns.specs.declared.faults.AttemptFault.TheVariants.{Failed}
 use Rattle.he_race.specs.declared.scripted.ScriptedTrial.{ScriptedTrial}
 use Rattle.he_race.specs.declared.scripted.ScriptedTrial.TheVariants.{Succeeds, Fails, Silent}
 use Rattle.he_race.specs.Scripted.{ScriptPolls, tick_of}
-use Rattle.he_race.specs.Waiting.{WaitsForTick}
-use Rattle.he_race.proofs.Waits.{early, waits_still}
+use Rattle.he_turns.specs.Waiting.{WaitsForTick}
+use Rattle.he_turns.proofs.Waits.{early, waits_still}
 
 pub script_waits : (x : ScriptedTrial) → WaitsForTick ScriptPolls x (tick_of x)
 script_waits (Succeeds tick) =

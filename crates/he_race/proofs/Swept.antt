@@ -19,23 +19,24 @@ use Rattle.he_timeline.specs.Timeline.{IsRace, duration_of}
 use Rattle.he_timeline.proofs.Bools.{not_lt, or_left, or_one, or_right}
 use Rattle.he_timeline.proofs.Ranges.{list_all-weaker}
 use Rattle.he_plan.proofs.Starting.{SeesOwn, SeesOwn-free}
-use Rattle.he_race.specs.declared.attempt.AttemptFuture.{AttemptFuture}
-use Rattle.he_race.specs.declared.attempt.AttemptFuture.TheVariants.{Connecting}
-use Rattle.he_race.specs.declared.attempt.Finish.{Finish}
-use Rattle.he_race.specs.declared.connector.Connector.{Ghosts as ConnectorOf}
-use Rattle.he_race.specs.declared.faults.AttemptFault.{AttemptFault}
-use Rattle.he_race.specs.declared.faults.AttemptFault.TheVariants.{Failed as Refused}
-use Rattle.he_race.specs.declared.live.Unfinished.{Unfinished}
+use Rattle.he_turns.specs.declared.attempt.AttemptFuture.{AttemptFuture}
+use Rattle.he_turns.specs.declared.attempt.AttemptFuture.TheVariants.{Connecting}
+use Rattle.he_turns.specs.declared.attempt.Finish.{Finish}
+use Rattle.he_turns.specs.declared.connector.Connector.{Ghosts as ConnectorOf}
+use Rattle.he_turns.specs.declared.faults.AttemptFault.{AttemptFault}
+use Rattle.he_turns.specs.declared.faults.AttemptFault.TheVariants.{Failed as Refused}
+use Rattle.he_turns.specs.declared.live.Unfinished.{Unfinished}
 use Rattle.he_race.specs.declared.scripted.ScriptedTrial.{ScriptedTrial}
-use Rattle.he_race.specs.Attempt.{AttemptPolls, RunAnswers}
+use Rattle.he_turns.specs.Attempt.{AttemptPolls, RunAnswers}
 use Rattle.he_race.specs.Following.{IsAsScripted, IsConnecting, is_held}
-use Rattle.he_race.specs.Recording.{ended_by}
+use Rattle.he_turns.specs.Recording.{ended_by}
 use Rattle.he_race.specs.Running.{scripted_trial}
 use Rattle.he_race.specs.Scripted.{answer_of, script, script_of}
-use Rattle.he_race.specs.Turns.{ArePolled, Sweep, after_poll, is_connection}
-use Rattle.he_race.proofs.Runs.{at_false, le_of, pending_over, ready_is}
-use Rattle.he_race.proofs.Turning.{alike-later}
-use Rattle.he_race.proofs.Waits.{not_pending}
+use Rattle.he_turns.specs.Turns.{ArePolled, Sweep, after_poll, is_connection}
+use Rattle.he_turns.proofs.Turned.{at_false}
+use Rattle.he_race.proofs.Runs.{le_of, pending_over, ready_is}
+use Rattle.he_turns.proofs.Turning.{alike-later}
+use Rattle.he_turns.proofs.Waits.{not_pending}
 
 -- an element that is put in the place of another changes nothing where both are alike
 any_moved : {X : Type 0} (f : X → Bool) (ps os : List X) (o o' : X) → f o' ≡ f o → list_any f ((ps ++ o' ∷ []) ++ os) ≡ list_any f (ps ++ o ∷ os)

@@ -13,20 +13,20 @@ use Rattle.he_timeline.specs.Seen.{IsFree, seen}
 use Rattle.he_timeline.specs.Race.{outcome_of, Race, Reply, addresses_of, has_outcome}
 use Rattle.he_timeline.specs.Timeline.{IsRace, duration_of}
 use Rattle.he_plan.specs.Transcript.{IsTranscript}
-use Rattle.he_race.specs.declared.attempt.AttemptFuture.TheVariants.{Connecting}
-use Rattle.he_race.specs.declared.connector.Connector.{Ghosts as ConnectorOf}
-use Rattle.he_race.specs.declared.faults.RaceFault.{RaceFault}
-use Rattle.he_race.specs.declared.faults.RaceFault.TheVariants as faults
-use Rattle.he_race.specs.declared.live.Live.{Live}
-use Rattle.he_race.specs.declared.live.Raced.{Raced}
-use Rattle.he_race.specs.declared.live.Unfinished.{Unfinished}
-use Rattle.he_race.specs.declared.race.RaceFuture.{RaceFuture}
+use Rattle.he_turns.specs.declared.attempt.AttemptFuture.TheVariants.{Connecting}
+use Rattle.he_turns.specs.declared.connector.Connector.{Ghosts as ConnectorOf}
+use Rattle.he_turns.specs.declared.faults.RaceFault.{RaceFault}
+use Rattle.he_turns.specs.declared.faults.RaceFault.TheVariants as faults
+use Rattle.he_turns.specs.declared.live.Live.{Live}
+use Rattle.he_turns.specs.declared.live.Raced.{Raced}
+use Rattle.he_turns.specs.declared.live.Unfinished.{Unfinished}
+use Rattle.he_turns.specs.declared.race.RaceFuture.{RaceFuture}
 use Rattle.he_race.specs.declared.scripted.ScriptedTrial.{ScriptedTrial}
-use Rattle.he_race.specs.Kept.{first_after}
+use Rattle.he_turns.specs.Kept.{first_after}
 use Rattle.he_race.specs.Running.{IsScripted, scripted_trial}
 use Rattle.he_race.specs.Scripted.{script_of}
 use Rattle.he_race.specs.Wheel.{Wheel}
-use Rattle.he_race.specs.Winner.{MayPoll}
+use Rattle.he_turns.specs.Winner.{MayPoll}
 
 -- a script: a race within its ranges, as each timeline is
 pub record IsScript (script : Race) : Type 0 where

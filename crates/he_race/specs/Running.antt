@@ -4,11 +4,11 @@ use Rattle.he_addr.specs.declared.ip.Ip.{Ip}
 use Rattle.he_plan.specs.declared.finish.Fate.{Fate}
 use Rattle.he_plan.specs.declared.finish.Fate.TheVariants.{Succeeded, Failed}
 use Rattle.he_timeline.specs.Race.{Race}
-use Rattle.he_race.specs.declared.attempt.Finish.{Finish}
-use Rattle.he_race.specs.declared.connector.Connector.{Ghosts as ConnectorOf}
-use Rattle.he_race.specs.declared.faults.AttemptFault.{AttemptFault}
+use Rattle.he_turns.specs.declared.attempt.Finish.{Finish}
+use Rattle.he_turns.specs.declared.connector.Connector.{Ghosts as ConnectorOf}
+use Rattle.he_turns.specs.declared.faults.AttemptFault.{AttemptFault}
 use Rattle.he_race.specs.declared.scripted.ScriptedTrial.{ScriptedTrial}
-use Rattle.he_race.specs.declared.trial.Trial.{Ghosts as TrialOf}
+use Rattle.he_turns.specs.declared.trial.Trial.{Ghosts as TrialOf}
 use Rattle.he_race.specs.Scripted.{ScriptPolls, script_of, tick_of}
 
 -- the connector begins the trials of this race, and nothing else

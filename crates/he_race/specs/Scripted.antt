@@ -6,8 +6,8 @@ use Rattle.he_addr.specs.declared.ip.Ip.{Ip}
 use Rattle.he_timeline.specs.declared.outcome.Outcome.{Outcome}
 use Rattle.he_timeline.specs.declared.outcome.Outcome.TheVariants as outcomes
 use Rattle.he_timeline.specs.Race.{outcome_of, Race}
-use Rattle.he_race.specs.declared.faults.AttemptFault.{AttemptFault}
-use Rattle.he_race.specs.declared.faults.AttemptFault.TheVariants.{Failed}
+use Rattle.he_turns.specs.declared.faults.AttemptFault.{AttemptFault}
+use Rattle.he_turns.specs.declared.faults.AttemptFault.TheVariants.{Failed}
 use Rattle.he_race.specs.declared.scripted.ScriptedTrial.{ScriptedTrial}
 use Rattle.he_race.specs.declared.scripted.ScriptedTrial.TheVariants.{Succeeds, Fails, Silent}
 

@@ -5,8 +5,8 @@ use Rattle.std.specs.BTreeSet.{insert_key}
 use Rattle.std.specs.Ordering.{nat_cmp}
 use Rattle.he_timeline.specs.Seen.{seen}
 use Rattle.he_timeline.specs.Race.{Race}
-use Rattle.he_race.specs.declared.faults.TickFault.{TickFault}
-use Rattle.he_race.specs.declared.faults.TickFault.TheVariants.{Memory}
+use Rattle.he_turns.specs.declared.faults.TickFault.{TickFault}
+use Rattle.he_turns.specs.declared.faults.TickFault.TheVariants.{Memory}
 
 -- the race whose pauses it knows, the tick at which it stands, and the ticks that it was asked for, in order
 pub record Wheel : Type 0 where

@@ -6,16 +6,11 @@ ghost use Rattle.he_timeline.specs.declared.limits.TheConstants.{MAX_LIMIT};
 ghost use Rattle.he_timeline.specs.Race.{Race};
 ghost use Rattle.he_plan.specs.Transcript.{IsTranscript};
 ghost use Rattle.he_race.specs.Following.{GivesScripts, IsUnderWay};
-ghost use Rattle.he_race.specs.Racing.{RacePolls};
-ghost use Rattle.he_race.specs.Winner.{MayPoll};
+ghost use Rattle.he_turns.specs.Racing.{RacePolls};
+ghost use Rattle.he_turns.specs.Winner.{MayPoll};
 
 use crate::alone::Alone;
-use crate::connector::Connector;
-use crate::faults::RaceFault;
-use crate::live::Raced;
-use crate::race::RaceFuture;
 use crate::scripted::{Scripted, ScriptedTrial};
-use crate::ticker::Ticker;
 use crate::wheel::WheelTicker;
 use futures::Future;
 use futures::task::{Doorbell, Poll, Solo};
@@ -23,6 +18,7 @@ use he_addr::Memory;
 use he_plan::Transcript;
 use he_timeline::Timeline;
 use he_timeline::timeline::are_addresses_in_range;
+use he_turns::{Connector, RaceFault, RaceFuture, Raced, Ticker};
 use std::alloc::{Allocator, Global};
 use std::mem::drop;
 
@@ -110,7 +106,7 @@ fn advance<C: Connector<Conn = (), Run = ScriptedTrial>, A: Allocator>(
     match poll_once(solo, race) {
         Poll::Ready(given) => Some(given),
         Poll::Pending => {
-            drop(race.ticker.jump());
+            drop(race.ticker_mut().jump());
             None
         }
     }

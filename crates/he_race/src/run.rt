@@ -3,19 +3,18 @@
 ghost use Rattle.std.specs.Prelude.{◌≡◌, ◌<◌, ◌≤◌, Some, IfOk, length, slice_get};
 ghost use Rattle.he_plan.specs.declared.attempts.Attempt.{Attempt};
 ghost use Rattle.he_plan.specs.Finish.{fate_of};
-ghost use Rattle.he_race.specs.declared.limits.TheConstants.{MAX_POLL_TICK};
-ghost use Rattle.he_race.specs.Attempt.{AttemptPolls, CanPoll};
+ghost use Rattle.he_turns.specs.declared.limits.TheConstants.{MAX_POLL_TICK};
+ghost use Rattle.he_turns.specs.Attempt.{AttemptPolls, CanPoll};
 ghost use Rattle.he_race.specs.Running.{IsScripted, fate_at};
 
 use crate::alone::Alone;
-use crate::attempt::{AttemptFuture, Finish};
-use crate::connector::Connector;
-use crate::limits::MAX_POLL_TICK;
 use crate::scripted::{Scripted, ScriptedTrial};
 use futures::task::{Doorbell, Poll, Solo};
 use he_addr::Memory;
 use he_plan::{Attempt, Fate, Plan};
 use he_timeline::Timeline;
+use he_turns::limits::MAX_POLL_TICK;
+use he_turns::{AttemptFuture, Connector, Finish};
 use std::alloc::{Allocator, Global};
 
 /// What becomes of the plan's attempt of this place, by polling it at its start and then at each tick at which it is

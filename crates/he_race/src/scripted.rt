@@ -2,12 +2,10 @@
 
 ghost use Rattle.std.specs.Prelude.{◌≡◌};
 
-use crate::connector::Connector;
-use crate::faults::AttemptFault;
-use crate::trial::Trial;
 use futures::task::{Context, Poll};
 use he_addr::Ip;
 use he_timeline::{Outcome, Timeline};
+use he_turns::{AttemptFault, Connector, Trial};
 use std::alloc::{Allocator, Global};
 
 /// The connector that gives a timeline's outcomes: a trial that begins at a tick answers its address's outcome once

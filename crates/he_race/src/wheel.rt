@@ -5,11 +5,10 @@ ghost use Rattle.futures.specs.Task.{IsArmed, Keeps};
 ghost use Rattle.he_timeline.specs.Seen.{seen};
 ghost use Rattle.he_race.specs.Wheel.{Jumps};
 
-use crate::faults::TickFault;
-use crate::ticker::Ticker;
 use futures::task::Context;
 use he_addr::Memory;
 use he_timeline::Timeline;
+use he_turns::{TickFault, Ticker};
 use std::alloc::{Allocator, Global};
 use std::collections::BTreeSet;
 use std::marker::Model;

@@ -3,7 +3,7 @@
 
 ghost use Rattle.std.specs.Prelude.{◌≡◌, ◌≤◌, IfSome, None};
 ghost use Rattle.futures.specs.Poll.{IfReady, OnPending};
-ghost use Rattle.he_race.specs.Winner.{MayPoll};
+ghost use Rattle.he_turns.specs.Winner.{MayPoll};
 
 use crate::homes::{PlannedRace, V4_A, V6_A, first_race, many_race, race};
 use futures::Future;

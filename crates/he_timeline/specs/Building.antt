@@ -35,6 +35,10 @@ empty_race settings policy host =
 abbrev pub unrecorded : Race → Race
 unrecorded race = record race { outcomes = []; pauses = [] }
 
+-- the race on this host
+abbrev pub with_host : Race → HostLists → Race
+with_host race host = record race { host = host }
+
 abbrev pub with_answer : Race → Family → Reply → Race
 with_answer race families.V6 reply = record race { aaaa = Some reply }
 with_answer race families.V4 reply = record race { a = Some reply }

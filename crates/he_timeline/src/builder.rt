@@ -1,7 +1,7 @@
 // Making a timeline.
 
 ghost use Rattle.std.specs.Prelude.{◌≡◌, true, IfOk, IfErr, IfSome};
-ghost use Rattle.he_timeline.specs.Building.{IsRefused, empty_race, unrecorded, add_answer, add_outcome, add_pause, add_rtt, add_used, last_end, Becomes};
+ghost use Rattle.he_timeline.specs.Building.{IsRefused, empty_race, unrecorded, add_answer, add_outcome, add_pause, add_rtt, add_used, last_end, with_host, Becomes};
 ghost use Rattle.he_timeline.specs.Race.{has_ip, is_in_answer};
 ghost use Rattle.he_timeline.specs.Timeline.{are_of, are_distinct, is_duration, IsRace};
 
@@ -97,6 +97,15 @@ impl<A: Allocator + Copy> TimelineBuilder<A> {
             six: AddressSet::none(),
             four: AddressSet::none(),
         })
+    }
+
+    /// The race on this host, in place of the one that it was on. All else stays as it was collected, and it takes no
+    /// memory.
+    pub fn set_host(&mut self, host: Host<A>)
+        ensures value { self.new ≡ with_host self.old host }
+        ensures race { IsRace self.new }
+    {
+        self.timeline.set_host(host);
     }
 
     /// Whether the address stands in one of the answers, usable or not, so that it may have an outcome and a history.

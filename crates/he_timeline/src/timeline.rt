@@ -12,7 +12,7 @@ ghost use Rattle.he_timeline.specs.Timeline.{IsRace, are_pauses, are_told_once, 
 ghost use Rattle.he_timeline.specs.Seen.{IsSeen, seen, seen_past};
 ghost use Rattle.he_timeline.specs.Changes.{changed};
 ghost use Rattle.he_timeline.specs.Ahead.{are_ahead};
-ghost use Rattle.he_timeline.specs.Building.{empty_race, unrecorded, with_answer, with_outcome, with_pause, with_rtt, with_used};
+ghost use Rattle.he_timeline.specs.Building.{empty_race, unrecorded, with_answer, with_host, with_outcome, with_pause, with_rtt, with_used};
 
 use crate::assigning::put;
 use crate::by_address::ByAddress;
@@ -97,6 +97,13 @@ impl<A: Allocator + Copy> Timeline<A> {
             Family::V6 => put(&mut self.aaaa, Some(answer)),
             Family::V4 => put(&mut self.a, Some(answer)),
         }
+    }
+
+    pub(crate) fn set_host(&mut self, host: Host<A>)
+        ensures value { self.new ≡ with_host self.old host }
+        ensures race { IsRace self.new }
+    {
+        put(&mut self.host, host);
     }
 
     pub(crate) fn push_rtt(&mut self, ip: Ip, rtt: u64) -> Result<(), AllocError>

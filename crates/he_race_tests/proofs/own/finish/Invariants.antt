@@ -1,4 +1,4 @@
-use Rattle.he_race.specs.Attempt.{CanPoll}
+use Rattle.he_turns.specs.Attempt.{CanPoll}
 use Rattle.he_race_tests.proofs.own.finish.Given as goal
 
 abbrev pub invariant-loop-tick : goal.invariant-loop-tick

@@ -1,5 +1,5 @@
 use Rattle.std.proofs.Common.{IfSome}
-use Rattle.he_race.specs.Winner.{MayPoll}
+use Rattle.he_turns.specs.Winner.{MayPoll}
 use Rattle.he_race_tests.proofs.races.seen_of.Given as goal
 
 abbrev pub invariant-loop : goal.invariant-loop

@@ -1,6 +1,0 @@
-use Rattle.std.proofs.Common.{◌≡◌, take}
-use Rattle.he_race.specs.Heard.{with_routes}
-use Rattle.he_race.proofs.lines.with_routes.Given as goal
-
-abbrev pub invariant-loop-route : goal.invariant-loop-route
-invariant-loop-route l = l.all.items ≡ with_routes l.family l.has (take l.route-index l.told)

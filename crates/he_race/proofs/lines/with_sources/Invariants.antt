@@ -1,6 +1,0 @@
-use Rattle.std.proofs.Common.{◌≡◌, take}
-use Rattle.he_race.specs.Heard.{with_sources}
-use Rattle.he_race.proofs.lines.with_sources.Given as goal
-
-abbrev pub invariant-loop-source : goal.invariant-loop-source
-invariant-loop-source l = l.all.items ≡ with_sources l.family l.has (take l.source-index l.told)

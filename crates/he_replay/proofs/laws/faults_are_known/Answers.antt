@@ -1,6 +1,0 @@
-use Rattle.he_replay.specs.Output.{IsTextWith}
-use Rattle.he_replay.proofs.Known.{known}
-use Rattle.he_replay.proofs.laws.faults_are_known.Goals as goal
-
-pub returns : goal.returns
-returns c = λ content changes file. known c.faults_stand.ensures (IsTextWith content changes file)

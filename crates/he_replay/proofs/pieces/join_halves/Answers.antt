@@ -1,7 +1,0 @@
-use Rattle.he_board.specs.Passes.{notes}
-use Rattle.he_replay.specs.Rounds.{IsAsked}
-use Rattle.he_replay.proofs.Workers.{both_told}
-use Rattle.he_replay.proofs.pieces.join_halves.Goals as goal
-
-pub returns : goal.returns
-returns g c = both_told (IsAsked c.args.asked.now) c.args.board.now c.args.bytes.now c.args.count (notes c.args.left.pass).parts (notes c.args.right.pass).parts c.args.left.pass c.args.right.pass _ c.args.left.pieces.items c.args.right.pieces.items _ c.requires.left c.requires.right c.rejoin-pass.ensures.own c.rejoin-pass.ensures.noted c.in_ok-append.ensures.items

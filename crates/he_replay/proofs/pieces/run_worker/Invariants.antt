@@ -1,7 +1,0 @@
-use Rattle.he_board.specs.Passes.{notes}
-use Rattle.he_replay.specs.Pieces.{HasWorked}
-use Rattle.he_replay.specs.Rounds.{IsAsked}
-use Rattle.he_replay.proofs.pieces.run_worker.Given as goal
-
-abbrev pub invariant-loop-number : goal.invariant-loop-number
-invariant-loop-number g l = HasWorked (IsAsked l.asked) l.board l.bytes l.count l.number (notes l.fn.pass).parts l.pass l.pieces.items

@@ -1,0 +1,244 @@
+//! What is written of a race, and its text: the table of printers.
+ghost use Rattle.std.specs.Prelude.{◌≡◌, ◌++◌, None, OnOk};
+ghost use Rattle.he_write.specs.Written.{transcript_text};
+ghost use Rattle.he_json.specs.Documents.{name_of, spot_of};
+ghost use Rattle.he_streaming.specs.Output.{IsOfCourse, IsOrderObject, IsPrinted, IsTextOf, IsTranscriptObject, IsTranscriptText, has_place};
+ghost use Rattle.he_streaming.specs.Rounds.{IsAsked, WritesText};
+
+use crate::limits::TEXT_ROOM;
+use he_addr::Memory;
+use he_course::Course;
+use he_draw::{Look, write_picture, write_section, write_svg};
+use he_json::{Place, write_explanation_json, write_order_json, write_transcript_json};
+use he_plan::{Transcript, sorted_attributes, transcript_of};
+use he_story::write_story;
+use he_timeline::{Changes, Timeline};
+use he_write::{write_order, write_transcript};
+use std::alloc::{AllocError, Allocator};
+
+/// What is written of a race.
+#[derive(Clone, Copy, Debug, PartialEq, Eq)]
+pub enum Content {
+    /// What happens in it ([`write_transcript`]), or that as a JSON object ([`write_transcript_json`]).
+    Transcript,
+    TranscriptJson,
+    /// In which order its addresses are to be tried (RFC 6724 section 6): its usable addresses, whatever the ticks of
+    /// the answers, each with the source that the host uses for it ([`write_order`]). Or that as a JSON object
+    /// ([`write_order_json`]).
+    Order,
+    OrderJson,
+    /// Why it went as it did, by one of the printers of its course.
+    Course(Printer),
+}
+
+/// What prints the course of a race, each after its number in the input and the line at which it begins.
+#[derive(Clone, Copy, Debug, PartialEq, Eq)]
+pub enum Printer {
+    /// A story, for a person to read ([`write_story`]).
+    Story,
+    /// A JSON object on one line ([`write_explanation_json`]).
+    Json,
+    /// A picture of so many columns ([`write_picture`]).
+    Picture { look: Look, width: u16 },
+    /// The same as an SVG image ([`write_svg`]).
+    Image,
+    /// A part of a page, of the text of this place among those of the page ([`write_section`]).
+    Section { text: usize },
+}
+
+impl Content {
+    /// Whether it has the race's place in the input.
+    pub fn has_place(self) -> bool
+        ensures { result ≡ has_place self }
+    {
+        !matches!(self, Content::Transcript | Content::Order)
+    }
+}
+
+/// What is asked for of each race of an input.
+#[derive(Clone, Copy)]
+pub struct TextRequest<'f> {
+    /// What is written of it.
+    pub content: Content,
+    /// The settings with which it is taken in place of its own.
+    pub changes: Changes,
+    /// The name of the input's file for JSON objects, where it has one.
+    pub file: Option<&'f str>,
+}
+
+impl TextRequest<'static> {
+    /// This, of each race as it stands, in an input without a name.
+    pub fn of(content: Content) -> TextRequest<'static>
+        ensures { result ≡ record {
+          content = content;
+          changes = record { resolution = None; attempt = None; count = None; limit = None; floor = None };
+          file = None;
+        } }
+    {
+        TextRequest {
+            content,
+            changes: Changes::none(),
+            file: None,
+        }
+    }
+}
+
+impl TextRequest<'_> {
+    /// Appends the text that is asked for of the race, which has this number in the input and begins at this line,
+    /// both counted from 1. What is needed for that alone is taken from `alloc`.
+    ///
+    /// # Errors
+    ///
+    /// `AllocError` where an allocation was refused. The text may have a first part of it then.
+    pub fn write<A: Allocator + Copy, T: Allocator + Copy>(
+        &self,
+        alloc: A,
+        race: Timeline<A>,
+        number: usize,
+        line: u64,
+        text: &mut Vec<u8, T>,
+    ) -> Result<(), AllocError>
+        ensures { OnOk result (WritesText (λ told. IsAsked self.now number line told race) text.old.items
+            text.new.items) }
+    {
+        let timeline = race.with_changes(self.changes);
+        let place = Place {
+            file: self.file,
+            number,
+            line,
+        };
+        append(self.content, alloc, &timeline, place, text)
+    }
+}
+
+fn append<A: Allocator + Copy, T: Allocator + Copy>(
+    content: Content,
+    alloc: A,
+    timeline: &Timeline<A>,
+    place: Place<'_>,
+    text: &mut Vec<u8, T>,
+) -> Result<(), AllocError>
+    ensures { OnOk result (WritesText (λ told. IsTextOf content (spot_of place.entry) told timeline.now) text.old.items
+        text.new.items) }
+{
+    match content {
+        Content::Transcript => append_transcript(alloc, timeline, text),
+        _ => append_own(content, alloc, timeline, place, text),
+    }
+}
+
+fn append_transcript<A: Allocator + Copy, T: Allocator + Copy>(
+    alloc: A,
+    timeline: &Timeline<A>,
+    text: &mut Vec<u8, T>,
+) -> Result<(), AllocError>
+    ensures { OnOk result (WritesText (λ told. IsTranscriptText told timeline.now) text.old.items text.new.items) }
+{
+    let transcript = transcript_of(alloc, timeline).map_err(|_| AllocError)?;
+    append_text(&transcript, text)
+}
+
+fn append_text<A: Allocator, T: Allocator + Copy>(
+    transcript: &Transcript<A>,
+    text: &mut Vec<u8, T>,
+) -> Result<(), AllocError>
+    ensures { OnOk result (text.new.items ≡ text.old.items ++ transcript_text transcript.now) }
+{
+    write_transcript(transcript, text).map_err(|_| AllocError)
+}
+
+// Appends a text by a copy that is made in the arena.
+fn append_own<A: Allocator + Copy, T: Allocator + Copy>(
+    content: Content,
+    alloc: A,
+    timeline: &Timeline<A>,
+    place: Place<'_>,
+    text: &mut Vec<u8, T>,
+) -> Result<(), AllocError>
+    ensures { OnOk result (WritesText (λ told. IsTextOf content (spot_of place.entry) told timeline.now) text.old.items
+        text.new.items) }
+{
+    let mut own = Vec::with_capacity(alloc, TEXT_ROOM)?;
+    write(content, alloc, timeline, place, &mut own).map_err(|_| AllocError)?;
+    text.extend_from_slice(&own)
+}
+
+fn write<A: Allocator + Copy>(
+    content: Content,
+    alloc: A,
+    timeline: &Timeline<A>,
+    place: Place<'_>,
+    text: &mut Vec<u8, A>,
+) -> Result<(), Memory>
+    ensures { OnOk result (WritesText (λ told. IsTextOf content (spot_of place.entry) told timeline.now) text.old.items
+        text.new.items) }
+{
+    match content {
+        Content::Transcript => write_transcript(&transcript_of(alloc, timeline)?, text),
+        Content::TranscriptJson => write_transcript_object(alloc, timeline, place, text),
+        Content::Order => write_order(alloc, timeline, text),
+        Content::OrderJson => write_order_object(alloc, timeline, place, text),
+        Content::Course(printer) => write_course(printer, alloc, timeline, place, text),
+    }
+}
+
+fn write_transcript_object<A: Allocator + Copy>(
+    alloc: A,
+    timeline: &Timeline<A>,
+    place: Place<'_>,
+    text: &mut Vec<u8, A>,
+) -> Result<(), Memory>
+    ensures { OnOk result (WritesText (λ told. IsTranscriptObject (spot_of place.entry) told timeline.now)
+        text.old.items text.new.items) }
+{
+    let transcript = transcript_of(alloc, timeline)?;
+    write_transcript_json(alloc, place, &transcript, text)
+}
+
+fn write_order_object<A: Allocator + Copy>(
+    alloc: A,
+    timeline: &Timeline<A>,
+    place: Place<'_>,
+    text: &mut Vec<u8, A>,
+) -> Result<(), Memory>
+    ensures { OnOk result (WritesText (λ told. IsOrderObject (spot_of place.entry) told timeline.now) text.old.items
+        text.new.items) }
+{
+    let sorted = sorted_attributes(alloc, timeline)?;
+    write_order_json(alloc, place, &sorted, text)
+}
+
+fn write_course<A: Allocator + Copy>(
+    printer: Printer,
+    alloc: A,
+    timeline: &Timeline<A>,
+    place: Place<'_>,
+    text: &mut Vec<u8, A>,
+) -> Result<(), Memory>
+    ensures { OnOk result (WritesText (λ told. IsOfCourse printer (spot_of place.entry) told timeline.now)
+        text.old.items text.new.items) }
+{
+    let course = Course::of(alloc, timeline, place.number, place.line)?;
+    printer.write(alloc, &course, place.file, text)
+}
+
+impl Printer {
+    fn write<A: Allocator + Copy>(
+        self,
+        alloc: A,
+        course: &Course<A>,
+        file: Option<&str>,
+        text: &mut Vec<u8, A>,
+    ) -> Result<(), Memory>
+        ensures { OnOk result (WritesText (IsPrinted self (name_of file.entry) course.now) text.old.items
+            text.new.items) }
+    {
+        match self {
+            Printer::Story => write_story(alloc, course, text),
+            Printer::Json => write_explanation_json(alloc, course, file, text),
+            Printer::Picture { look, width } => write_picture(course, look, width, text),
+            Printer::Image => write_svg(course, text),
+            Printer::Section { text: place } => write_section(course, place, text),
+        }
+    }
+}

@@ -1,0 +1,14 @@
+pub mod Answered
+pub mod Attempt
+pub mod Heard
+pub mod Kept
+pub mod Listening
+pub mod OfSource
+pub mod Polling
+pub mod Racing
+pub mod Reach
+pub mod Recording
+pub mod Resolving
+pub mod Turns
+pub mod Waiting
+pub mod Winner
