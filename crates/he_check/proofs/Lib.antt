@@ -1,7 +1,6 @@
 mod Checks
 mod Counts
 mod FaultParts
-mod Given
 mod Hints
 mod Holding
 mod NextRaces

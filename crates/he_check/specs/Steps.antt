@@ -13,6 +13,7 @@ use Rattle.he_inputs.specs.declared.race_reader.RaceReader.{RaceReader}
 use Rattle.he_inputs.specs.declared.race_reader.RaceReaderFault.TheVariants as readers
 use Rattle.he_inputs.specs.declared.stream_fault.StreamFault.{StreamFault}
 use Rattle.he_inputs.specs.declared.stream_fault.StreamFault.TheVariants as checks
+use Rattle.he_stream.specs.Limits.{read_size}
 use Rattle.he_words.specs.Ranges.{line_end, most_races}
 use Rattle.he_words.specs.declared.fault.TextFault.{TextFault}
 use Rattle.he_check.specs.AllFaults.{AreFaults, AreFaultsBehind, AreSaid, IsLastRace, IsNextRace, alone_text, none_text, said_text, whole_text}
@@ -207,8 +208,7 @@ EndsWith bytes is_broken counted old new fault =
 
 -- what is held of an input begins where the reader stands
 pub record IsHeld {A : Type 0} (held : Held A) : Type 0 where
-  pub within : held.filled ≤ length held.bytes.items
-  pub tried : held.tried ≤ held.filled
+  pub tried : held.tried ≤ length held.input.bytes
   pub front : held.counted.reader.end ≡ 0
   pub sound : IsSound held.counted
 
@@ -216,19 +216,26 @@ pub record IsHeld {A : Type 0} (held : Held A) : Type 0 where
 abbrev pub at_front : {A : Type 0} → Counted A → Counted A
 at_front counted = record counted { reader = record counted.reader { end = 0 } }
 
--- the bytes that are held, and those of them that were looked at
-abbrev pub held_bytes : {A : Type 0} → Held A → List ℕ
-held_bytes held = take held.filled held.bytes.items
-
+-- the bytes of those that are held which were looked at
 abbrev pub tried_bytes : {A : Type 0} → Held A → List ℕ
-tried_bytes held = take held.tried held.bytes.items
+tried_bytes held = take held.tried held.input.bytes
 
--- of these bytes a first part was forgotten, and the others are held
-abbrev pub HoldsOn : {A : Type 0} → List ℕ → Held A → Held A → Type 0
-HoldsOn bytes old new =
+-- a first part of the bytes was let go, and the others are held
+abbrev pub HoldsOn : {A : Type 0} → Held A → Held A → Type 0
+HoldsOn old new =
     (before : List ℕ) → IsAt endings.Open before (tried_bytes old) old.counted
-    → (front : List ℕ) × (before ++ bytes ≡ front ++ held_bytes new)
+    → (front : List ℕ) × (before ++ old.input.bytes ≡ front ++ new.input.bytes)
     × IsAt endings.Open front (tried_bytes new) new.counted
+
+-- how far a check has come in an input of which this was taken: what was let go, and what is held
+pub record IsTaken {A : Type 0} (is_all : Bool) (form : Form) (Took : List ℕ → Type 0) (held : Held A) : Type 0 where
+  pub holds : IsHeld held
+  pub all : held.counted.told.is_all ≡ is_all
+  pub formed : held.counted.told.form ≡ form
+  pub before : List ℕ
+  pub at : IsAt endings.Open before (tried_bytes held) held.counted
+  pub took : Took (before ++ held.input.bytes)
+  pub size : length before + length held.input.bytes ≤ read_size * held.input.steps
 
 -- a check of an input ends with this fault, before anything is put into an output
 abbrev pub TakesWrong : Bool → Form → (List ℕ → Bool → Type 0) → (List ℕ → Type 0) → List ℕ → List ℕ → StreamFault

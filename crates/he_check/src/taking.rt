@@ -1,8 +1,8 @@
 // An input that is checked while it comes.
-ghost use Rattle.std.specs.Prelude.{◌≡◌, ◌+◌, ◌-◌, ◌≤◌, ◌^◌, drop, length, take, vec_len, IfErr, IfOk, OnOk};
+ghost use Rattle.std.specs.Prelude.{◌≡◌, ◌+◌, ◌-◌, ◌≤◌, ◌^◌, [], drop, length, IfErr, IfOk, OnOk};
 ghost use Rattle.he_stream.specs.Input.{Gives, GivesSoFar};
 ghost use Rattle.he_inputs.specs.RaceReading.{ending_of};
-ghost use Rattle.he_check.specs.Steps.{EndsWith, HasGone, HasStopped, HoldsOn, IsCounted, IsHeld, IsNew, IsOpen, IsSaidOf, TakesWrong, at_front, fault_found, held_bytes};
+ghost use Rattle.he_check.specs.Steps.{EndsWith, HasGone, HasStopped, HoldsOn, IsCounted, IsHeld, IsNew, IsOpen, IsSaidOf, TakesWrong, at_front, fault_found};
 ghost use Rattle.he_check.specs.Stream.{TakesRight};
 
 use crate::all_faults::{alone, none_told};
@@ -13,9 +13,8 @@ use crate::limits::{FIRST_BYTES, MOST_SHOWN, STEP_ROOM};
 use crate::parts::RestOfInput;
 use crate::slips::Warning;
 use he_addr::Memory;
-use he_inputs::{Ending, StreamFault};
-use he_stream::limits::MOST_READS;
-use he_stream::{InputStream, Taken, take_piece};
+use he_inputs::{Ending, HeldInput, StreamFault};
+use he_stream::InputStream;
 use he_words::LINE_END;
 use he_words::limits::MAX_LINE;
 use memchr::memrchr;
@@ -25,10 +24,8 @@ use std::alloc::Allocator;
 // may have, and as much again before that is looked at once more, and what one step gives.
 #[derive(Drop)]
 struct Held<A: Allocator> {
-    // These bytes, and after them room for the next step.
-    bytes: Vec<u8, A>,
-    filled: usize,
-    // How many of them were looked at.
+    input: HeldInput<A>,
+    // How many of its bytes were looked at.
     tried: usize,
     // How far the check has come in them.
     counted: Counted<A>,
@@ -37,55 +34,50 @@ struct Held<A: Allocator> {
 impl<A: Allocator + Copy> Held<A> {
     // Nothing is taken yet.
     fn new(alloc: A, is_all: bool, form: Form) -> Held<A>
-        ensures none { (result.filled ≡ 0) × (result.tried ≡ 0) }
+        ensures none { (result.input ≡ record { bytes = []; steps = 0 }) × (result.tried ≡ 0) }
         ensures counted { IsNew is_all form result.counted }
     {
         Held {
-            bytes: Vec::new(alloc),
-            filled: 0,
+            input: HeldInput::new(alloc),
             tried: 0,
             counted: Counted::new(alloc, is_all, form),
         }
     }
 
-    // Checks what so many bytes more make whole, and forgets what was passed.
-    fn gain(&mut self, alloc: A, count: usize) -> Result<(), Memory>
+    // Checks what is whole of the bytes, after more of them were taken, and lets go what was passed.
+    fn gain(&mut self, alloc: A) -> Result<(), Memory>
         requires held { IsHeld self.old }
         requires more { IsOpen self.old.counted }
-        requires within { self.old.filled + count ≤ vec_len self.old.bytes }
-        requires lines { self.old.counted.reader.lines + self.old.filled + count ≤ 2 ^ 63 }
+        requires lines { self.old.counted.reader.lines + length self.old.input.bytes ≤ 2 ^ 63 }
         ensures held { OnOk result (IsHeld self.new) }
         ensures all { OnOk result (self.new.counted.told.is_all ≡ self.old.counted.told.is_all) }
         ensures form { OnOk result (self.new.counted.told.form ≡ self.old.counted.told.form) }
-        ensures on { OnOk result (HoldsOn (take (self.old.filled + count) self.old.bytes.items) self.old self.new) }
+        ensures steps { OnOk result (self.new.input.steps ≡ self.old.input.steps) }
+        ensures on { OnOk result (HoldsOn self.old self.new) }
     {
-        self.filled += count;
-        let ready = lines_end(&self.bytes[..self.filled]).max(self.tried);
+        let bytes = self.input.bytes();
+        let ready = lines_end(bytes).max(self.tried);
         let is_short = self.counted.told.is_all && ready < FIRST_BYTES;
-        if is_short || self.filled / 2 < self.tried {
+        if is_short || bytes.len() / 2 < self.tried {
             return Ok(());
         }
-        self.counted
-            .go_on(alloc, &self.bytes[..ready], Ending::Open)?;
+        self.counted.go_on(alloc, &bytes[..ready], Ending::Open)?;
         self.tried = ready;
         self.forget();
         Ok(())
     }
 
-    // Forgets what the reader passed.
+    // Lets go what the reader passed.
     fn forget(&mut self)
-        requires within { self.old.filled ≤ vec_len self.old.bytes }
-        requires tried { self.old.tried ≤ self.old.filled }
+        requires tried { self.old.tried ≤ length self.old.input.bytes }
         requires place { self.old.counted.reader.end ≤ self.old.tried }
         ensures counted { self.new.counted ≡ at_front self.old.counted }
-        ensures filled { self.new.filled ≡ self.old.filled - self.old.counted.reader.end }
         ensures tried { self.new.tried ≡ self.old.tried - self.old.counted.reader.end }
-        ensures within { self.new.filled ≤ vec_len self.new.bytes }
-        ensures kept { held_bytes self.new ≡ drop self.old.counted.reader.end (held_bytes self.old) }
+        ensures kept { self.new.input
+            ≡ record self.old.input { bytes = drop self.old.counted.reader.end self.old.input.bytes } }
     {
         let end = self.counted.reader.end;
-        self.bytes.copy_within(end..self.filled, 0);
-        self.filled -= end;
+        self.input.forget(end);
         self.tried -= end;
         self.counted.reader.end = 0;
     }
@@ -94,14 +86,14 @@ impl<A: Allocator + Copy> Held<A> {
     fn finish(&mut self, alloc: A, is_broken: bool) -> Result<(), Memory>
         requires held { IsHeld self.old }
         requires more { IsOpen self.old.counted }
-        requires lines { self.old.counted.reader.lines + self.old.filled ≤ 2 ^ 63 }
-        ensures same { (self.new.bytes ≡ self.old.bytes) × (self.new.filled ≡ self.old.filled) }
-        ensures gone { OnOk result (HasGone (ending_of is_broken) (held_bytes self.old) self.old.counted
+        requires lines { self.old.counted.reader.lines + length self.old.input.bytes ≤ 2 ^ 63 }
+        ensures same { self.new.input ≡ self.old.input }
+        ensures gone { OnOk result (HasGone (ending_of is_broken) self.old.input.bytes self.old.counted
             self.new.counted) }
-        ensures stopped { OnOk result (HasStopped (ending_of is_broken) (held_bytes self.old) self.new.counted) }
+        ensures stopped { OnOk result (HasStopped (ending_of is_broken) self.old.input.bytes self.new.counted) }
     {
         self.counted
-            .go_on(alloc, &self.bytes[..self.filled], Ending::of(is_broken))
+            .go_on(alloc, self.input.bytes(), Ending::of(is_broken))
     }
 
     // What the check comes to: races and lines, and the warnings, or a fault. What is said of the faults is appended.
@@ -111,12 +103,11 @@ impl<A: Allocator + Copy> Held<A> {
         is_broken: bool,
         explanation: &mut Vec<u8, A>,
     ) -> Result<(Checked, Vec<Warning, A>), StreamFault>
-        requires within { self.filled ≤ vec_len self.bytes }
-        requires place { self.counted.reader.end ≤ self.filled }
+        requires { self.counted.reader.end ≤ length self.input.bytes }
         ensures ok { IfOk result (λ found. (fault_found self.counted.told.first is_broken ≡ None)
             × IsCounted self.counted found.0 found.1.items
             × (explanation.new.items ≡ explanation.old.items)) }
-        ensures err { IfErr result (EndsWith (held_bytes self) is_broken self.counted
+        ensures err { IfErr result (EndsWith self.input.bytes is_broken self.counted
             explanation.old.items explanation.new.items) }
     {
         let Some(fault) = self.counted.fault(is_broken) else {
@@ -129,9 +120,8 @@ impl<A: Allocator + Copy> Held<A> {
 
     // What is said of the faults.
     fn said(&self, alloc: A, is_broken: bool) -> Result<Vec<u8, A>, Memory>
-        requires within { self.now.filled ≤ vec_len self.now.bytes }
-        requires place { self.now.counted.reader.end ≤ self.now.filled }
-        ensures { IfOk result (λ text. IsSaidOf (held_bytes self.now) is_broken self.now.counted text.items) }
+        requires { self.now.counted.reader.end ≤ length self.now.input.bytes }
+        ensures { IfOk result (λ text. IsSaidOf self.now.input.bytes is_broken self.now.counted text.items) }
     {
         let counted = &self.counted;
         if counted.told.is_all {
@@ -141,7 +131,7 @@ impl<A: Allocator + Copy> Held<A> {
             return none_told(alloc, counted.told.form);
         };
         let part = RestOfInput {
-            text: &self.bytes[counted.reader.end..self.filled],
+            text: &self.input.bytes()[counted.reader.end..],
             lines: counted.reader.lines,
         };
         alone(alloc, counted.told.form, part, fault)
@@ -179,25 +169,16 @@ pub(crate) fn take_checked<A: Allocator + Copy, I: InputStream>(
         (GivesSoFar I.remaining I.takes input.old input.new) explanation.old.items explanation.new.items) }
 {
     let mut held = Held::new(alloc, is_all, form);
-    for _steps in 0..MOST_READS {
-        match take_piece(input, &mut held.bytes, held.filled, STEP_ROOM)? {
-            Taken::Bytes(count) => {
-                held.gain(alloc, count)?;
-                if held.counted.is_done() {
-                    return held.conclude(alloc, false, explanation);
-                }
-            }
-            Taken::Interrupted => {}
-            Taken::End => {
-                held.finish(alloc, false)?;
-                return held.conclude(alloc, false, explanation);
-            }
-            Taken::Failed => {
-                held.finish(alloc, true)?;
-                return held.conclude(alloc, true, explanation);
-            }
+    loop {
+        let ending = held.input.take(input, STEP_ROOM)?;
+        if !ending.is_open() {
+            let is_broken = ending.is_broken();
+            held.finish(alloc, is_broken)?;
+            return held.conclude(alloc, is_broken, explanation);
+        }
+        held.gain(alloc)?;
+        if held.counted.is_done() {
+            return held.conclude(alloc, false, explanation);
         }
     }
-    held.finish(alloc, true)?;
-    held.conclude(alloc, true, explanation)
 }

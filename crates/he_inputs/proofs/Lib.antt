@@ -3,7 +3,10 @@ mod EndLines
 mod FirstFaults
 mod FormKinds
 mod GroupFaults
+pub mod HeldInputLaws
 mod Mending
 mod OneInput
+mod OneRaceLaws
 mod OpenLines
 pub mod RaceReadingLaws
+pub mod RaceStreamLaws

@@ -262,6 +262,11 @@ pub err_handed : {A E : Type 0} (r : Result A E) (e : E) (Wrong : E → Type 0) 
 err_handed (Ok x) e Wrong told wrong = tt
 err_handed (Err k) e Wrong told wrong = subst Wrong (sym told.1) wrong
 
+-- a fault that is handed on
+pub handed : {A E : Type 0} (Tells : Result A E → Type 0) (r : Result A E) (e : E) → IsErr r × IsErrAnd r (λ k. k ≡ e) → Tells (Err e) → Tells r
+handed Tells (Ok x) e told tells = absurd told.1
+handed {E} Tells (Err k) e told tells = subst (λ (f : E). Tells (Err f)) (sym told.1) tells
+
 -- one more race after the first one
 pub more_behind : (input : List ℕ) (first old new : RaceReader) (race : Race) → HasFirst input first old → IsWithin input new → PassesRace input old new race → HasFirst input first new
 more_behind input first old new race before within passes =

@@ -1,6 +1,7 @@
 -- What an input of races has: races, and what is wrong after them.
-use Rattle.std.specs.Prelude.{ℕ, ◌≡◌, ◌≢◌, ◌≤◌, ◌+◌, ◌==◌, ◌++◌, ⊤, Bool, true, false, List, [], ◌∷◌, length, count_by, ◌⊎◌, Option, Some, None}
+use Rattle.std.specs.Prelude.{ℕ, ◌≡◌, ◌≢◌, ◌≤◌, ◌+◌, ◌==◌, ◌++◌, ⊤, Bool, true, false, List, [], ◌∷◌, length, count_by, ◌⊎◌, Option, Some, None, Result, Ok, Err}
 use Rattle.he_timeline.specs.Race.{Race}
+use Rattle.he_words.specs.declared.fault.TextFault.{TextFault}
 use Rattle.he_words.specs.declared.fault.TextKind.{TextKind}
 use Rattle.he_words.specs.declared.fault.TextKind.TheVariants as kinds
 use Rattle.he_inputs.specs.declared.input_fault.InputFault.{InputFault}
@@ -60,3 +61,33 @@ abbrev pub IsNotOne : List ℕ → Bool → NotOneRace → Type 0
 IsNotOne input is_broken (faults.Fault fault) = (races : List Race) × HasRaces input is_broken races (Some fault)
 IsNotOne input is_broken faults.Count = (races : List Race) × HasRaces input is_broken races None × (length races ≢ 1)
 IsNotOne input is_broken faults.Memory = ⊤
+
+-- the input was given, and is this one race
+pub record GivesOne (Given : List ℕ → Bool → Type 0) (race : Race) : Type 0 where
+  pub input : List ℕ
+  pub is_broken : Bool
+  pub given : Given input is_broken
+  pub one : HasRaces input is_broken (race ∷ []) None
+
+-- the input was given, and is not one race, for this reason
+pub record GivesNone (Given : List ℕ → Bool → Type 0) (why : NotOneRace) : Type 0 where
+  pub input : List ℕ
+  pub is_broken : Bool
+  pub given : Given input is_broken
+  pub none : IsNotOne input is_broken why
+
+-- of the input these bytes were taken, and no more; no input that begins with them is one race, for this fault
+pub record StopsNone (Taken : List ℕ → Type 0) (fault : TextFault) : Type 0 where
+  pub input : List ℕ
+  pub taken : Taken input
+  pub none : (more : List ℕ) (is_broken : Bool) → IsNotOne (input ++ more) is_broken (faults.Fault (Text fault))
+
+-- Given: what the input gave, and whether it broke off after that; Taken: what was taken of an input that was not read
+-- further
+abbrev pub TakesOne : (List ℕ → Bool → Type 0) → (List ℕ → Type 0) → Result Race NotOneRace → Type 0
+TakesOne Given Taken (Ok race) = GivesOne Given race
+TakesOne Given Taken (Err (faults.Fault (Text fault))) =
+    GivesNone Given (faults.Fault (Text fault)) ⊎ StopsNone Taken fault
+TakesOne Given Taken (Err (faults.Fault Read)) = GivesNone Given (faults.Fault Read)
+TakesOne Given Taken (Err faults.Count) = GivesNone Given faults.Count
+TakesOne Given Taken (Err faults.Memory) = ⊤

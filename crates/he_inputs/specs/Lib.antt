@@ -1,6 +1,9 @@
 pub mod Beginnings
 pub mod FirstFault
+pub mod HeldInputs
 pub mod Inputs
 pub mod RaceReading
 pub mod RaceReadingSteps
+pub mod RaceStreamSteps
+pub mod RaceStreams
 pub mod StreamFaults

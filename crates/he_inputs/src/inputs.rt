@@ -2,14 +2,19 @@
 ghost use Rattle.std.specs.Prelude.{ℕ, List, Bool, Option, ◌≡◌, [], ◌∷◌, None, false, IfOk, IfErr};
 ghost use Rattle.he_timeline.specs.Race.{Race};
 ghost use Rattle.he_inputs.specs.declared.input_fault.InputFault.{InputFault};
-ghost use Rattle.he_inputs.specs.Inputs.{HasRaces, IsNotOne};
+ghost use Rattle.he_stream.specs.Input.{Gives, GivesSoFar};
+ghost use Rattle.he_inputs.specs.Inputs.{HasRaces, IsNotOne, TakesOne};
+ghost use Rattle.he_inputs.specs.RaceStreams.{HasHanded};
+ghost use Rattle.he_inputs.specs.RaceStreamSteps.{TakesBehind};
 ghost use Rattle.he_inputs.specs.RaceReadingSteps.{HasFirst, not_one};
 ghost use Rattle.he_inputs.specs.RaceReading.{HasPassed};
 
 use crate::input_fault::InputFault;
 use crate::laws::one_race_first;
 use crate::race_reader::{Ending, RaceReader, RaceReaderFault};
+use crate::race_stream::RaceStream;
 use he_reading::laws::begins_where_no_fault;
+use he_stream::InputStream;
 use he_timeline::Timeline;
 use std::alloc::Allocator;
 use std::mem::drop;
@@ -85,6 +90,53 @@ fn check_behind<A: Allocator + Copy>(
         drop(other);
     }
     if reader.races == 1 {
+        Ok(())
+    } else {
+        Err(NotOneRace::Count)
+    }
+}
+
+/// Takes an input to its end, step by step, and answers its race, where it has one race and nothing else. It holds no
+/// more of the input than a [`RaceStream`] does, and the race.
+///
+/// # Errors
+///
+/// Those of [`read_one_race`]. After a fault of the text that stands whatever follows the input is not read further.
+pub fn take_one_race<A: Allocator + Copy, I: InputStream>(
+    alloc: A,
+    input: &mut I,
+) -> Result<Timeline<A>, NotOneRace>
+    ensures { TakesOne (Gives I.remaining I.takes input.old input.new)
+        (GivesSoFar I.remaining I.takes input.old input.new) result }
+{
+    let mut stream = RaceStream::new(alloc);
+    let Some(race) = stream.next(alloc, input)? else {
+        return Err(NotOneRace::Count);
+    };
+    match take_behind(alloc, &mut stream, input) {
+        Ok(()) => Ok(race),
+        Err(fault) => {
+            drop(race);
+            Err(fault)
+        }
+    }
+}
+
+// Whether nothing follows the first race of an input, which the stream has handed out.
+fn take_behind<A: Allocator + Copy, I: InputStream>(
+    alloc: A,
+    stream: &mut RaceStream<A>,
+    input: &mut I,
+) -> Result<(), NotOneRace>
+    ensures { (first : I) (race : Race) (front : List ℕ)
+        → HasHanded I.InputStream first input.old stream.old (race ∷ []) front
+        → TakesBehind (Gives I.remaining I.takes first input.new) (GivesSoFar I.remaining I.takes first input.new) race
+        result }
+{
+    while let Some(other) = stream.next(alloc, input)? {
+        drop(other);
+    }
+    if stream.races() == 1 {
         Ok(())
     } else {
         Err(NotOneRace::Count)

@@ -1,6 +1,8 @@
 //! Inputs of races, read one race after the other while their bytes come.
 //!
-//! [`RaceReader`] passes the races of an input; [`read_one_race`] reads an input that is to have one race.
+//! [`RaceStream`] takes an input step by step and hands out its races; [`HeldInput`] is what it holds of the input.
+//! [`RaceReader`] passes the races of bytes that are there. [`read_one_race`] reads an input that is to have one race,
+//! and [`take_one_race`] takes one step by step.
 //! [`StreamFault`] is why work on a stream of timelines stopped.
 //!
 //! Proved: the reader returns the races and the first fault of the input (`specs/Inputs`), and of bytes that may go on
@@ -10,13 +12,17 @@
 #![tactic(auto)]
 
 mod changes;
+pub mod held_input;
 pub mod input_fault;
 pub mod inputs;
 pub mod laws;
 pub mod race_reader;
+pub mod race_stream;
 pub mod stream_fault;
 
+pub use held_input::HeldInput;
 pub use input_fault::InputFault;
-pub use inputs::{NotOneRace, read_one_race};
+pub use inputs::{NotOneRace, read_one_race, take_one_race};
 pub use race_reader::{Ending, RaceReader, RaceReaderFault};
+pub use race_stream::RaceStream;
 pub use stream_fault::StreamFault;

@@ -1,7 +1,9 @@
 //! Reading the races of an input one after the other.
-ghost use Rattle.std.specs.Prelude.{◌≡◌, ◌+◌, ◌^◌, ◌<◌, None, IfErr, IfOk};
+ghost use Rattle.std.specs.Prelude.{◌≡◌, ◌↔◌, ◌+◌, ◌^◌, ◌<◌, None, IfErr, IfOk, IsTrue};
 ghost use Rattle.he_inputs.specs.Inputs.{fault_behind};
 ghost use Rattle.he_inputs.specs.RaceReadingSteps.{StopsAt, breaks};
+ghost use Rattle.he_inputs.specs.declared.race_reader.Ending.TheVariants.{Open};
+ghost use Rattle.he_inputs.specs.declared.race_reader.RaceReaderFault.TheVariants.{Memory};
 ghost use Rattle.he_inputs.specs.RaceReading.{EndsAt, IsNextOf, IsReaderFault, IsWithin, ending_of};
 
 use crate::changes::may_change;
@@ -11,7 +13,7 @@ use he_reading::read_first;
 use he_timeline::Timeline;
 use he_words::limits::MOST_RACES;
 use he_words::{TextFault, TextKind};
-use std::alloc::Allocator;
+use std::alloc::{AllocError, Allocator};
 
 /// What follows the bytes of an input that are there.
 #[derive(Clone, Copy, Debug, PartialEq, Eq)]
@@ -35,6 +37,20 @@ impl Ending {
             Ending::Whole
         }
     }
+
+    /// Whether more may follow.
+    pub fn is_open(self) -> bool
+        ensures { IsTrue result ↔ (self ≡ Open) }
+    {
+        matches!(self, Ending::Open)
+    }
+
+    /// Whether it broke off.
+    pub fn is_broken(self) -> bool
+        ensures { result ≡ breaks self }
+    {
+        matches!(self, Ending::Broken)
+    }
 }
 
 /// Why a reader stops.
@@ -44,6 +60,14 @@ pub enum RaceReaderFault {
     Input(InputFault),
     /// An allocation was refused.
     Memory,
+}
+
+impl From<AllocError> for RaceReaderFault {
+    ghost from_gives = { λ _ fault. fault ≡ Memory };
+
+    fn from(_refused: AllocError) -> RaceReaderFault {
+        RaceReaderFault::Memory
+    }
 }
 
 /// How far a reader of the bytes of an input has come. It may begin after bytes that are there no more.

@@ -2,17 +2,17 @@
 use Rattle.std.proofs.Common.{◌≡◌, Option, Some, None, Ok, IsSomeAnd, subst}
 use Rattle.he_timeline.specs.Race.{Race}
 use Rattle.he_timeline.specs.Building.{unrecorded}
-use Rattle.he_race.specs.Heard.{Tells}
-use Rattle.he_race.specs.OfSource.{IsOfSource, MayGive, ReplaysHeard}
-use Rattle.he_race.specs.Resolving.{ReplaysGiven}
+use Rattle.he_turns.specs.Heard.{Tells}
+use Rattle.he_turns.specs.OfSource.{IsOfSource, MayGive, ReplaysHeard}
+use Rattle.he_turns.specs.Resolving.{ReplaysGiven}
 use Rattle.he_addr.specs.declared.ip.Ip.{Ip}
-use Rattle.he_race.specs.Turns.{GivesOf, Replays}
-use Rattle.he_race.specs.Winner.{EndsAt, WinnerGoes}
+use Rattle.he_turns.specs.Turns.{GivesOf, Replays}
+use Rattle.he_turns.specs.Winner.{EndsAt, WinnerGoes}
 use Rattle.he_live.specs.Dials.{goes_to}
 use Rattle.he_live.specs.declared.dialed.Dialed.{Dialed}
 use Rattle.he_live.specs.declared.endpoint.Endpoint.{Endpoint}
-use Rattle.he_race.specs.declared.live.Live.{Live}
-use Rattle.he_race.specs.declared.live.Raced.{Raced}
+use Rattle.he_turns.specs.declared.live.Live.{Live}
+use Rattle.he_turns.specs.declared.live.Raced.{Raced}
 
 pub gives_record : {C Conn Run : Type 0} (reaches : Ip → Conn → Type 0) (live : Option (Live C Conn Run)) (race : Race) (raced : Raced Conn)
     → IsSomeAnd live (λ x. x.recorder.recorded ≡ unrecorded race) → GivesOf reaches live (Ok raced) → EndsAt Replays reaches race raced

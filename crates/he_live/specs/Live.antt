@@ -5,7 +5,7 @@ use Rattle.he_timeline.specs.Changes.{ChangeValues, changed}
 use Rattle.he_timeline.specs.Race.{Race}
 use Rattle.he_plan.specs.Transcript.{IsTranscript, Report}
 use Rattle.he_plan.specs.declared.transcript.Outcome3.{Outcome3}
-use Rattle.he_inputs.specs.Inputs.{HasRaces, IsNotOne}
+use Rattle.he_inputs.specs.Inputs.{GivesNone, GivesOne, StopsNone}
 use Rattle.he_write.specs.Written.{timeline_text, transcript_text}
 use Rattle.he_inputs.specs.declared.input_fault.InputFault.TheVariants as inputs
 use Rattle.he_inputs.specs.declared.inputs.NotOneRace.{NotOneRace}
@@ -47,20 +47,6 @@ fault_of_input (ones.Fault inputs.Read) = faults.Read
 fault_of_input ones.Count = faults.OneRace
 fault_of_input ones.Memory = faults.Memory
 
--- the input was given, and is this one race
-pub record GivesOne (Given : List ℕ → Bool → Type 0) (race : Race) : Type 0 where
-  pub input : List ℕ
-  pub is_broken : Bool
-  pub given : Given input is_broken
-  pub one : HasRaces input is_broken (race ∷ []) None
-
--- the input was given, and is not one race, for this reason
-pub record GivesNone (Given : List ℕ → Bool → Type 0) (why : NotOneRace) : Type 0 where
-  pub input : List ℕ
-  pub is_broken : Bool
-  pub given : Given input is_broken
-  pub none : IsNotOne input is_broken why
-
 -- the input is one race, and this is the text of a run of it with the changes of its settings, of which this is told,
 -- and which ended so
 pub record GivesText (Given : List ℕ → Bool → Type 0) (changes : ChangeValues) (text : List ℕ) (told : LiveReport)
@@ -69,24 +55,25 @@ pub record GivesText (Given : List ℕ → Bool → Type 0) (changes : ChangeVal
   pub given : GivesOne Given race
   pub run : IsLiveText (changed changes race) text told result
 
--- Given: what the input gave, and whether it broke off after that; Whole and Part: the text of which all was put into
+-- Given: what the input gave, and whether it broke off after that; Taken: what was taken of an input that was not read
+-- further; Whole and Part: the text of which all was put into
 -- the output and then flushed, or a first part until that failed; Kept: nothing was put into the output; told: what is
 -- told of the run.
 -- A run's text is written whole, and how it ended is told; a fault of the input, of the event loop or of memory
 -- comes before any of it is.
-abbrev pub Lives : (List ℕ → Bool → Type 0) → (List ℕ → Type 0) → (List ℕ → Type 0) → Type 0 → ChangeValues
+abbrev pub Lives : (List ℕ → Bool → Type 0) → (List ℕ → Type 0) → (List ℕ → Type 0) → (List ℕ → Type 0) → Type 0 → ChangeValues
     → LiveReport → Result Outcome3 LiveFault → Type 0
-Lives Given Whole Part Kept changes told (Ok result) =
+Lives Given Taken Whole Part Kept changes told (Ok result) =
     (text : List ℕ) × GivesText Given changes text told result × Whole text
-Lives Given Whole Part Kept changes told (Err (faults.Text fault)) =
-    GivesNone Given (ones.Fault (inputs.Text fault)) × Kept
-Lives Given Whole Part Kept changes told (Err faults.OneRace) = GivesNone Given ones.Count × Kept
-Lives Given Whole Part Kept changes told (Err faults.Read) = GivesNone Given (ones.Fault inputs.Read) × Kept
-Lives Given Whole Part Kept changes told (Err faults.Write) =
+Lives Given Taken Whole Part Kept changes told (Err (faults.Text fault)) =
+    (GivesNone Given (ones.Fault (inputs.Text fault)) ⊎ StopsNone Taken fault) × Kept
+Lives Given Taken Whole Part Kept changes told (Err faults.OneRace) = GivesNone Given ones.Count × Kept
+Lives Given Taken Whole Part Kept changes told (Err faults.Read) = GivesNone Given (ones.Fault inputs.Read) × Kept
+Lives Given Taken Whole Part Kept changes told (Err faults.Write) =
     (text : List ℕ) × (result : Outcome3) × GivesText Given changes text told result × Part text
-Lives Given Whole Part Kept changes told (Err faults.Runtime) = (race : Race) × GivesOne Given race × Kept
-Lives Given Whole Part Kept changes told (Err faults.Files) = (race : Race) × GivesOne Given race × Kept
-Lives Given Whole Part Kept changes told (Err faults.Memory) = Kept
+Lives Given Taken Whole Part Kept changes told (Err faults.Runtime) = (race : Race) × GivesOne Given race × Kept
+Lives Given Taken Whole Part Kept changes told (Err faults.Files) = (race : Race) × GivesOne Given race × Kept
+Lives Given Taken Whole Part Kept changes told (Err faults.Memory) = Kept
 
 -- after a fault before the race was run to its end, what is told is as it was
 abbrev pub KeepsReport : LiveReport → LiveReport → Result Outcome3 LiveFault → Type 0

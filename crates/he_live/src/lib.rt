@@ -39,13 +39,13 @@
 //!
 //! - What [`live_race`] gives replays, whatever the sockets and the clock did: its transcript is the one that the
 //!   rules of a race make of its record; the record has the given settings, policy, host, answers and what is known of
-//!   addresses from earlier; and there is a winner's stream exactly where the race was won (`Replays` of `he_race`).
+//!   addresses from earlier; and there is a winner's stream exactly where the race was won (`Replays` of `he_turns`).
 //!   Its faults are `Runtime`, `Files` and `Memory` alone.
 //! - The winner's connection was asked for at the address of the transcript's line that won and the given port, over
 //!   the given interface where that is a link-local address of IPv6, and over none else (`goes_to` in `specs/Dials`).
 //! - What [`resolving_race_on`] gives replays likewise, for every source: its record has the given settings, policy
 //!   and answers, begins with the given host and history, and has of the other families what the source answered
-//!   (`ReplaysGiven` and `IsOfSource` of `he_race`).
+//!   (`ReplaysGiven` and `IsOfSource` of `he_turns`).
 //! - [`live`] writes the transcript's text and then the record's, of the input's one race with the given changes of
 //!   its settings, and hands out the record's text; it makes all of it before it writes the first byte, and after any
 //!   fault but `Write` nothing was written. `Text`, `Read` and `OneRace` come only where the input has this fault

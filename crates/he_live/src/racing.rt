@@ -1,9 +1,9 @@
 //! A race on real sockets.
 ghost use Rattle.std.specs.Prelude.{IfErr, IfOk};
-ghost use Rattle.he_race.specs.OfSource.{IsOfSource};
-ghost use Rattle.he_race.specs.Resolving.{ReplaysGiven};
-ghost use Rattle.he_race.specs.Turns.{Replays};
-ghost use Rattle.he_race.specs.Winner.{WinnerGoes};
+ghost use Rattle.he_turns.specs.OfSource.{IsOfSource};
+ghost use Rattle.he_turns.specs.Resolving.{ReplaysGiven};
+ghost use Rattle.he_turns.specs.Turns.{Replays};
+ghost use Rattle.he_turns.specs.Winner.{WinnerGoes};
 ghost use Rattle.he_timeline.specs.Building.{unrecorded};
 ghost use Rattle.he_live.specs.Dials.{at_port, goes_to};
 ghost use Rattle.he_live.specs.Live.{IsRunFault};
@@ -14,8 +14,8 @@ use crate::endpoint::Endpoint;
 use crate::fault::LiveFault;
 use crate::sockets::TcpConnector;
 use crate::steps::{Quiet, Steps, Watcher};
-use he_race::{AnswerSource, RaceFault, RaceFuture, Raced, ResolvingRace};
 use he_timeline::Timeline;
+use he_turns::{AnswerSource, RaceFault, RaceFuture, Raced, ResolvingRace};
 use std::alloc::{AllocGlobal, Allocator, Global};
 use std::net::Net;
 use std::random::RandomSource;

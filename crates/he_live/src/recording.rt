@@ -1,21 +1,21 @@
 //! A race of an input, run on real sockets and recorded.
 ghost use Rattle.std.specs.Prelude.{◌≡◌, [], IfErr, IfOk};
-ghost use Rattle.he_stream.specs.Input.{Gives};
+ghost use Rattle.he_stream.specs.Input.{Gives, GivesSoFar};
 ghost use Rattle.he_stream.specs.Output.{PutsPart, PutsWhole};
 ghost use Rattle.he_write.specs.Written.{timeline_text};
 ghost use Rattle.he_live.specs.Live.{IsLiveText, IsRunFault, KeepsReport, Lives};
-ghost use Rattle.he_live.specs.Reading.{IsTold, ReadsOne};
+ghost use Rattle.he_live.specs.Reading.{IsTold};
 
 use crate::dialed::Dialed;
 use crate::failures::{FailedAttempt, failed_attempts};
 use crate::fault::LiveFault;
 use crate::racing::live_race;
 use crate::steps::Steps;
-use he_inputs::{NotOneRace, read_one_race};
+use he_inputs::take_one_race;
 use he_plan::Outcome3;
-use he_race::Raced;
-use he_stream::{InputStream, OutputStream, take_input, write_whole};
+use he_stream::{InputStream, OutputStream, write_whole};
 use he_timeline::{Changes, Timeline};
+use he_turns::Raced;
 use he_write::{write_timeline, write_transcript};
 use std::alloc::{AllocGlobal, Global};
 use std::mem::drop;
@@ -51,7 +51,8 @@ impl LiveReport {
 /// ([`live_race`]), and writes its transcript and then its record, a timeline that replays to this transcript. Answers
 /// how the race ended.
 ///
-/// Of the input's race the settings, policy, host, answers and what is known of addresses from earlier are looked at
+/// The input is taken step by step, and read to its end, or up to a fault that nothing mends which follows. Of its race
+/// the settings, policy, host, answers and what is known of addresses from earlier are looked at
 /// alone. The whole output is made before the first byte of it is written: after `Write` a first part was written,
 /// after any other fault nothing. It is flushed at the end. Where the race was run, also if it could not be written,
 /// `report` has then its record and its attempts that failed; else it is as it was.
@@ -79,12 +80,13 @@ where
     I: InputStream,
     O: OutputStream,
     ensures done { Lives (Gives I.remaining I.takes input.old input.new)
+        (GivesSoFar I.remaining I.takes input.old input.new)
         (PutsWhole O.contents O.puts O.flushes output.old output.new)
         (PutsPart O.contents O.puts O.flushes output.old output.new) (output.new ≡ output.old) changes report.new
         result }
     ensures quiet { KeepsReport report.old report.new result }
 {
-    let timeline = take_race(alloc, input)?.with_changes(changes);
+    let timeline = take_one_race(alloc, input)?.with_changes(changes);
     let run = run_race(rt, alloc, &timeline, port);
     drop(timeline);
     let run = run?;
@@ -92,16 +94,6 @@ where
     match write_whole(output, run.text.as_slice()) {
         Ok(()) => Ok(run.ended),
         Err(_) => Err(LiveFault::Write),
-    }
-}
-
-// Reads the race of an input to its end.
-fn take_race<I: InputStream>(alloc: Global, input: &mut I) -> Result<Timeline, NotOneRace>
-    ensures { ReadsOne (Gives I.remaining I.takes input.old input.new) result }
-{
-    match take_input(alloc, input) {
-        Ok(given) => read_one_race(alloc, &given.bytes, given.is_broken),
-        Err(_) => Err(NotOneRace::Memory),
     }
 }
 

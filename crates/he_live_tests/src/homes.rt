@@ -3,9 +3,9 @@
 use he_inputs::read_one_race;
 use he_live::{Dialed, LiveFault, Reason, Steps, live_race, live_race_on};
 use he_plan::{Mark, Outcome3, Transcript};
-use he_race::Raced;
-use he_replay::{Content, TextRequest, replay};
 use he_stream::{FromReader, ToWriter};
+use he_streaming::{Content, TextRequest, replay};
+use he_turns::Raced;
 use he_write::{write_timeline, write_transcript};
 use std::alloc::AllocGlobal;
 use std::mem::drop;

@@ -5,7 +5,7 @@ use futures::task::{Context, Poll};
 use he_addr::Family;
 use he_inputs::read_one_race;
 use he_live::{Endpoint, Quiet, Reason, ResolvingRequest, Steps, resolving_race_on};
-use he_race::{Answer, AnswerSource};
+use he_turns::{Answer, AnswerSource};
 use std::mem::drop;
 use std::net::Net;
 use std::test::Fail;

@@ -10,7 +10,7 @@ use he_live::{
     Dialed, Endpoint, Quiet, Reason, ResolvingRequest, Step, StepKind, Steps, Watcher,
     resolving_race_on,
 };
-use he_race::{Answer, AnswerSource, nothing_known};
+use he_turns::{Answer, AnswerSource, nothing_known};
 use std::alloc::Global;
 use std::cell::Cell;
 use std::io;

@@ -1,24 +1,24 @@
 -- One race more of an input is summed, and how its reading ends.
-use Rattle.std.proofs.Common.{ℕ, ◌≡◌, ◌+◌, ◌-◌, ◌≤◌, ◌<◌, Bool, true, false, List, [], ◌∷◌, ◌++◌, length, drop, take, Option, Some, None, Result, Ok, Err, IsErr, IsErrAnd, refl, sym, ◌∙◌, ap, subst, append_assoc, arith}
-use Rattle.std.specs.List.{slice_range}
-use Rattle.std.proofs.Math.Seq.{take-add}
+use Rattle.std.proofs.Common.{ℕ, ◌≡◌, ◌+◌, Bool, true, false, List, [], ◌∷◌, ◌++◌, length, Option, Some, None, Ok, Err, inl, inr, refl, sym, ◌∙◌, ap, subst, append_assoc, arith, length-append}
 use Rattle.std.proofs.lemmas.Grind.{flat_map-append}
-use Rattle.std.proofs.lemmas.List.{append-nil, map-append, take-append-drop}
+use Rattle.std.proofs.lemmas.List.{append-nil, map-append}
 use Rattle.he_timeline.specs.Changes.{ChangeValues}
 use Rattle.he_timeline.specs.Race.{Race}
 use Rattle.he_reading.specs.Text.{IsRaceText}
+use Rattle.he_stream.specs.declared.stream.InputStream as inputs
+use Rattle.he_stream.specs.Input.{Gives, GivesSoFar}
 use Rattle.he_inputs.specs.Inputs.{HasRaces, line_count}
+use Rattle.he_inputs.specs.RaceStreams.{EndsRaces, HandsNext, StopsRaces, StreamState, at_start}
 use Rattle.he_inputs.specs.StreamFaults.{fault_of_reader}
-use Rattle.he_inputs.specs.RaceReading.{IsReaderFault, IsWithin, ending_of}
 use Rattle.he_inputs.specs.declared.input_fault.InputFault.{InputFault}
-use Rattle.he_inputs.specs.declared.input_fault.InputFault.TheVariants as inputs
-use Rattle.he_inputs.specs.declared.race_reader.RaceReader.{RaceReader}
+use Rattle.he_inputs.specs.declared.input_fault.InputFault.TheVariants as faults
 use Rattle.he_inputs.specs.declared.race_reader.RaceReaderFault.{RaceReaderFault}
 use Rattle.he_inputs.specs.declared.race_reader.RaceReaderFault.TheVariants as readers
-use Rattle.he_inputs.proofs.RaceReadingLaws.{has_fault, has_none, line_count-append, none_passed, passes_on}
+use Rattle.he_inputs.proofs.RaceReadingLaws.{line_count-append}
+use Rattle.he_inputs.proofs.RaceStreamLaws.{none_handed}
 use Rattle.he_summary.specs.Kept.{Run, kept_of}
-use Rattle.he_summary.specs.Steps.{AddsNext, AddsRuns, EndsReading, HasRead}
-use Rattle.he_summary.specs.Summed.{Adds, AreRows, AreRuns, HasAdded, HasSummed, IsRow, Sums, all_tries}
+use Rattle.he_summary.specs.Steps.{AddsNext, AddsRace, AddsRuns, HasRead}
+use Rattle.he_summary.specs.Summed.{AddsAll, AreRows, AreRuns, HasAdded, HasSummed, IsRow, Sums, all_tries}
 use Rattle.he_summary.specs.Tries.{AreTallies, Try, tries_of}
 use Rattle.he_summary.specs.declared.kept.Kept.{Kept}
 use Rattle.he_summary.specs.declared.kept.Place.{Place}
@@ -33,7 +33,7 @@ rows_on race place row (one ∷ settings) (first ∷ runs) changes run are is =
     (are.0, rows_on race place (row + 1) settings runs changes run are.1 (record { row_is = let at = is.row_is in omega arith; place_is = is.place_is; race_is = is.race_is; transcript = is.transcript }))
 
 -- the rows of one race more after those of the others
-runs_on : (settings : List ChangeValues) (file before lines : ℕ) (races : List Race) (text : List ℕ) (runs : List Run) → AreRuns settings file before lines races text runs
+pub runs_on : (settings : List ChangeValues) (file before lines : ℕ) (races : List Race) (text : List ℕ) (runs : List Run) → AreRuns settings file before lines races text runs
     → (race : Race) (last : List ℕ) → IsRaceText last race → (number line : ℕ) (rows : List Run) → number ≡ before + length races + 1 → line ≡ lines + line_count text + 1
     → AreRows race (record { file = file; number = number; line = line }) 0 settings rows → AreRuns settings file before lines (races ++ race ∷ []) (text ++ last) (runs ++ rows)
 runs_on settings file before lines [] text runs (none, nothing) race last is number line rows numbered lined are =
@@ -64,12 +64,6 @@ runs_on settings file before lines (one ∷ races) text runs (first, more, front
       runs_on settings file (before + 1) (lines + line_count first) races more later rest race last is number line rows next behind are,
     )
 
--- up to the end of a range: up to its start, and the range
-take_to : (input : List ℕ) (from end : ℕ) → from ≤ end → take end input ≡ take from input ++ slice_range input from end
-take_to input from end le =
-    let sum : end ≡ from + (end - from) = omega arith in
-    ap (λ (n : ℕ). take n input) sum ∙ take-add from (end - from) input
-
 -- one run more
 pub summed_on : (old new : Sums) (run : Run) (kept : Kept) (before : List Run) → new.kept ≡ old.kept ++ kept ∷ [] → kept ≡ kept_of run
     → ((tries : List Try) → AreTallies tries old.tallies → AreTallies (tries ++ tries_of run) new.tallies) → HasSummed old before → HasSummed new (before ++ run ∷ [])
@@ -90,76 +84,61 @@ adds_on front back first old new some more = record {
   sums = λ before has. subst (HasSummed new) (append_assoc before front back) (more.sums (before ++ front) (some.sums before has));
 }
 
-pub none_walked : (file : ℕ) (input : List ℕ) (sums : Sums) → IsWithin input (record { end = 0; races = 0; lines = 0 })
-    → HasRead file input (record { end = 0; races = 0; lines = 0 }) sums sums
-none_walked file input sums within = record { races = []; added = []; passed = none_passed input 0 0; within = within; are = (refl, refl); adds = nothing_added sums }
+module _ {I : Type 0} (file : ℕ) (input : inputs.Ghosts I) (first : I)
+  where
+    unfoldable pub none_read : (sums : Sums) → HasRead file input first first at_start sums sums
+    none_read sums = record { races = []; front = []; added = []; handed = none_handed input first; are = (refl, refl); adds = nothing_added sums }
 
-pub one_more : (file : ℕ) (input : List ℕ) (is_broken : Bool) (before after : RaceReader) (first old new : Sums) → HasRead file input before first old
-    → AddsNext file input is_broken before after old new (Ok true) → HasRead file input after first new × (length input - after.end < length input - before.end)
-one_more file input is_broken before after first old new walked (race, passes, within, (rows, are, adds)) =
-    let past = passes.past in
-    let place = passes.within in
-    let counted = walked.passed.counted in
-    let lined = walked.passed.lined in
-    let number = passes.counted in
-    let split : take after.end input ≡ take before.end input ++ slice_range input before.end after.end = take_to input before.end after.end (omega arith) in
-    let rows_are = subst (λ (settings : List ChangeValues). AreRows race (record { file = file; number = after.races; line = before.lines + 1 }) 0 settings rows) walked.adds.settings are in
-    let all = runs_on first.settings file 0 0 walked.races (take before.end input) walked.added walked.are race (slice_range input before.end after.end) passes.read after.races (before.lines + 1) rows (omega arith) (omega arith) rows_are in (
-      record {
-        races = walked.races ++ race ∷ [];
-        added = walked.added ++ rows;
-        passed = passes_on input 0 0 walked.races before after race walked.passed passes;
-        within = within;
-        are = subst (λ (text : List ℕ). AreRuns first.settings file 0 0 (walked.races ++ race ∷ []) text (walked.added ++ rows)) (sym split) all;
-        adds = adds_on walked.added rows first old new walked.adds adds;
-      },
-      omega arith,
-    )
+    module _ (before last : I) (stream next : StreamState) (start old : Sums) (read : HasRead file input first before stream start old)
+      where
+        -- one race more
+        unfoldable pub one_more : (race : Race) → HandsNext input first last next read.races read.front (Ok (Some race)) → (number line : ℕ) → number ≡ next.races → line ≡ stream.lines + 1
+            → (new : Sums) → AddsRace race (record { file = file; number = number; line = line }) old new → HasRead file input first last next start new
+        one_more race (text, is, handed) number line numbered lined new (rows, are, adds) =
+            let counted = handed.counted in
+            let before_it = read.handed.lined in
+            let longer = length-append read.races (race ∷ []) in
+            let rows_are = subst (λ (settings : List ChangeValues). AreRows race (record { file = file; number = number; line = line }) 0 settings rows) read.adds.settings are in
+            record {
+              races = read.races ++ race ∷ [];
+              front = read.front ++ text;
+              added = read.added ++ rows;
+              handed = handed;
+              are = runs_on start.settings file 0 0 read.races read.front read.added read.are race text is number line rows (omega arith) (omega arith) rows_are;
+              adds = adds_on read.added rows start old new read.adds adds;
+            }
 
--- what was read up to here is added
-ended : (file : ℕ) (input : List ℕ) (is_broken : Bool) (reader : RaceReader) (first old new : Sums) (fault : Option InputFault) → (walked : HasRead file input reader first old) → new ≡ old
-    → HasRaces input is_broken walked.races fault → HasAdded file input is_broken first new fault
-ended file input is_broken reader first old new fault walked same has =
-    let adds = subst (AddsRuns walked.added first) (sym same) walked.adds in
-    record {
-      races = walked.races;
-      has = has;
-      front = take reader.end input;
-      rest = drop reader.end input;
-      parts = sym (take-append-drop reader.end input);
-      added = walked.added;
-      are = walked.are;
-      settings = adds.settings;
-      sums = adds.sums;
-    }
+        -- the races so far are all of an input
+        pub all_added : (whole : List ℕ) (is_broken : Bool) (rest : List ℕ) (fault : Option InputFault) → whole ≡ read.front ++ rest → HasRaces whole is_broken read.races fault → HasAdded file whole is_broken start old fault
+        all_added whole is_broken rest fault parts has = record {
+          races = read.races;
+          has = has;
+          front = read.front;
+          rest = rest;
+          parts = parts;
+          added = read.added;
+          are = read.are;
+          settings = read.adds.settings;
+          sums = read.adds.sums;
+        }
 
-pub ends : (file : ℕ) (input : List ℕ) (is_broken : Bool) (before after : RaceReader) (first old new : Sums) → HasRead file input before first old
-    → AddsNext file input is_broken before after old new (Ok false) → EndsReading file input is_broken first new (Ok (record {}))
-ends file input is_broken before after first old new walked (same, end) =
-    ended file input is_broken before first old new None walked same (has_none input is_broken walked.races before walked.passed walked.within.few end)
+        ends_all : (fault : Option InputFault) → EndsRaces (Gives input.remaining input.takes first last) read.races read.front fault
+            → AddsAll file (Gives input.remaining input.takes first last) start old fault
+        ends_all fault ends = (read.front ++ ends.rest, ends.is_broken, ends.given, all_added (read.front ++ ends.rest) ends.is_broken ends.rest fault refl ends.has)
 
-pub fails : (file : ℕ) (input : List ℕ) (is_broken : Bool) (before after : RaceReader) (first old new : Sums) (fault : RaceReaderFault) → HasRead file input before first old
-    → AddsNext file input is_broken before after old new (Err fault) → EndsReading file input is_broken first new (Err fault)
-fails file input is_broken before after first old new (readers.Input fault) walked (same, is) =
-    ended file input is_broken before first old new (Some fault) walked same (has_fault input is_broken walked.races before fault walked.passed walked.within.few is)
-fails file input is_broken before after first old new readers.Memory walked is = tt
+        -- nothing is left of it
+        pub ends : HandsNext input first last next read.races read.front (Ok None) → AddsNext file input first last next start old (Ok false)
+        ends none = ends_all None none
 
-pub stops : (file : ℕ) (input : List ℕ) (is_broken : Bool) (before after : RaceReader) (sums : Sums) (fault : RaceReaderFault) → IsReaderFault input (ending_of is_broken) before fault
-    → AddsNext file input is_broken before after sums sums (Err fault)
-stops file input is_broken before after sums (readers.Input fault) is = (refl, is)
-stops file input is_broken before after sums readers.Memory is = tt
-
-pub adds : (file : ℕ) (Given : List ℕ → Bool → Type 0) (input : List ℕ) (is_broken : Bool) (old new : Sums) → Given input is_broken
-    → EndsReading file input is_broken old new (Ok (record {})) → Adds file Given old new (Ok (record {}))
-adds file Given input is_broken old new given has = (input, is_broken, given, has)
-
-pub adds_to : (file : ℕ) (Given : List ℕ → Bool → Type 0) (input : List ℕ) (is_broken : Bool) (old new : Sums) (fault : RaceReaderFault) → Given input is_broken
-    → EndsReading file input is_broken old new (Err fault) → Adds file Given old new (Err (fault_of_reader fault))
-adds_to file Given input is_broken old new (readers.Input (inputs.Text fault)) given has = (input, is_broken, given, has)
-adds_to file Given input is_broken old new (readers.Input inputs.Read) given has = (input, is_broken, given, has)
-adds_to file Given input is_broken old new readers.Memory given has = tt
-
--- a fault that `?` hands on
-pub handed : {A E : Type 0} (r : Result A E) (fault : E) (Tells : Result A E → Type 0) → IsErr r × IsErrAnd r (λ k. k ≡ fault) → Tells (Err fault) → Tells r
-handed (Ok x) fault Tells told tells = absurd told.1
-handed {A} {E} (Err k) fault Tells told tells = subst (λ (f : E). Tells (Err f)) (sym told.1) tells
+        -- a fault ends it
+        pub fails : (fault : RaceReaderFault) → HandsNext input first last next read.races read.front (Err fault) → AddsNext file input first last next start old (Err (fault_of_reader fault))
+        fails (readers.Input (faults.Text fault)) (inl ends) = inl (ends_all (Some (faults.Text fault)) ends)
+        fails (readers.Input (faults.Text fault)) (inr stops) =
+            inr (
+              read.front ++ stops.rest,
+              stops.taken,
+              λ more is_broken.
+                  all_added ((read.front ++ stops.rest) ++ more) is_broken (stops.rest ++ more) (Some (faults.Text fault)) (append_assoc read.front stops.rest more) (stops.has more is_broken),
+            )
+        fails (readers.Input faults.Read) ends = ends_all (Some faults.Read) ends
+        fails readers.Memory handed = tt

@@ -1,5 +1,5 @@
 -- The races that are summed.
-use Rattle.std.specs.Prelude.{ℕ, ◌≡◌, ◌+◌, ◌++◌, ⊤, Bool, List, [], ◌∷◌, map, Option, Some, None, Result, Ok, Err}
+use Rattle.std.specs.Prelude.{ℕ, ◌≡◌, ◌⊎◌, ◌+◌, ◌++◌, ⊤, Bool, List, [], ◌∷◌, map, Option, Some, None, Result, Ok, Err}
 use Rattle.std.specs.List.{flat_map}
 use Rattle.he_addr.specs.declared.ip.Ip.{Ip}
 use Rattle.he_timeline.specs.Changes.{ChangeValues, changed}
@@ -73,9 +73,18 @@ abbrev pub AddsAll : ℕ → (List ℕ → Bool → Type 0) → Sums → Sums �
 AddsAll file Given old new fault =
     (input : List ℕ) × (is_broken : Bool) × Given input is_broken × HasAdded file input is_broken old new fault
 
-abbrev pub Adds : ℕ → (List ℕ → Bool → Type 0) → Sums → Sums → Result (Unit {0}) StreamFault → Type 0
-Adds file Given old new (Ok done) = AddsAll file Given old new None
-Adds file Given old new (Err (Text fault)) = AddsAll file Given old new (Some (inputs.Text fault))
-Adds file Given old new (Err Read) = AddsAll file Given old new (Some inputs.Read)
-Adds file Given old new (Err Write) = ⊥
-Adds file Given old new (Err Memory) = ⊤
+-- Taken: what was taken of an input that was not read further. Every input that begins with that has these races and
+-- this fault.
+abbrev pub AddsSure : ℕ → (List ℕ → Type 0) → Sums → Sums → InputFault → Type 0
+AddsSure file Taken old new fault =
+    (input : List ℕ) × Taken input
+    × ((more : List ℕ) (is_broken : Bool) → HasAdded file (input ++ more) is_broken old new (Some fault))
+
+abbrev pub Adds : ℕ → (List ℕ → Bool → Type 0) → (List ℕ → Type 0) → Sums → Sums → Result (Unit {0}) StreamFault
+    → Type 0
+Adds file Given Taken old new (Ok done) = AddsAll file Given old new None
+Adds file Given Taken old new (Err (Text fault)) =
+    AddsAll file Given old new (Some (inputs.Text fault)) ⊎ AddsSure file Taken old new (inputs.Text fault)
+Adds file Given Taken old new (Err Read) = AddsAll file Given old new (Some inputs.Read)
+Adds file Given Taken old new (Err Write) = ⊥
+Adds file Given Taken old new (Err Memory) = ⊤

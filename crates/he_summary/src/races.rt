@@ -1,20 +1,25 @@
 //! The races of some inputs, each with the settings of one or more rows.
 ghost use Rattle.std.specs.Prelude.{◌≡◌, ◌<◌, [], ◌∷◌, length, slice_get, Some, IfOk, OnOk};
-ghost use Rattle.he_stream.specs.Input.{Gives};
+ghost use Rattle.he_stream.specs.Input.{Gives, GivesSoFar};
 ghost use Rattle.he_summary.specs.Steps.{AddsRace, AddsRuns};
 ghost use Rattle.he_summary.specs.Summed.{Adds, HasSummed};
 ghost use Rattle.he_summary.specs.Tries.{AreRanked};
 
-use crate::adding::add_races;
+use crate::adding::add_next;
 use crate::kept::{Kept, Place};
 use crate::tallies::{Tallies, Tally};
+use bumpalo::Bump;
 use he_addr::{Ip, Memory};
-use he_inputs::StreamFault;
+use he_inputs::{RaceStream, StreamFault};
 use he_plan::{Transcript, transcript_of};
-use he_stream::{InputStream, WholeInput, take_input};
+use he_stream::InputStream;
 use he_timeline::{Changes, Timeline};
 use std::alloc::Allocator;
 use std::marker::Model;
+
+// The bytes that the arena has at first in which a race and its transcripts are kept while it is added. No race is kept
+// when the next one is read, which takes the arena's memory again.
+const ARENA_BYTES: usize = 65_536;
 
 /// What is kept of the races of some inputs, each of which runs with the settings of each row: a [`Kept`] for each
 /// race and row, and a tally for each address to which an attempt was made.
@@ -48,54 +53,44 @@ impl<A: Allocator + Copy> Races<A> {
         }
     }
 
-    /// Reads an input of timelines to its end, and adds its races, as those of the file of this place among all.
+    /// Takes an input of timelines to its end, and adds its races, as those of the file of this place among all. The
+    /// stream begins anew with it, in the memory of the input before.
     ///
-    /// The input is held, and one race with its transcript.
+    /// No more is held than the stream holds, and one race with its transcripts.
     ///
     /// # Errors
     ///
     /// The races before a fault of the input are added.
     ///
     /// - `Text` where the input is no timeline text, with its first fault, its line counted over the whole input from
-    ///   1.
+    ///   1. The input is not read further where nothing that follows mends it.
     /// - `Read` where a step of the input failed before a fault of the text was found, or the bound of 4,294,967,296
     ///   steps was reached.
     /// - `Memory` where an allocation was refused. Nothing is known of the races then: they may be dropped.
-    pub fn add<I: InputStream>(&mut self, file: usize, input: &mut I) -> Result<(), StreamFault>
-        ensures { Adds file (Gives I.remaining I.takes input.old input.new) self.old self.new result }
-    {
-        let given = take_input(self.alloc, input)?;
-        add_races(
-            self.alloc,
-            file,
-            given.bytes.as_slice(),
-            given.is_broken,
-            self,
-        )?;
-        Ok(())
-    }
-
-    /// The same with an input that was read whole.
-    pub fn add_given<B: Allocator>(
+    pub fn add<I: InputStream>(
         &mut self,
         file: usize,
-        given: &WholeInput<B>,
+        stream: &mut RaceStream<A>,
+        input: &mut I,
     ) -> Result<(), StreamFault>
-        ensures { Adds file (λ input is_broken. (input ≡ given.now.bytes.items)
-            × (is_broken ≡ given.now.is_broken)) self.old self.new result }
+        ensures { Adds file (Gives I.remaining I.takes input.old input.new)
+            (GivesSoFar I.remaining I.takes input.old input.new) self.old self.new result }
     {
-        add_races(
-            self.alloc,
-            file,
-            given.bytes.as_slice(),
-            given.is_broken,
-            self,
-        )?;
+        stream.restart();
+        let mut arena = Bump::try_with_capacity(self.alloc, ARENA_BYTES)?;
+        while add_next(&arena, file, stream, input, self)? {
+            // An arena that can't be reset is no fault: it grows.
+            let _ = arena.reset();
+        }
         Ok(())
     }
 
-    // Adds a race, which runs with the settings of each row.
-    pub(crate) fn add_race<B: Allocator + Copy, C: Allocator>(
+    /// Adds a race, which runs with the settings of each row. Its transcripts stand in the arena.
+    ///
+    /// # Errors
+    ///
+    /// `Memory` where an allocation was refused. Nothing is known of the races then.
+    pub fn add_race<B: Allocator + Copy, C: Allocator>(
         &mut self,
         arena: B,
         place: Place,

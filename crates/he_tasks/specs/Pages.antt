@@ -1,57 +1,107 @@
 -- What is written of a page: the parts that its texts have, and the totals that end it.
-use Rattle.std.specs.Prelude.{◌≡◌, ◌≢◌, ◌⊎◌, ◌-◌, ℕ, Bool, List, [], ◌∷◌, max, Option, Some, None, option_map, Result, Err}
+use Rattle.std.specs.Prelude.{◌≡◌, ◌⊎◌, ◌-◌, ℕ, Bool, List, [], ◌∷◌, ◌++◌, max, Option, Some, None, option_map, Result, Ok, Err}
 use Rattle.he_timeline.specs.Changes.{ChangeValues}
 use Rattle.he_draw.specs.Page.{totals_facts}
 use Rattle.he_draw.specs.declared.totals.Times.{Times}
 use Rattle.he_draw.specs.declared.totals.Totals.{Totals as PageTotals}
+use Rattle.he_words.specs.declared.fault.TextFault.{TextFault}
 use Rattle.he_inputs.specs.declared.input_fault.InputFault.{InputFault}
 use Rattle.he_inputs.specs.declared.stream_fault.StreamFault.{StreamFault}
-use Rattle.he_inputs.specs.declared.stream_fault.StreamFault.TheVariants.{Memory, Write}
+use Rattle.he_inputs.specs.declared.input_fault.InputFault.TheVariants as faults
+use Rattle.he_inputs.specs.declared.stream_fault.StreamFault.TheVariants.{Text, Read, Write, Memory}
 use Rattle.he_print.specs.Parts.{States}
-use Rattle.he_replay.specs.Output.{IsOutput, IsTextWith}
-use Rattle.he_replay.specs.declared.race_texts.Content.TheVariants as contents
-use Rattle.he_replay.specs.declared.race_texts.Printer.TheVariants as printers
+use Rattle.he_streaming.specs.Known.{Stands}
+use Rattle.he_streaming.specs.Output.{AreTold, IsOutput, IsTextWith, TextRelation}
+use Rattle.he_streaming.specs.Stream.{PutsSome}
+use Rattle.he_streaming.specs.declared.race_texts.Content.TheVariants as contents
+use Rattle.he_streaming.specs.declared.race_texts.Printer.TheVariants as printers
 use Rattle.he_stream.specs.declared.stream.InputStream as inputs
 use Rattle.he_stream.specs.declared.stream.OutputStream as outputs
-use Rattle.he_summary.specs.Summed.{Adds, Sums}
+use Rattle.he_inputs.specs.RaceStreams.{StreamState}
+use Rattle.he_summary.specs.Steps.{HasRead}
+use Rattle.he_summary.specs.Summed.{HasAdded, Sums}
 use Rattle.he_summary.specs.Totals.{AreTotals}
 use Rattle.he_summary.specs.declared.kept.Ending.{Ending}
 use Rattle.he_summary.specs.declared.kept.Ending.TheVariants as endings
 use Rattle.he_summary.specs.declared.kept.Kept.{Kept}
 use Rattle.he_summary.specs.declared.times.Spread.{Spread}
 use Rattle.he_summary.specs.declared.totals.Totals.{Totals}
-use Rattle.he_tasks.specs.Streams.{Gave, PutsText, TookAll, TookPart}
+use Rattle.he_tasks.specs.Streams.{Gave, GaveSoFar, PutsText, TookRounds, TookRoundsPart}
 use Rattle.he_tasks.specs.declared.reports.TheConstants.{FAULT}
 
--- the races of these bytes were added, as those of this place, up to their first fault; or there was no memory for
--- them, and there are no sums from here on
-abbrev pub AddsGiven : ℕ → List ℕ → Bool → Option Sums → Option Sums → Result (Unit {0}) StreamFault → Type 0
-AddsGiven place bytes is_broken (Some old) (Some new) result =
-    Adds place (λ input broken. (input ≡ bytes) × (broken ≡ is_broken)) old new result × (result ≢ Err Memory)
-AddsGiven place bytes is_broken None (Some new) result = ⊥
-AddsGiven place bytes is_broken old None result = result ≡ Err Memory
+-- the input was given, whole or up to where it broke off: a text of each of its races, up to its first fault, was put,
+-- and these races were added, as those of this file
+pub record PutsAll (file : ℕ) (IsText : TextRelation) (Given : List ℕ → Bool → Type 0) (Put : List ℕ → Type 0)
+    (old new : Sums) (fault : Option InputFault) : Type 0 where
+  pub input : List ℕ
+  pub is_broken : Bool
+  pub given : Given input is_broken
+  pub text : List ℕ
+  pub output : IsOutput IsText input is_broken text fault
+  pub added : HasAdded file input is_broken old new fault
+  pub put : Put text
 
--- the text has of each race of the bytes, up to their first fault, its part of a page
-abbrev pub AreSections : ℕ → ChangeValues → List ℕ → Bool → List ℕ → Type 0
-AreSections place changes bytes is_broken text =
-    (fault : Option InputFault)
-    × IsOutput (IsTextWith (contents.Course (printers.Section place)) changes None) bytes is_broken text fault
+-- of the input these bytes were taken, and no more: so it is of every input that begins with them
+pub record PutsSure (file : ℕ) (IsText : TextRelation) (Taken : List ℕ → Type 0) (Put : List ℕ → Type 0)
+    (old new : Sums) (fault : TextFault) : Type 0 where
+  pub input : List ℕ
+  pub taken : Taken input
+  pub text : List ℕ
+  pub output : Stands IsText input text fault
+  pub added : (more : List ℕ) (is_broken : Bool)
+      → HasAdded file (input ++ more) is_broken old new (Some (faults.Text fault))
+  pub put : Put text
 
--- the input gave these bytes, their sections were put, and their races added; or the output failed, and there are no
--- sums from here on
-abbrev pub PutsGiven : {I O : Type 0} → inputs.Ghosts I → outputs.Ghosts O → ChangeValues → I → I → O × Option Sums
-    → O × Option Sums → Result (Unit {0}) StreamFault → Type 0
-PutsGiven input output changes first last before after result =
-    (place : ℕ) × (bytes : List ℕ) × (is_broken : Bool) × Gave input first last bytes is_broken
-    × (text : List ℕ) × AreSections place changes bytes is_broken text
-    × ((TookAll output before.0 after.0 text × AddsGiven place bytes is_broken before.1 after.1 result)
-    ⊎ (TookPart output before.0 after.0 text × (after.1 ≡ None) × (result ≡ Err Write)))
+-- Given: what the input gave, and whether it broke off after that; Taken: what was taken of an input that was not read
+-- further; Put and Part: the text of which all was put in rounds, or a first part until that failed. Where the output
+-- failed, or memory was refused, a first part of the texts of some first races was put.
+abbrev pub PutsRaces : ℕ → TextRelation → (List ℕ → Bool → Type 0) → (List ℕ → Type 0) → (List ℕ → Type 0)
+    → (List ℕ → Type 0) → Sums → Sums → Result (Unit {0}) StreamFault → Type 0
+PutsRaces file IsText Given Taken Put Part old new (Ok done) = PutsAll file IsText Given Put old new None
+PutsRaces file IsText Given Taken Put Part old new (Err (Text fault)) =
+    PutsAll file IsText Given Put old new (Some (faults.Text fault)) ⊎ PutsSure file IsText Taken Put old new fault
+PutsRaces file IsText Given Taken Put Part old new (Err Read) =
+    PutsAll file IsText Given Put old new (Some faults.Read)
+PutsRaces file IsText Given Taken Put Part old new (Err Write) = PutsSome IsText Given Taken Part
+PutsRaces file IsText Given Taken Put Part old new (Err Memory) =
+    (text left : List ℕ) × PutsSome IsText Given Taken (λ whole. (whole ≡ text ++ left) × Put text)
 
--- or there was no memory for that, and nothing was put
+abbrev pub PutsParts : {I O : Type 0} → inputs.Ghosts I → outputs.Ghosts O → ℕ → TextRelation → I → I → O → O → Sums
+    → Sums → Result (Unit {0}) StreamFault → Type 0
+PutsParts input output file IsText first last before after =
+    PutsRaces file IsText (Gave input first last) (GaveSoFar input first last) (TookRounds output before after)
+    (TookRoundsPart output before after)
+
+-- the part of a page that a race of the text of this place has
+abbrev pub IsPart : ℕ → ChangeValues → TextRelation
+IsPart place changes = IsTextWith (contents.Course (printers.Section place)) changes None
+
+-- there are sums of the races, unless the output failed or memory was refused: then there are none from here on
+abbrev pub KeepsSums : (Sums → Type 0) → Option Sums → Result (Unit {0}) StreamFault → Type 0
+KeepsSums Put None (Err Write) = (new : Sums) × Put new
+KeepsSums Put None (Err Memory) = (new : Sums) × Put new
+KeepsSums Put None result = ⊥
+KeepsSums Put (Some new) (Err Write) = ⊥
+KeepsSums Put (Some new) (Err Memory) = ⊥
+KeepsSums Put (Some new) result = Put new
+
+-- the parts of the races of a text were put, and the races added; or there are no sums any more, and nothing was done
 abbrev pub PutsSections : {I O : Type 0} → inputs.Ghosts I → outputs.Ghosts O → ChangeValues → I → I → O × Option Sums
     → O × Option Sums → Result (Unit {0}) StreamFault → Type 0
-PutsSections input output changes first last before after result =
-    PutsGiven input output changes first last before after result ⊎ ((after ≡ before) × (result ≡ Err Memory))
+PutsSections input output changes first last (before, None) after result =
+    (after ≡ (before, None)) × (last ≡ first) × (result ≡ Err Memory)
+PutsSections input output changes first last (before, Some old) after result =
+    (place : ℕ)
+    × KeepsSums (λ new. PutsParts input output place (IsPart place changes) first last before after.0 old new result)
+    after.1 result
+
+-- Mirrors the code: the races that a stream handed out are added, and of their text all but the end is put
+pub record HasPut {I O : Type 0} (input : inputs.Ghosts I) (output : outputs.Ghosts O) (file : ℕ) (IsText : TextRelation)
+    (first last : I) (stream : StreamState) (before after : O) (old new : Sums) (left : List ℕ) : Type 0 where
+  pub read : HasRead file input first last stream old new
+  pub text : List ℕ
+  pub told : AreTold IsText 1 1 read.races read.front (text ++ left)
+  pub put : TookRounds output before after text
 
 abbrev pub end_of : Ending → ℕ
 end_of (endings.Won ip tick) = tick

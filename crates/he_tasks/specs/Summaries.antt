@@ -24,7 +24,7 @@ use Rattle.he_request.specs.declared.texts.Task.TheVariants.{Compare, Group, Sum
 use Rattle.he_request.specs.declared.texts.Content.TheVariants.{Section}
 use Rattle.he_request.specs.declared.texts.Texts.{Texts}
 use Rattle.he_tasks.specs.Pages.{PutsTail}
-use Rattle.he_tasks.specs.Streams.{Gave, PutsText}
+use Rattle.he_tasks.specs.Streams.{Gave, GaveSoFar, PutsText}
 use Rattle.he_tasks.specs.declared.reports.TheConstants.{DONE, FAULT}
 
 -- whether races are kept, for what ends the output: a comparison, a summary, or the totals of a page
@@ -51,7 +51,8 @@ rows_of texts = rows_by texts.task texts
 abbrev pub AddsSums : {I : Type 0} → inputs.Ghosts I → I → I → Option Sums → Option Sums
     → Result (Unit {0}) StreamFault → Type 0
 AddsSums input first last (Some old) (Some new) result =
-    (place : ℕ) × Adds place (Gave input first last) old new result × (result ≢ Err Memory)
+    (place : ℕ) × Adds place (Gave input first last) (GaveSoFar input first last) old new result
+    × (result ≢ Err Memory)
 AddsSums input first last None (Some new) result = ⊥
 AddsSums input first last old None result = result ≡ Err Memory
 

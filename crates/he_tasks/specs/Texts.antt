@@ -3,12 +3,12 @@ use Rattle.std.specs.Prelude.{◌≡◌, ◌≢◌, ◌⊎◌, ◌++◌, ℕ, Bo
 use Rattle.std.specs.Borrow.{Bor}
 use Rattle.he_check.specs.Stream.{Checks, IsObject, PutsObject}
 use Rattle.he_timeline.specs.Changes.{ChangeValues}
-use Rattle.he_draw.specs.Page.{HasName}
+use Rattle.he_draw.specs.Page.{name_text}
 use Rattle.he_draw.specs.declared.look.Look.TheVariants as looks
-use Rattle.he_replay.specs.Stream.{Replays}
-use Rattle.he_replay.specs.declared.race_texts.Content.{Content}
-use Rattle.he_replay.specs.declared.race_texts.Content.TheVariants as contents
-use Rattle.he_replay.specs.declared.race_texts.Printer.TheVariants as printers
+use Rattle.he_streaming.specs.Stream.{Replays}
+use Rattle.he_streaming.specs.declared.race_texts.Content.{Content}
+use Rattle.he_streaming.specs.declared.race_texts.Content.TheVariants as contents
+use Rattle.he_streaming.specs.declared.race_texts.Printer.TheVariants as printers
 use Rattle.he_stream.specs.declared.stream.InputStream as inputs
 use Rattle.he_stream.specs.declared.stream.OutputStream as outputs
 use Rattle.he_inputs.specs.declared.stream_fault.StreamFault.{StreamFault}
@@ -26,7 +26,7 @@ use Rattle.he_tasks.specs.Summaries.{AddsSums}
 use Rattle.he_tasks.specs.declared.name.Name.{Name}
 use Rattle.he_tasks.specs.declared.reports.TheConstants.{DONE, FAULT}
 
--- what he_replay writes of a race where this is asked for, of the text of this place
+-- what he_streaming writes of a race where this is asked for, of the text of this place
 abbrev pub content_of : ℕ → Asked → Content
 content_of place (asked.Transcript json) = if json then contents.TranscriptJson else contents.Transcript
 content_of place (asked.Order json) = if json then contents.OrderJson else contents.Order
@@ -95,7 +95,7 @@ heading_of name _ = None
 
 -- how it stands there
 abbrev pub IsHeading : Task → List ℕ → List ℕ → Type 0
-IsHeading (Write asked.Section workers) name text = HasName name text
+IsHeading (Write asked.Section workers) name text = text ≡ name_text name
 IsHeading task name text = text ≡ name_line name
 
 -- whether there are several, so that they have headings

@@ -1,20 +1,28 @@
 //! A page: its head, what its texts have of it, and the totals that end it.
 ghost use Rattle.std.specs.Prelude.{ℕ, ◌≡◌, ◌⊎◌, IfOk, List, OnErr, OnOk};
-ghost use Rattle.he_tasks.specs.Pages.{AddsGiven, ArePageTotals, IsTail, PutsSections, PutsTail, end_of, last_end, page_times};
+ghost use Rattle.he_streaming.specs.Rounds.{IsAsked};
+ghost use Rattle.he_tasks.specs.Pages.{ArePageTotals, IsTail, PutsParts, PutsSections, PutsTail, end_of, last_end, page_times};
 ghost use Rattle.he_tasks.specs.Streams.{TookAll, TookPart};
 
 use crate::reports::report;
 use crate::session::{Session, put_all, put_text};
+use bumpalo::Bump;
 use he_addr::Memory;
 use he_draw::{Times, Totals, write_head, write_tail};
 use he_inputs::StreamFault;
-use he_replay::{Content, Printer, TextRequest, write_races};
-use he_stream::{InputStream, OutputStream, WholeInput, take_input};
-use he_summary::{Ending, Kept, Races, Spread};
+use he_stream::{InputStream, OutputStream};
+use he_streaming::{Content, Printer, TextRequest};
+use he_summary::{Ending, Kept, Place, Races, Spread};
 use he_timeline::Changes;
 use std::alloc::Global;
 use std::io::Write;
 use std::mem::drop;
+
+// The bytes that the arena has at first in which a race is kept while it is added and written.
+const ARENA_BYTES: usize = 65_536;
+
+// The bytes of the parts of races that are put at a time, or more.
+const PARTS_BYTES: usize = 65_536;
 
 // Puts what begins a page.
 pub(crate) fn put_head<O: OutputStream>(alloc: Global, output: &mut O) -> Result<(), StreamFault>
@@ -27,8 +35,8 @@ pub(crate) fn put_head<O: OutputStream>(alloc: Global, output: &mut O) -> Result
     put_text(&head, output)
 }
 
-// Puts the parts of a page that the races of a text have, and adds these races to those whose totals end the page. The
-// text is read whole first, since both go through it. After a fault of the output there are no sums, and so no totals.
+// Puts the parts of a page that the races of a text have, and adds these races to those whose totals end the page.
+// After a fault of the output, and where there was no memory for a race, there are no sums, and so no totals.
 pub(crate) fn put_sections<R, I: InputStream, O: OutputStream, F>(
     session: &mut Session<'_, '_, R, O, F>,
     changes: Changes,
@@ -38,39 +46,63 @@ pub(crate) fn put_sections<R, I: InputStream, O: OutputStream, F>(
     ensures { PutsSections I.InputStream O.OutputStream changes input.old input.new (session.old.output, sums.old)
         (session.new.output, sums.new) result }
 {
+    let Some(mut races) = sums.take() else {
+        return Err(StreamFault::Memory);
+    };
     let place = session.place;
     let asked = TextRequest {
         content: Content::Course(Printer::Section { text: place }),
         changes,
         file: None,
     };
-    let given = take_input(session.alloc, input)?;
-    let bytes = given.bytes.as_slice();
-    let (text, _) = write_races(session.alloc, &asked, bytes, given.is_broken)?;
-    if let Err(fault) = put_text(&text, &mut session.output) {
-        *sums = None;
-        return Err(fault);
-    }
-    add_given(place, &given, sums)
-}
-
-// Adds the races of a text to the sums. There are no sums after one for which there was no memory.
-fn add_given(
-    place: usize,
-    given: &WholeInput<Global>,
-    sums: &mut Option<Races<Global>>,
-) -> Result<(), StreamFault>
-    ensures { AddsGiven place given.now.bytes.items given.now.is_broken sums.old sums.new result }
-{
-    let Some(mut races) = sums.take() else {
-        return Err(StreamFault::Memory);
-    };
-    let end = races.add_given(place, given);
+    let end = put_parts(session, place, &asked, input, &mut races);
     match end {
-        Err(StreamFault::Memory) => drop(races),
-        _ => *sums = Some(races),
+        Ok(()) => *sums = Some(races),
+        Err(fault) => match fault {
+            StreamFault::Text(_) => *sums = Some(races),
+            StreamFault::Read => *sums = Some(races),
+            StreamFault::Write => drop(races),
+            StreamFault::Memory => drop(races),
+        },
     }
     end
+}
+
+// Puts what is asked for of each race of a text, some races at a time, and adds the race, before the next one is read.
+fn put_parts<R, I: InputStream, O: OutputStream, F>(
+    session: &mut Session<'_, '_, R, O, F>,
+    file: usize,
+    asked: &TextRequest<'_>,
+    input: &mut I,
+    races: &mut Races<Global>,
+) -> Result<(), StreamFault>
+    ensures { PutsParts I.InputStream O.OutputStream file (IsAsked asked.now) input.old input.new session.old.output
+        session.new.output races.old races.new result }
+{
+    session.stream.restart();
+    let mut arena = Bump::try_with_capacity(session.alloc, ARENA_BYTES)?;
+    let mut text = Vec::new(session.alloc);
+    loop {
+        let line = session.stream.lines() + 1;
+        match session.stream.next(&arena, input) {
+            Ok(Some(race)) => {
+                let number = session.stream.races();
+                races.add_race(&arena, Place { file, number, line }, &race)?;
+                asked.write(&arena, race, number, line, &mut text)?;
+            }
+            Ok(None) => return put_text(&text, &mut session.output),
+            Err(fault) => {
+                put_text(&text, &mut session.output)?;
+                return Err(fault.into());
+            }
+        }
+        if text.len() >= PARTS_BYTES {
+            put_text(&text, &mut session.output)?;
+            text.clear();
+        }
+        // An arena that can't be reset is no fault: it grows.
+        let _ = arena.reset();
+    }
 }
 
 // Ends a page by the totals of its races, and answers the exit status.

@@ -5,7 +5,7 @@ ghost use Rattle.he_tasks.specs.Streams.{PutsText, TookAll, TookPart};
 
 use crate::name::Name;
 use crate::reports::{DONE, FAULT, report_in, tell_reason};
-use he_inputs::StreamFault;
+use he_inputs::{RaceStream, StreamFault};
 use he_stream::{OutputStream, write_whole};
 use std::alloc::Global;
 use std::io::{ErrorKind, Write};
@@ -22,6 +22,8 @@ pub struct Session<'r, 'n, R, O, F> {
     pub faults: F,
     /// The file that the output is; None for standard output.
     pub file: Option<Name<'n>>,
+    /// The races of one input after the other, in the same memory.
+    pub stream: RaceStream<Global>,
     /// The place of the file that is read next, among all.
     pub place: usize,
     /// How many files were not read to their end.

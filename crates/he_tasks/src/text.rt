@@ -1,6 +1,6 @@
 //! What is written of one text of races, or reported of it.
 ghost use Rattle.std.specs.Prelude.{◌≡◌, IfOk, OnErr, OnOk, true};
-ghost use Rattle.he_draw.specs.Page.{HasName};
+ghost use Rattle.he_draw.specs.Page.{name_text};
 ghost use Rattle.he_json.specs.Documents.{name_of};
 ghost use Rattle.he_tasks.specs.Status.{status_of};
 ghost use Rattle.he_tasks.specs.Summaries.{AddsSums};
@@ -17,10 +17,10 @@ use crate::system::TaskSystem;
 use he_addr::Memory;
 use he_check::{check, check_json};
 use he_draw::write_name;
-use he_inputs::StreamFault;
-use he_replay::{TextRequest, replay};
+use he_inputs::{RaceStream, StreamFault};
 use he_request::{Content, Task, Texts};
 use he_stream::{InputStream, OutputStream};
+use he_streaming::{TextRequest, replay};
 use he_summary::Races;
 use std::alloc::{AllocError, Global};
 use std::io::Write;
@@ -116,7 +116,7 @@ fn name_line(alloc: Global, name: &str) -> Result<Vec<u8>, AllocError>
 }
 
 fn name_in_page(alloc: Global, name: &str) -> Result<Vec<u8>, Memory>
-    ensures { IfOk result (λ line. HasName name.now line.items) }
+    ensures { IfOk result (λ line. line.items ≡ name_text name.now) }
 {
     let mut line = Vec::new(alloc);
     write_name(name, &mut line)?;
@@ -162,7 +162,7 @@ fn run_task<R: TaskSystem, I: InputStream, O: OutputStream, F>(
             check_json(alloc, is_all, file, input, output)
         }
         Task::Compare { .. } | Task::Summarize { .. } | Task::Group { .. } => {
-            add_text(session.place, input, sums)
+            add_text(session.place, &mut session.stream, input, sums)
         }
     }
 }
@@ -187,6 +187,7 @@ fn file_of<'n>(name: Option<Name<'n>>) -> Option<&'n str>
 // memory.
 fn add_text<I: InputStream>(
     place: usize,
+    stream: &mut RaceStream<Global>,
     input: &mut I,
     sums: &mut Option<Races<Global>>,
 ) -> Result<(), StreamFault>
@@ -195,7 +196,7 @@ fn add_text<I: InputStream>(
     let Some(mut races) = sums.take() else {
         return Err(StreamFault::Memory);
     };
-    let end = races.add(place, input);
+    let end = races.add(place, stream, input);
     match end {
         Err(StreamFault::Memory) => drop(races),
         _ => *sums = Some(races),

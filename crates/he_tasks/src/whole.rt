@@ -12,7 +12,7 @@ use crate::session::{Session, report_unwritten};
 use crate::sums::end_texts;
 use crate::system::TaskSystem;
 use he_files::create_beside;
-use he_inputs::StreamFault;
+use he_inputs::{RaceStream, StreamFault};
 use he_request::shown::shown;
 use he_request::{Content, Task, Texts};
 use he_stream::{FromReader, InputStream, OutputStream, ToWriter};
@@ -90,6 +90,7 @@ fn fill_file<R: TaskSystem, I: InputStream, O: OutputStream, F: Write>(
             path,
             shown: shown.as_ref().map_or("", |shown| shown.as_str()),
         }),
+        stream: RaceStream::new(session.alloc),
         place: 0,
         unread: 0,
     };

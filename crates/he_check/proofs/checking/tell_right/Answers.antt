@@ -2,7 +2,7 @@ use Rattle.std.proofs.Common.{◌≡◌, ◌∙◌, ◌++◌, ℕ, List, ap}
 use Rattle.he_inputs.specs.declared.stream_fault.StreamFault.TheVariants as checks
 use Rattle.he_stream.specs.Output.{PutsPart, PutsWhole}
 use Rattle.he_check.specs.Steps.{TellsRight}
-use Rattle.he_check.proofs.Given.{handed}
+use Rattle.he_inputs.proofs.RaceReadingLaws.{handed}
 use Rattle.he_check.proofs.checking.tell_right.Goals as goal
 
 pub returns-in_err-write_whole-clause-told : goal.returns-in_err-write_whole-clause-told

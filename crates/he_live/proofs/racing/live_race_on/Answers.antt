@@ -1,5 +1,5 @@
 use Rattle.std.proofs.Common.{◌≡◌, rules, subst}
-use Rattle.he_race.specs.Turns.{GivesOf}
+use Rattle.he_turns.specs.Turns.{GivesOf}
 use Rattle.he_live.specs.Dials.{at_port, goes_to}
 use Rattle.he_live.proofs.Records.{gives_record, winner_at}
 use Rattle.he_live.proofs.racing.live_race_on.Goals as goal

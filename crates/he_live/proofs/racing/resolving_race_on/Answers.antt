@@ -1,5 +1,5 @@
 use Rattle.std.proofs.Common.{◌≡◌, rules, subst}
-use Rattle.he_race.specs.OfSource.{IsOfSource, MayGive}
+use Rattle.he_turns.specs.OfSource.{IsOfSource, MayGive}
 use Rattle.he_timeline.specs.Building.{unrecorded}
 use Rattle.he_live.specs.Dials.{goes_to}
 use Rattle.he_live.proofs.Records.{gives_heard, winner_at}

@@ -1,21 +1,18 @@
-use Rattle.std.proofs.Common.{refl}
-use Rattle.he_inputs.proofs.RaceReadingLaws.{none_behind}
+use Rattle.std.proofs.Common.{◌+◌, ap}
+use Rattle.he_inputs.proofs.RaceReadingLaws.{handed}
+use Rattle.he_inputs.specs.StreamFaults.{fault_of_reader}
 use Rattle.he_summary.specs.Steps.{AddsNext}
-use Rattle.he_summary.proofs.Walked.{handed, stops}
+use Rattle.he_summary.proofs.Walked.{fails, one_more}
 use Rattle.he_summary.proofs.adding.add_next.Goals as goal
 
-pub returns-in_err-race : goal.returns-in_err-race
-returns-in_err-race g c =
-    let is = rw c.of.ensures at c.in_err-race.ensures.fault in
-    handed c.from_residual.result c.in_err-race.field-0.0
-    (AddsNext c.args.file c.args.input.now c.args.is_broken c.args.reader.now c.next.new.self c.args.races.now c.args.races.now) c.from_residual.ensures
-    (stops c.args.file c.args.input.now c.args.is_broken c.args.reader.now c.next.new.self c.args.races.now c.in_err-race.field-0.0 is)
+pub returns-in_err-race-clause-added : goal.returns-in_err-race-clause-added
+returns-in_err-race-clause-added g c = λ first start read.
+    handed (AddsNext c.args.file g.I.InputStream first c.next.new.input c.next.new.self start c.args.races.now) c.from_residual.result (fault_of_reader c.in_err-race.field-0.0) c.from_residual.ensures
+    (fails c.args.file g.I.InputStream first c.args.input.now c.next.new.input c.args.stream.now c.next.new.self start c.args.races.now read c.in_err-race.field-0.0
+    (c.in_err-race.ensures.next first read.races read.front read.handed))
 
-pub returns-in_default : goal.returns-in_default
-returns-in_default g c =
-    let found = rw c.of.ensures at c.in_ok-race.ensures.found in
-    (refl, (none_behind c.args.input.now c.args.is_broken c.args.reader.now c.next.new.self c.in_ok-race.field-0 found c.in_default.not-Some).1)
-
-pub returns-in-Ok : goal.returns-in-Ok
-returns-in-Ok g c =
-    let passes = rw c.in-Some.is at c.in_ok-race.ensures.found in (c.in-Some.race, passes, c.in_ok-race.ensures.within, c.in-Ok.ensures)
+pub returns-in-Ok-clause-added : goal.returns-in-Ok-clause-added
+returns-in-Ok-clause-added g c = λ first start read.
+    let hands = c.in_ok-race.ensures.next first read.races read.front read.handed in
+    one_more c.args.file g.I.InputStream first c.args.input.now c.next.new.input c.args.stream.now c.next.new.self start c.args.races.now read c.in-Some.race (rw c.in-Some.is at hands)
+    c.races.result (c.lines-line.result + 1) c.races.ensures (ap (λ n. n + 1) c.lines-line.ensures.lines) c.add_race-added.new.self c.in-Ok.ensures

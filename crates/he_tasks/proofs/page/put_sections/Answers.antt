@@ -1,14 +1,28 @@
-use Rattle.std.proofs.Common.{inl, inr, refl, rules}
+use Rattle.std.proofs.Common.{◌∙◌, Err, subst, sym}
+use Rattle.he_tasks.proofs.PageParts.{IsKept, IsKeptBy, sections_kept, sections_lost}
 use Rattle.he_tasks.proofs.page.put_sections.Goals as goal
 
-pub returns-in-Err : goal.returns-in-Err
-returns-in-Err g c =
-    inl (
-      c.args.session.now.place,
-      c.in_ok-given.given.bytes.items,
-      c.in_ok-given.given.is_broken,
-      c.in_ok-given.ensures,
-      c.in_ok-text.text.items,
-      (c.in_ok-text.field-0-1, rw c.as_slice-bytes.ensures.value at c.in_ok-text.ensures),
-      inr (rw c.deref.ensures.value at c.in-Err.ensures.err, refl, search rules),
-    )
+pub returns-in-Ok : goal.returns-in-Ok
+returns-in-Ok g c =
+    sections_kept g.I.InputStream g.O.OutputStream c.args.changes c.args.input.now c.put_parts-end.new.input c.args.session.now.output c.put_parts-end.new.session.output c.args.session.now.place c.args.sums.now c.in-Some.races c.put_parts-end.new.races
+    (sym c.take.ensures.value ∙ c.in-Some.is) c.put_parts-end.result c.put_parts-end.ensures (subst IsKept (sym c.in-Ok.is) tt)
+
+pub returns-in-Text : goal.returns-in-Text
+returns-in-Text g c =
+    sections_kept g.I.InputStream g.O.OutputStream c.args.changes c.args.input.now c.put_parts-end.new.input c.args.session.now.output c.put_parts-end.new.session.output c.args.session.now.place c.args.sums.now c.in-Some.races c.put_parts-end.new.races
+    (sym c.take.ensures.value ∙ c.in-Some.is) (Err c.in-Err.fault) c.in-Err.ensures (subst IsKeptBy (sym c.in-Text.is) tt)
+
+pub returns-in-Read : goal.returns-in-Read
+returns-in-Read g c =
+    sections_kept g.I.InputStream g.O.OutputStream c.args.changes c.args.input.now c.put_parts-end.new.input c.args.session.now.output c.put_parts-end.new.session.output c.args.session.now.place c.args.sums.now c.in-Some.races c.put_parts-end.new.races
+    (sym c.take.ensures.value ∙ c.in-Some.is) (Err c.in-Err.fault) c.in-Err.ensures (subst IsKeptBy (sym c.in-Read.is) tt)
+
+pub returns-in-Write : goal.returns-in-Write
+returns-in-Write g c =
+    sections_lost g.I.InputStream g.O.OutputStream c.args.changes c.args.input.now c.put_parts-end.new.input c.args.session.now.output c.put_parts-end.new.session.output c.args.session.now.place c.args.sums.now c.in-Some.races c.put_parts-end.new.races
+    (sym c.take.ensures.value ∙ c.in-Some.is) c.take.new.self c.take.ensures.after (Err c.in-Err.fault) c.in-Err.ensures (λ kept. subst IsKeptBy c.in-Write.is kept)
+
+pub returns-in-Memory : goal.returns-in-Memory
+returns-in-Memory g c =
+    sections_lost g.I.InputStream g.O.OutputStream c.args.changes c.args.input.now c.put_parts-end.new.input c.args.session.now.output c.put_parts-end.new.session.output c.args.session.now.place c.args.sums.now c.in-Some.races c.put_parts-end.new.races
+    (sym c.take.ensures.value ∙ c.in-Some.is) c.take.new.self c.take.ensures.after (Err c.in-Err.fault) c.in-Err.ensures (λ kept. subst IsKeptBy c.in-Memory.is kept)
