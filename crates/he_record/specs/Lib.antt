@@ -1,0 +1,15 @@
+pub mod Adding
+pub mod Faults
+pub mod Forms
+pub mod FrontSearch
+pub mod Fronts
+pub mod Given
+pub mod Left
+pub mod MomentParts
+pub mod Moments
+pub mod Ranges
+pub mod Said
+pub mod Text
+pub mod Words
+pub mod Writing
+pub mod Written
