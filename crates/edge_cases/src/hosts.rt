@@ -8,12 +8,12 @@ use crate::files::read;
 use crate::ways;
 use he_host::host::{Files, find_host, find_routes};
 use he_host::interface::Interface;
-use he_host::lines::read_lines;
-use he_host::parts::field;
 use he_host::placing::Around;
 use he_host::remarks::write_remarks;
-use he_host::sysfs::{Sysfs, make_link};
-use he_host::writing::write_host;
+use he_kernel::lines::read_lines;
+use he_kernel::parts::field;
+use he_kernel::sysfs::{Sysfs, make_link};
+use he_kernel::writing::write_host;
 use std::alloc::Global;
 use std::io::{self, Write};
 

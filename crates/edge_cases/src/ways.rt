@@ -4,10 +4,10 @@
 //! `tunnel`, and after them lines `way DESTINATION SOURCE`, or `way DESTINATION none`.
 
 use he_addr::{read_ip, read_number, read_source, write_ip};
-use he_host::lines::read_lines;
-use he_host::parts::field;
-use he_host::ways::{TakenSource, Way, find_host_to, find_unsaid};
-use he_host::writing::write_host;
+use he_kernel::lines::read_lines;
+use he_kernel::parts::field;
+use he_kernel::ways::{TakenSource, Way, find_host_to, find_unsaid};
+use he_kernel::writing::write_host;
 use he_select::{Policy, Source};
 use std::alloc::Global;
 
@@ -61,11 +61,11 @@ pub fn written(alloc: Global, recording: &[u8]) -> Option<Vec<u8>> {
             ways.push(way).ok()?;
         }
     }
-    let found = find_host_to(alloc, &own, &ways).ok()?;
+    let host = find_host_to(alloc, &own, &ways).ok()?;
     let policy = Policy::standard(alloc).ok()?;
     let mut text = Vec::new(alloc);
-    write_host(&found.host, &mut text).ok()?;
-    for way in find_unsaid(alloc, &found.host, &policy, &ways).ok()?.iter() {
+    write_host(&host, &mut text).ok()?;
+    for way in find_unsaid(alloc, &host, &policy, &ways).ok()?.iter() {
         text.extend_from_slice(b"unsaid ").ok()?;
         write_ip(way.to, &mut text).ok()?;
         text.push(b'\n').ok()?;

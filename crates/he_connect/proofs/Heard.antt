@@ -7,11 +7,11 @@ use Rattle.he_addr.specs.declared.ip.Ip.{Ip}
 use Rattle.he_names.specs.declared.environment.Environment.{Environment}
 use Rattle.he_names.specs.declared.target.Target.{Target}
 use Rattle.he_plan.specs.Agreement.{AreAlike}
-use Rattle.he_race.specs.Heard.{AnswerLists, ips_of, with_told, cleaned as cleaned_again}
-use Rattle.he_race.specs.OfSource.{HearsAll, IsOfSource, SourcePoll}
+use Rattle.he_turns.specs.Heard.{AnswerLists, ips_of, with_told, cleaned as cleaned_again}
+use Rattle.he_turns.specs.OfSource.{HearsAll, IsOfSource, SourcePoll}
 use Rattle.he_resolver.specs.Begins.{BeginsFor, BeginsWith}
 use Rattle.he_resolver.specs.Heard.{Asked, BySystem, IsSound, Listed, Origin, Tells, Told, origin_of}
-use Rattle.he_resolver.specs.declared.choice.Choice.{Choice}
+use Rattle.he_settings.specs.declared.choice.Choice.{Choice}
 use Rattle.he_resolver.specs.declared.lookup.Lookup.{Lookup}
 use Rattle.he_resolver.specs.declared.lookup.Source.{Source}
 use Rattle.he_resolver.specs.declared.lookup.Source.TheVariants as sources

@@ -5,9 +5,9 @@ use Rattle.he_timeline.specs.Race.{Race}
 use Rattle.he_live.specs.Dials.{goes_to}
 use Rattle.he_live.specs.declared.dialed.Dialed.{Dialed}
 use Rattle.he_live.specs.declared.endpoint.Endpoint.{Endpoint}
-use Rattle.he_race.specs.declared.live.Raced.{Raced}
-use Rattle.he_race.specs.Resolving.{ReplaysGiven}
-use Rattle.he_race.specs.Winner.{GoesAt, WinnerGoes}
+use Rattle.he_turns.specs.declared.live.Raced.{Raced}
+use Rattle.he_turns.specs.Resolving.{ReplaysGiven}
+use Rattle.he_turns.specs.Winner.{GoesAt, WinnerGoes}
 use Rattle.he_write.specs.Written.{timeline_text}
 use Rattle.he_connect.specs.declared.request.ConnectRequest.{ConnectRequest}
 use Rattle.he_connect.specs.declared.request.Families.{Families}

@@ -4,19 +4,19 @@ use Rattle.std.specs.Prelude.{ℕ, ◌≡◌, ◌⊎◌, ⊤, Bool, true, false,
 use Rattle.he_addr.specs.declared.ip.Family.{Family}
 use Rattle.he_addr.specs.declared.ip.Ip.{Ip}
 use Rattle.he_dns.specs.Texts.{HostName}
-use Rattle.he_host.specs.Ways.{IsMachineTo}
-use Rattle.he_host.specs.declared.taken.TheConstants.{MOST_DESTINATIONS}
+use Rattle.he_kernel.specs.Ways.{IsMachineTo}
+use Rattle.he_kernel.specs.declared.taken.TheConstants.{MOST_DESTINATIONS}
 use Rattle.he_names.specs.Answers.{cleaned}
 use Rattle.he_names.specs.Targets.{Means}
 use Rattle.he_names.specs.declared.environment.Environment.{Environment}
 use Rattle.he_names.specs.declared.target.Target.{Target}
-use Rattle.he_race.specs.Heard.{AnswerLists, cleaned as cleaned_again}
+use Rattle.he_turns.specs.Heard.{AnswerLists, cleaned as cleaned_again}
 use Rattle.he_resolver.specs.Heard.{AreHeard, Asked, BySystem, IsSound, Listed, Origin, Tells, Told, origin_of}
-use Rattle.he_resolver.specs.Known.{AsksSystem, IsKnown}
-use Rattle.he_resolver.specs.Plans.{IsPlanFor}
-use Rattle.he_resolver.specs.declared.choice.Choice.{Choice}
+use Rattle.he_settings.specs.Known.{AsksSystem, IsKnown}
+use Rattle.he_settings.specs.Plans.{IsPlanFor}
+use Rattle.he_settings.specs.declared.choice.Choice.{Choice}
 use Rattle.he_resolver.specs.declared.lookup.Source.{Source}
-use Rattle.he_resolver.specs.declared.plan.QueryPlan.{QueryPlan}
+use Rattle.he_settings.specs.declared.plan.QueryPlan.{QueryPlan}
 use Rattle.he_select.specs.Selection.{nothing_known}
 use Rattle.he_timeline.specs.Race.{Race, Reply, reply_of}
 use Rattle.he_connect.specs.declared.source.HostAnswers.{HostAnswers}

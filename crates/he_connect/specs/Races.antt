@@ -9,12 +9,12 @@ use Rattle.he_live.specs.Dials.{goes_to}
 use Rattle.he_live.specs.declared.dialed.Dialed.{Dialed}
 use Rattle.he_live.specs.declared.endpoint.Endpoint.{Endpoint}
 use Rattle.he_plan.specs.Transcript.{IsTranscript, Report}
-use Rattle.he_race.specs.Recording.{is_won}
-use Rattle.he_race.specs.Resolving.{KeepsGiven}
-use Rattle.he_race.specs.Winner.{GoesAt}
+use Rattle.he_turns.specs.Recording.{is_won}
+use Rattle.he_turns.specs.Resolving.{KeepsGiven}
+use Rattle.he_turns.specs.Winner.{GoesAt}
 use Rattle.he_resolver.specs.Heard.{Origin}
-use Rattle.he_resolver.specs.Known.{FindsKnown, items_of}
-use Rattle.he_resolver.specs.Scopes.{FindsScope}
+use Rattle.he_settings.specs.Known.{FindsKnown, items_of}
+use Rattle.he_settings.specs.Scopes.{FindsScope}
 use Rattle.he_story.specs.Story.{Tells}
 use Rattle.he_write.specs.Written.{timeline_text}
 use Rattle.he_connect.specs.declared.request.ConnectRequest.{ConnectRequest}

@@ -5,7 +5,8 @@ ghost use Rattle.he_connect.specs.Races.{Tries};
 use crate::fault::ConnectFault;
 use crate::request::{ConnectRequest, Families, Lines};
 use he_addr::Family;
-use he_host::families::can_use;
+use he_kernel::asked::AskedWays;
+use he_kernel::families::can_use;
 use he_live::{Reason, Steps};
 use he_plan::Line;
 use std::alloc::AllocGlobal;
@@ -18,6 +19,7 @@ use std::rt::Files;
 // are, and where the lines are not this machine's.
 pub(crate) fn families_to_try<R: Files + Net + AllocGlobal>(
     rt: &R,
+    asked: &AskedWays,
     request: &ConnectRequest<'_>,
     is_known: bool,
 ) -> Result<Families, ConnectFault>
@@ -25,8 +27,8 @@ pub(crate) fn families_to_try<R: Files + Net + AllocGlobal>(
 {
     match (request.families, request.lines) {
         (Families::Both, Lines::Machine) if !is_known => Ok(usable(
-            can_use(rt, Family::V6)?,
-            can_use(rt, Family::V4)?,
+            can_use(rt, asked, Family::V6)?,
+            can_use(rt, asked, Family::V4)?,
         )),
         _ => Ok(request.families),
     }
@@ -50,12 +52,13 @@ fn version_of(family: Family) -> &'static str {
 // Appends a line for each family whose network was not reached, where this machine has no way for the family.
 pub(crate) fn write_unusable<R: Files + Net + AllocGlobal>(
     rt: &R,
+    asked: &AskedWays,
     attempts: &[Line],
     steps: &Steps,
     out: &mut Vec<u8>,
 ) -> Result<(), ConnectFault> {
     for family in [Family::V6, Family::V4] {
-        if lacks_network(attempts, steps, family) && !can_use(rt, family)? {
+        if lacks_network(attempts, steps, family) && !can_use(rt, asked, family)? {
             let version = version_of(family);
             let line = format!(in rt.alloc();
                 "he: this machine has no {version} address or route beyond its links\n"

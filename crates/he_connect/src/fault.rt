@@ -1,8 +1,8 @@
 //! Why no race was run.
-use he_host::machine::MachineFault;
 use he_inputs::{InputFault, NotOneRace};
+use he_kernel::fault::MachineFault;
 use he_live::{LiveFault, Reason};
-use he_resolver::NamesFault;
+use he_settings::NamesFault;
 use he_words::TextFault;
 use std::alloc::{AllocError, AllocFailed};
 use std::io;

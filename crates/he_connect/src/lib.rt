@@ -2,7 +2,7 @@
 //!
 //! [`race`] finds the host's addresses (`he_resolver`) while it races them (`he_live`), each family's as soon as they
 //! are known, with the sources, routes and policy rows of a file, or with the sources that the kernel takes for them
-//! (`he_host`). It hands out the record of the race, its story, what is said where nothing connected, and the
+//! (`he_kernel`). It hands out the record of the race, its story, what is said where nothing connected, and the
 //! connection: the caller keeps the record and relays.
 //!
 //! # What is proved
@@ -30,7 +30,7 @@
 mod families;
 pub mod fault;
 mod kernel;
-mod lines;
+pub mod lines;
 pub mod racing;
 pub mod request;
 pub mod setup;
@@ -40,8 +40,10 @@ pub mod telling;
 mod tried;
 
 pub use fault::ConnectFault;
+pub use lines::read_lines;
 pub use racing::{FinishedRace, look_up, race};
 pub use request::{ConnectRequest, Families, Lines};
 pub use setup::{Setup, set_up};
-pub use source::{FamilyFaults, HostAnswers, LookupFaults};
+pub use source::{FamilyFaults, HostAnswers, LookupFaults, OwnMachine};
+pub use start::start_race;
 pub use telling::LookupWatcher;

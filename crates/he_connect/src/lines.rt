@@ -3,22 +3,24 @@
 use crate::fault::ConnectFault;
 use crate::request::Lines;
 use he_addr::Ip;
-use he_host::taken::find_machine_to;
-use he_host::writing::write_host;
+use he_kernel::asked::AskedWays;
+use he_kernel::taken::find_machine_to;
+use he_kernel::writing::write_host;
 use std::alloc::{AllocGlobal, Global};
 use std::net::Net;
 use std::rt::Files;
 use std::{fs, io};
 
-// Where a race goes before it begins: the addresses that are known without a look-up, and the number of the interface
-// of a link-local one.
+// Where a race goes before it begins: the addresses that are known without a look-up, the number of the interface of a
+// link-local one, and what the kernel answers in this race.
 #[derive(Clone, Copy)]
 pub(crate) struct Destinations<'a> {
     pub(crate) known: Option<&'a [Ip]>,
     pub(crate) scope: u32,
+    pub(crate) asked: &'a AskedWays,
 }
 
-// The lines of this machine or of a file, of which the last one is ended where it isn't. Where the host's addresses
+// The lines of this machine, of a file or of the text of one. Where the host's addresses
 // are known without a look-up, the kernel is asked for the ways to them, to a link-local one over its interface; a
 // remark is appended for what can't be read or asked. Else there are none: they come with the addresses, while the
 // race runs.
@@ -33,19 +35,27 @@ pub(crate) fn read_lines_of<R: Files + Net + AllocGlobal>(
         Lines::Machine => {
             let mut text = Vec::new(alloc);
             if let Some(ips) = to.known {
-                let machine = find_machine_to(rt, ips, to.scope, remarks)?;
+                let machine = find_machine_to(rt, to.asked, ips, to.scope, remarks)?;
                 write_host(&machine, &mut text)?;
             }
             Ok(text)
         }
-        Lines::File(path) => {
-            let mut text = read_file(rt, path)?;
-            if text.last().is_some_and(|byte| *byte != b'\n') {
-                text.push(b'\n')?;
-            }
-            Ok(text)
-        }
+        Lines::File(path) => read_lines(rt, path),
+        Lines::Text(text) => Ok(Vec::from_slice(alloc, text)?),
     }
+}
+
+/// The text of a file of lines, of which the last one is ended where it isn't.
+///
+/// # Errors
+///
+/// `File` where it can't be read, `Memory`.
+pub fn read_lines<R: Files + AllocGlobal>(rt: &R, path: &str) -> Result<Vec<u8>, ConnectFault> {
+    let mut text = read_file(rt, path)?;
+    if text.last().is_some_and(|byte| *byte != b'\n') {
+        text.push(b'\n')?;
+    }
+    Ok(text)
 }
 
 fn read_file<R: Files + AllocGlobal>(rt: &R, path: &str) -> Result<Vec<u8>, ConnectFault> {

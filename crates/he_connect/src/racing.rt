@@ -10,15 +10,16 @@ use crate::fault::ConnectFault;
 use crate::kernel::write_other_sources;
 use crate::request::{ConnectRequest, Lines};
 use crate::setup::{Setup, set_up};
-use crate::source::{FamilyFaults, HostAnswers, LookupFaults};
+use crate::source::{FamilyFaults, HostAnswers, LookupFaults, OwnMachine};
 use crate::telling::Telling;
 use crate::tried::write_tried;
 use he_course::Course;
 use he_live::{Dialed, ResolvingRequest, Steps, resolving_race_on};
-use he_race::Raced;
-use he_resolver::{Lookup, NamesFault, SystemResolver, Wanted};
+use he_resolver::{Lookup, SystemResolver};
+use he_settings::{NamesFault, Wanted};
 use he_story::write_story;
 use he_timeline::Timeline;
+use he_turns::Raced;
 use he_write::write_timeline;
 use std::alloc::{AllocGlobal, Global};
 use std::io::Write;
@@ -81,9 +82,8 @@ where
     F: Write,
     R: Threads + Wait + Clock + RandomSource + AllocGlobal + Net + Files + Sync,
     R: SystemResolver + Copy + Send + 'static,
-    requires known { KnowsHost setup.now }
-    ensures race { IfOk result (λ run. RunsFrom setup.now.request setup.now.start setup.now.to run.text.items
-        run.story.items run.connection) }
+    ensures race { KnowsHost setup.now → IfOk result (λ run. RunsFrom setup.now.request setup.now.start
+        setup.now.to run.text.items run.story.items run.connection) }
 {
     let mut runtime = LocalRuntime::new(rt)?;
     let handle = runtime.handle().clone()?;
@@ -91,7 +91,7 @@ where
     let steps = Steps::new(alloc)?;
     let telling = Telling::new(alloc, faults, &setup.request);
     let lookup = look_up(rt, alloc, &handle, setup)?;
-    let machine = if setup.brings_lines { Some(rt) } else { None };
+    let machine = OwnMachine::of_setup(rt, setup)?;
     let source = HostAnswers::new(alloc, lookup, machine, why.share()?, &telling)?;
     let request = ResolvingRequest {
         timeline: &setup.start,
@@ -116,9 +116,8 @@ pub fn look_up<'h, R>(
 where
     R: Threads + Wait + Clock + RandomSource + AllocGlobal + Net + Files + Sync,
     R: SystemResolver + Copy + Send + 'static,
-    requires known { KnowsHost setup.now }
-    ensures begins { IfOk result (λ lookup. BeginsFor setup.now.request.host.now setup.now.request.resolver
-        setup.now.request.environment (only_of setup.now.request.families) lookup.source) }
+    ensures begins { KnowsHost setup.now → IfOk result (λ lookup. BeginsFor setup.now.request.host.now
+        setup.now.request.resolver setup.now.request.environment (only_of setup.now.request.families) lookup.source) }
     ensures sound { IfOk result (λ lookup. IsSound lookup.source) }
 {
     match &setup.known {
@@ -184,12 +183,17 @@ fn texts_of<R: Files + Net + AllocGlobal>(
     let story = explain(alloc, request.explains, &raced.recorded)?;
     let mut told = Vec::new(alloc);
     if request.tells_steps || request.lines == Lines::Machine {
-        let is_own = request.lines == Lines::Machine;
-        write_other_sources(rt, setup.to.scope, is_own, raced, &mut told)?;
+        write_other_sources(rt, &setup.asked, setup.to.scope, raced, &mut told)?;
     }
     if raced.winner.is_none() && why.nameless(request.families).is_none() {
         write_tried(alloc, request, raced, steps, why, &mut told)?;
-        write_unusable(rt, raced.transcript.attempts(), steps, &mut told)?;
+        write_unusable(
+            rt,
+            &setup.asked,
+            raced.transcript.attempts(),
+            steps,
+            &mut told,
+        )?;
     }
     Ok(RaceTexts { text, story, told })
 }

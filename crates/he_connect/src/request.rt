@@ -4,7 +4,7 @@ ghost use Rattle.he_connect.specs.Races.{only_of};
 
 use he_addr::Family;
 use he_names::Environment;
-use he_resolver::Choice;
+use he_settings::Choice;
 use he_timeline::Settings;
 
 /// The address families that are tried.
@@ -33,6 +33,8 @@ pub enum Lines<'a> {
     Machine,
     /// A file has them.
     File(&'a str),
+    /// The text of such a file, with its last line ended.
+    Text(&'a [u8]),
 }
 
 /// A race for a connection that is asked for.

@@ -8,8 +8,9 @@ use crate::lines::{Destinations, read_lines_of};
 use crate::request::{ConnectRequest, Lines};
 use crate::start::start_race;
 use he_addr::Ip;
+use he_kernel::asked::AskedWays;
 use he_live::Endpoint;
-use he_resolver::{find_known, find_scope};
+use he_settings::{find_known, find_scope};
 use he_timeline::Timeline;
 use std::alloc::{AllocGlobal, Global};
 use std::io::Write;
@@ -27,6 +28,8 @@ pub struct Setup<'a> {
     pub known: Option<Vec<Ip>>,
     /// Whether the lines of this machine come with the addresses.
     pub brings_lines: bool,
+    /// What the kernel answers in this race.
+    pub asked: AskedWays,
 }
 
 /// Reads what is known of the host, the lines of the race, and which families are tried; says which is not, where that
@@ -49,13 +52,15 @@ where
 {
     let known = find_known(rt, alloc, request.host, request.resolver)?;
     let scope = find_scope(rt, alloc, request.host)?;
-    let tried = families_to_try(rt, request, known.is_some())?;
+    let asked = AskedWays::new(alloc)?;
+    let tried = families_to_try(rt, &asked, request, known.is_some())?;
     if request.tells_steps || request.explains {
         tell_unasked(request.families, tried, faults);
     }
     let to = Destinations {
         known: known.as_deref(),
         scope,
+        asked: &asked,
     };
     let mut remarks = Vec::new(alloc);
     let lines = read_lines_of(rt, alloc, request.lines, to, &mut remarks)?;
@@ -69,5 +74,6 @@ where
         },
         brings_lines: request.lines == Lines::Machine && known.is_none(),
         known,
+        asked,
     })
 }

@@ -1,16 +1,20 @@
 //! Where the answers of a connection's race come from.
 ghost use Rattle.std.specs.Prelude.{◌≡◌, IfOk, is_some, true};
-ghost use Rattle.he_race.specs.Heard.{lists_of};
+ghost use Rattle.he_turns.specs.Heard.{lists_of};
 ghost use Rattle.he_resolver.specs.Heard.{ttl_in};
 ghost use Rattle.he_connect.specs.Answers.{HasLines, IsAnswerOf, IsToldOf};
 
 use crate::request::Families;
+use crate::setup::Setup;
 use crate::telling::LookupWatcher;
 use futures::task::{Context, Poll};
 use he_addr::{Family, Ip};
-use he_host::taken::find_machine_of;
-use he_race::{Answer, AnswerSource, Known, nothing_known};
-use he_resolver::{Lookup, LookupLog, NamesFault, first_fault};
+use he_asking::LookupLog;
+use he_kernel::asked::AskedWays;
+use he_kernel::taken::find_machine_of;
+use he_resolver::Lookup;
+use he_settings::{NamesFault, first_fault};
+use he_turns::{Answer, AnswerSource, Known, nothing_known};
 use std::alloc::{AllocError, AllocGlobal, Global};
 use std::cell::Cell;
 use std::net::Net;
@@ -102,13 +106,39 @@ impl FamilyFaults {
     }
 }
 
+/// This machine, whose lines come with the addresses of a race, and what its kernel answers in that race.
+#[derive(Drop)]
+pub struct OwnMachine<'h, R> {
+    rt: &'h R,
+    asked: AskedWays,
+}
+
+impl<'h, R> OwnMachine<'h, R> {
+    /// This machine, where its lines are to come in the race that is set up.
+    ///
+    /// # Errors
+    ///
+    /// `AllocError` where there are too many holders of the kernel's answers.
+    pub fn of_setup(rt: &'h R, setup: &Setup<'_>) -> Result<Option<OwnMachine<'h, R>>, AllocError>
+        ensures { IfOk result (λ machine. is_some machine ≡ setup.now.brings_lines) }
+    {
+        if !setup.brings_lines {
+            return Ok(None);
+        }
+        Ok(Some(OwnMachine {
+            rt,
+            asked: setup.asked.share()?,
+        }))
+    }
+}
+
 /// The answers of a look-up, which are polled while a race runs. A family that has none is answered without addresses.
 #[derive(Drop)]
 pub struct HostAnswers<'h, R, W: LookupWatcher> {
     alloc: Global,
     lookup: Lookup<'h, R>,
-    // Where the lines of this machine come with the addresses: what they are asked of.
-    machine: Option<&'h R>,
+    // Where its lines come with the addresses.
+    machine: Option<OwnMachine<'h, R>>,
     log: LookupLog,
     why: LookupFaults,
     watcher: W,
@@ -128,7 +158,7 @@ where
     pub fn new(
         alloc: Global,
         lookup: Lookup<'h, R>,
-        machine: Option<&'h R>,
+        machine: Option<OwnMachine<'h, R>>,
         why: LookupFaults,
         watcher: W,
     ) -> Result<HostAnswers<'h, R, W>, AllocError>
@@ -175,8 +205,8 @@ where
     {
         let ips = told?;
         let known = nothing_known(self.alloc, &ips)?;
-        match self.machine {
-            Some(rt) => with_lines(rt, family, &ips, known, &self.watcher),
+        match &self.machine {
+            Some(machine) => with_lines(machine, family, &ips, known, &self.watcher),
             None => Ok(Answer::without_lines(known)),
         }
     }
@@ -184,7 +214,7 @@ where
 
 // The addresses with the lines of this machine by which the rules take the kernel's sources.
 fn with_lines<R: Net + Files + AllocGlobal, W: LookupWatcher>(
-    rt: &R,
+    machine: &OwnMachine<'_, R>,
     family: Family,
     ips: &[Ip],
     known: Vec<Known>,
@@ -193,8 +223,9 @@ fn with_lines<R: Net + Files + AllocGlobal, W: LookupWatcher>(
     ensures known { IfOk result (λ answer. answer.known ≡ known) }
     ensures lines { IfOk result (λ answer. HasLines true ips.now (lists_of answer)) }
 {
+    let OwnMachine { rt, asked } = machine;
     let mut remarks = Vec::new(rt.alloc());
-    let Ok(machine) = find_machine_of(rt, family, ips, &mut remarks) else {
+    let Ok(machine) = find_machine_of(rt, asked, family, ips, &mut remarks) else {
         return Err(NamesFault::Memory);
     };
     watcher.tell_remarks(remarks.as_slice());

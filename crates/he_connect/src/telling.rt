@@ -3,8 +3,8 @@
 use crate::request::ConnectRequest;
 use crate::tried::write_reason;
 use he_addr::{Memory, write_ip, write_number};
+use he_asking::{LookupEvent, LookupEventKind, LookupLog};
 use he_live::{Quiet, Step, StepKind, Watcher};
-use he_resolver::{LookupEvent, LookupEventKind, LookupLog};
 use std::alloc::Global;
 use std::cell::Cell;
 use std::io::Write;

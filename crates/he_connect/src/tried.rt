@@ -5,9 +5,9 @@ use crate::source::FamilyFaults;
 use he_addr::{Family, Memory, write_ip, write_number};
 use he_live::{Dialed, Reason, Steps};
 use he_plan::{Line, Mark};
-use he_race::Raced;
-use he_resolver::NamesFault;
+use he_settings::NamesFault;
 use he_timeline::Timeline;
+use he_turns::Raced;
 use std::alloc::Global;
 
 /// Appends the line, as `he: no connection to example.org port 443: 2 addresses tried: 2001:db8::1 refused after

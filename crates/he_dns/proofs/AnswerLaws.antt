@@ -11,12 +11,14 @@ use Rattle.he_dns.specs.declared.fault.AnswerFault.TheVariants as faults
 use Rattle.he_dns.specs.declared.header.Header.{Header}
 use Rattle.he_dns.specs.Answers.{Answers, Fails, HasFault, IsStranger, Tells}
 use Rattle.he_dns.specs.Chains.{Leads, addresses_of, alias_of}
-use Rattle.he_dns.specs.Header.{Asks, IsHeader, Responds, flags_fault, rcode_of, tc_of}
+use Rattle.he_dns.specs.Codes.{IsFine, code_fault}
+use Rattle.he_dns.specs.Header.{Asks, IsHeader, Responds, tc_of}
 use Rattle.he_dns.specs.Names.{is_same}
 use Rattle.he_dns.specs.Numbers.{type_of}
-use Rattle.he_dns.specs.Reading.{addresses_at, answer_of, behind_question, chain_addresses, chain_end, entries_from, header_at, responds, response_in, section_addresses}
+use Rattle.he_dns.specs.Reading.{addresses_at, answer_of, behind_question, chain_addresses, chain_end, code_in, entries_from, header_at, responds, response_fault, response_in, section_addresses}
 use Rattle.he_dns.specs.Records.{AreEntries}
 use Rattle.he_dns.proofs.Chained.{alias_step, own_step}
+use Rattle.he_dns.proofs.CodeLaws.{fault_stands, fine_found, fine_stands}
 use Rattle.he_dns.proofs.NameLaws.{name_found, name_stands}
 use Rattle.he_dns.proofs.Numerals.{allowed, bind_some, not_refused, some_same, word_found, word_stands}
 use Rattle.he_dns.proofs.RecordLaws.{entries_found, entries_stand}
@@ -168,14 +170,14 @@ chain_found (suc count) (suc n) entries name host lt (target, is, leads) own =
 
 -- the answer, by what is found on the way to it
 told : (m : List ℕ) (id : ℕ) (name : List ℕ) (family : Family) (h : Header) (at : ℕ) (entries : List Entry) → Responds m id name family h.flags h.answers at
-    → flags_fault h.flags ≡ None → entries_from h.answers m family at ≡ Some entries → Tells m id name family entries
+    → response_fault m h.flags h.answers at ≡ None → entries_from h.answers m family at ≡ Some entries → Tells m id name family entries
 told m id name family h at entries responds fine is =
     let stand = entries_stand h.answers m family at entries is in
     record {
       flags = h.flags;
       at = at;
       responds = subst (λ (answers : ℕ). Responds m id name family h.flags answers at) (sym stand.1) responds;
-      fine = fine;
+      fine = subst (λ (answers : ℕ). IsFine m h.flags answers at) (sym stand.1) (fine_stands m h.flags h.answers at fine);
       section = stand.0;
     }
 
@@ -194,7 +196,7 @@ by_chain m id name family entries ips (Ok host) tells is h =
 by_chain m id name family entries ips (Err fault) tells is h = cc
 
 by_entries : (m : List ℕ) (id : ℕ) (name : List ℕ) (family : Family) (h : Header) (at : ℕ) (ips : List Ip) (o : Option (List Entry)) → Responds m id name family h.flags h.answers at
-    → flags_fault h.flags ≡ None → entries_from h.answers m family at ≡ o
+    → response_fault m h.flags h.answers at ≡ None → entries_from h.answers m family at ≡ o
     → option_map_or (λ entries. chain_addresses entries name) o (Err faults.Malformed) ≡ Ok ips → Answers m id name family ips
 unfolding chain_addresses
 by_entries m id name family h at ips None responds fine is answer = cc
@@ -202,18 +204,18 @@ by_entries m id name family h at ips (Some entries) responds fine is answer =
     by_chain m id name family entries ips (chain_end 17 entries name) (told m id name family h at entries responds fine is) refl answer
 
 by_flags : (m : List ℕ) (id : ℕ) (name : List ℕ) (family : Family) (h : Header) (at : ℕ) (ips : List Ip) (o : Option AnswerFault) → Responds m id name family h.flags h.answers at
-    → flags_fault h.flags ≡ o → option_map_or (λ fault. Err fault) o (section_addresses m h at name family) ≡ Ok ips → Answers m id name family ips
+    → response_fault m h.flags h.answers at ≡ o → option_map_or (λ fault. Err fault) o (section_addresses m h at name family) ≡ Ok ips → Answers m id name family ips
 unfolding section_addresses
 by_flags m id name family h at ips None responds is answer =
     by_entries m id name family h at ips (entries_from h.answers m family at) responds is refl answer
 by_flags m id name family h at ips (Some fault) responds is answer = cc
 
 by_response : (m : List ℕ) (id : ℕ) (name : List ℕ) (family : Family) (ips : List Ip) (o : Option (Header × ℕ)) → response_in m id name family ≡ o
-    → option_map_or (λ response. option_map_or (λ fault. Err fault) (flags_fault response.0.flags) (section_addresses m response.0 response.1 name family)) o (Err faults.NotOurs) ≡ Ok ips
+    → option_map_or (λ response. option_map_or (λ fault. Err fault) (response_fault m response.0.flags response.0.answers response.1) (section_addresses m response.0 response.1 name family)) o (Err faults.NotOurs) ≡ Ok ips
     → Answers m id name family ips
 by_response m id name family ips None is answer = cc
 by_response m id name family ips (Some (h, at)) is answer =
-    by_flags m id name family h at ips (flags_fault h.flags) (response_stands m id name family h at is) refl answer
+    by_flags m id name family h at ips (response_fault m h.flags h.answers at) (response_stands m id name family h at is) refl answer
 
 pub answer_stands : (m : List ℕ) (id : ℕ) (name : List ℕ) (family : Family) (ips : List Ip) → answer_of m id name family ≡ Ok ips → Answers m id name family ips
 unfolding answer_of
@@ -223,7 +225,7 @@ answer_found : (m : List ℕ) (id : ℕ) (name : List ℕ) (family : Family) (ip
 unfolding answer_of section_addresses chain_addresses
 answer_found m id name family ips is =
     let response = response_found m id name family is.told.flags (length is.entries) is.told.at is.told.responds in
-    let fine : flags_fault is.told.flags ≡ None = is.told.fine in
+    let fine = fine_found m is.told.flags (length is.entries) is.told.at is.told.fine in
     let entries = entries_found m family is.told.at is.entries is.told.section in
     let chain = chain_found is.canonical.aliases 17 is.entries name is.host (omega (arith, is.canonical.few)) is.canonical.leads is.canonical.own in
     rw (response, fine, entries, chain) (ap Ok (sym is.value))
@@ -231,28 +233,27 @@ answer_found m id name family ips is =
 -- the faults
 abbrev IsCodeFault : AnswerFault → Type 0
 IsCodeFault faults.NotOurs = ⊥
-IsCodeFault faults.Malformed = ⊥
 IsCodeFault faults.ChainTooLong = ⊥
 IsCodeFault faults.Memory = ⊥
 IsCodeFault _ = Unit {0}
 
-code_tests : (t z b c d : Bool) (code : ℕ) (fault : AnswerFault)
-    → cond t (Some faults.Truncated) (cond z None (cond b (Some faults.ServerFailure) (cond c (Some faults.NoSuchName) (cond d (Some faults.Refused) (Some (faults.OtherCode code)))))) ≡ Some fault
+code_tests : (z b c d : Bool) (code : ℕ) (fault : AnswerFault)
+    → cond z None (cond b (Some faults.ServerFailure) (cond c (Some faults.NoSuchName) (cond d (Some faults.Refused) (Some (faults.OtherCode code))))) ≡ Some fault
     → IsCodeFault fault
-code_tests true z b c d code fault h = subst IsCodeFault (some_same faults.Truncated fault h) tt
-code_tests false true b c d code fault h = cc
-code_tests false false true c d code fault h = subst IsCodeFault (some_same faults.ServerFailure fault h) tt
-code_tests false false false true d code fault h = subst IsCodeFault (some_same faults.NoSuchName fault h) tt
-code_tests false false false false true code fault h = subst IsCodeFault (some_same faults.Refused fault h) tt
-code_tests false false false false false code fault h = subst IsCodeFault (some_same (faults.OtherCode code) fault h) tt
+code_tests true b c d code fault h = cc
+code_tests false true c d code fault h = subst IsCodeFault (some_same faults.ServerFailure fault h) tt
+code_tests false false true d code fault h = subst IsCodeFault (some_same faults.NoSuchName fault h) tt
+code_tests false false false true code fault h = subst IsCodeFault (some_same faults.Refused fault h) tt
+code_tests false false false false code fault h = subst IsCodeFault (some_same (faults.OtherCode code) fault h) tt
 
-code_fault_is : (flags : ℕ) (fault : AnswerFault) → flags_fault flags ≡ Some fault → IsCodeFault fault
-code_fault_is flags fault h =
-    code_tests (eqb (tc_of flags) 1) (eqb (rcode_of flags) 0) (eqb (rcode_of flags) 2) (eqb (rcode_of flags) 3) (eqb (rcode_of flags) 5) (rcode_of flags) fault h
+fault_tests : (t : Bool) (o : Option ℕ) (fault : AnswerFault) → cond t (Some faults.Truncated) (option_map_or code_fault o (Some faults.Malformed)) ≡ Some fault → IsCodeFault fault
+fault_tests true o fault h = subst IsCodeFault (some_same faults.Truncated fault h) tt
+fault_tests false None fault h = subst IsCodeFault (some_same faults.Malformed fault h) tt
+fault_tests false (Some code) fault h = code_tests (eqb code 0) (eqb code 2) (eqb code 3) (eqb code 5) code fault h
 
 has_code : (m : List ℕ) (id : ℕ) (name : List ℕ) (family : Family) (fault : AnswerFault) → IsCodeFault fault → Fails m id name family fault → HasFault m id name family fault
 has_code m id name family faults.NotOurs is h = absurd is
-has_code m id name family faults.Malformed is h = absurd is
+has_code m id name family faults.Malformed is h = inl h
 has_code m id name family faults.ChainTooLong is h = absurd is
 has_code m id name family faults.Memory is h = absurd is
 has_code m id name family faults.Truncated is h = h
@@ -270,41 +271,42 @@ chain_fault m id name family entries fault (Err found) tells is h =
     subst (λ (f : AnswerFault). HasFault m id name family f) (sym (same ∙ on.0)) (entries, tells, on.1)
 
 entries_fault : (m : List ℕ) (id : ℕ) (name : List ℕ) (family : Family) (h : Header) (at : ℕ) (fault : AnswerFault) (o : Option (List Entry)) → Responds m id name family h.flags h.answers at
-    → flags_fault h.flags ≡ None → entries_from h.answers m family at ≡ o
+    → response_fault m h.flags h.answers at ≡ None → entries_from h.answers m family at ≡ o
     → option_map_or (λ entries. chain_addresses entries name) o (Err faults.Malformed) ≡ Err fault → HasFault m id name family fault
 unfolding chain_addresses
 entries_fault m id name family h at fault None responds fine is answer =
     let same : fault ≡ faults.Malformed = cc in
     let none : (entries : List Entry) → length entries ≡ h.answers → AreEntries m family at entries → ⊥ =
     λ entries count stand. let some : entries_from h.answers m family at ≡ Some entries = ap (λ (n : ℕ). entries_from n m family at) (sym count) ∙ entries_found m family at entries stand in cc in
-    subst (λ (f : AnswerFault). HasFault m id name family f) (sym same) (h.flags, h.answers, at, responds, fine, none)
+    subst (λ (f : AnswerFault). HasFault m id name family f) (sym same) (inr (h.flags, h.answers, at, responds, fine_stands m h.flags h.answers at fine, none))
 entries_fault m id name family h at fault (Some entries) responds fine is answer =
     chain_fault m id name family entries fault (chain_end 17 entries name) (told m id name family h at entries responds fine is) refl answer
 
 flags_wrong : (m : List ℕ) (id : ℕ) (name : List ℕ) (family : Family) (h : Header) (at : ℕ) (fault : AnswerFault) (o : Option AnswerFault) → Responds m id name family h.flags h.answers at
-    → flags_fault h.flags ≡ o → option_map_or (λ fault. Err fault) o (section_addresses m h at name family) ≡ Err fault → HasFault m id name family fault
+    → response_fault m h.flags h.answers at ≡ o → option_map_or (λ fault. Err fault) o (section_addresses m h at name family) ≡ Err fault → HasFault m id name family fault
 unfolding section_addresses
 flags_wrong m id name family h at fault None responds is answer =
     entries_fault m id name family h at fault (entries_from h.answers m family at) responds is refl answer
 flags_wrong m id name family h at fault (Some found) responds is answer =
     let same : found ≡ fault = cc in
-    let this : flags_fault h.flags ≡ Some fault = is ∙ ap Some same in
-    has_code m id name family fault (code_fault_is h.flags fault this) (h.flags, h.answers, at, responds, this)
+    let this : response_fault m h.flags h.answers at ≡ Some fault = is ∙ ap Some same in
+    has_code m id name family fault (fault_tests (eqb (tc_of h.flags) 1) (code_in m h.flags h.answers at) fault this)
+    (h.flags, h.answers, at, responds, fault_stands m h.flags h.answers at fault this)
 
-response_fault : (m : List ℕ) (id : ℕ) (name : List ℕ) (family : Family) (fault : AnswerFault) (o : Option (Header × ℕ)) → response_in m id name family ≡ o
-    → option_map_or (λ response. option_map_or (λ fault. Err fault) (flags_fault response.0.flags) (section_addresses m response.0 response.1 name family)) o (Err faults.NotOurs) ≡ Err fault
+response_wrong : (m : List ℕ) (id : ℕ) (name : List ℕ) (family : Family) (fault : AnswerFault) (o : Option (Header × ℕ)) → response_in m id name family ≡ o
+    → option_map_or (λ response. option_map_or (λ fault. Err fault) (response_fault m response.0.flags response.0.answers response.1) (section_addresses m response.0 response.1 name family)) o (Err faults.NotOurs) ≡ Err fault
     → HasFault m id name family fault
-response_fault m id name family fault None is answer =
+response_wrong m id name family fault None is answer =
     let same : fault ≡ faults.NotOurs = cc in
     let stranger : IsStranger m id name family =
     λ flags answers at responds. let some = response_found m id name family flags answers at responds in cc in
     subst (λ (f : AnswerFault). HasFault m id name family f) (sym same) stranger
-response_fault m id name family fault (Some (h, at)) is answer =
-    flags_wrong m id name family h at fault (flags_fault h.flags) (response_stands m id name family h at is) refl answer
+response_wrong m id name family fault (Some (h, at)) is answer =
+    flags_wrong m id name family h at fault (response_fault m h.flags h.answers at) (response_stands m id name family h at is) refl answer
 
 answer_faults : (m : List ℕ) (id : ℕ) (name : List ℕ) (family : Family) (fault : AnswerFault) → answer_of m id name family ≡ Err fault → HasFault m id name family fault
 unfolding answer_of
-answer_faults m id name family fault h = response_fault m id name family fault (response_in m id name family) refl h
+answer_faults m id name family fault h = response_wrong m id name family fault (response_in m id name family) refl h
 
 -- the public clauses, of a reading that answers what was to be answered or is refused memory
 pub found_is : {V : Type 0} (r : Result V AnswerFault) (items : V → List Ip) (m : List ℕ) (id : ℕ) (name : List ℕ) (family : Family)

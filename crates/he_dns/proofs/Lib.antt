@@ -1,11 +1,13 @@
 mod AnswerLaws
 mod Chained
+mod CodeLaws
 mod Gathered
 mod Labels
 mod Lesser
 mod NameLaws
 mod Named
 mod Numerals
+mod Passed
 mod RecordLaws
 mod ServerLaws
 mod TtlLaws

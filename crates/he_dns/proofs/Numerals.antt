@@ -24,13 +24,13 @@ not_refused false o y h = (refl, h)
 pub some_same : {A : Type 0} (x y : A) → Some x ≡ Some y → x ≡ y
 some_same x y h = cc
 
-octet_stands : (m : List ℕ) (at x : ℕ) → octet_at m at ≡ Some x → (at < length m) × (get_or m at 0 ≡ x)
+pub octet_stands : (m : List ℕ) (at x : ℕ) → octet_at m at ≡ Some x → (at < length m) × (get_or m at 0 ≡ x)
 unfolding octet_at
 octet_stands m at x h =
     let a = allowed (ltb at (length m)) (Some (get_or m at 0)) x h in
     (ltb-true at (length m) a.0, some_same (get_or m at 0) x a.1)
 
-octet_found : (m : List ℕ) (at : ℕ) → at < length m → octet_at m at ≡ Some (get_or m at 0)
+pub octet_found : (m : List ℕ) (at : ℕ) → at < length m → octet_at m at ≡ Some (get_or m at 0)
 unfolding octet_at
 octet_found m at lt = rw (lt-ltb at (length m) lt) refl
 

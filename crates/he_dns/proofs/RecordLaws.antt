@@ -1,6 +1,6 @@
 -- The records that are read from a message are those that stand there, and the other way round; likewise what they
 -- say.
-use Rattle.std.proofs.Common.{◌≡◌, ℕ, zero, suc, ◌+◌, ◌≤◌, Bool, true, false, cond, ltb, eqb, List, [], ◌∷◌, Option, Some, None, length, slice_range, refl, sym, ◌∙◌, ap, subst, arith, inl, inr}
+use Rattle.std.proofs.Common.{◌≡◌, ℕ, zero, suc, ◌+◌, ◌<◌, ◌≤◌, Bool, true, false, cond, ltb, eqb, List, [], ◌∷◌, Option, Some, None, length, slice_range, refl, sym, ◌∙◌, ap, subst, arith, inl, inr}
 use Rattle.std.specs.Int.{w32, w128, from_be_bytes}
 use Rattle.std.specs.Option.{option_map}
 use Rattle.std.proofs.lemmas.Bool.{ltb-false, eqb-true, eqb-false, eq-eqb, ne_eqb, le-ltb}
@@ -17,7 +17,7 @@ use Rattle.he_dns.specs.Numbers.{type_of}
 use Rattle.he_dns.specs.Reading.{address_of, alias_at, content_of, entries_from, entry_at, record_at}
 use Rattle.he_dns.specs.Records.{AreEntries, IsAddress, IsEntryAt, IsRecordAt, Says, record_end}
 use Rattle.he_dns.proofs.NameLaws.{name_found, name_stands}
-use Rattle.he_dns.proofs.Numerals.{allowed, bind_some, not_refused, some_same, ttl_found, ttl_stands, word_found, word_stands}
+use Rattle.he_dns.proofs.Numerals.{allowed, bind_some, not_refused, octet_found, octet_stands, some_same, ttl_found, ttl_stands, word_found, word_stands}
 
 pub record_stands : (m : List ℕ) (at : ℕ) (r : Record) → record_at m at ≡ Some r → IsRecordAt m at r
 unfolding record_at
@@ -26,8 +26,9 @@ record_stands m at r h =
     let kind = bind_some _ _ r name.2 in
     let class = bind_some _ _ r kind.2 in
     let ttl = bind_some _ _ r class.2 in
-    let size = bind_some _ _ r ttl.2 in
-    let made : Record = record { owner = name.0.0; kind = kind.0; class = class.0; ttl = ttl.0; place = name.0.1 + 10; size = size.0 } in
+    let ttl_first = bind_some _ _ r ttl.2 in
+    let size = bind_some _ _ r ttl_first.2 in
+    let made : Record = record { owner = name.0.0; kind = kind.0; class = class.0; ttl = ttl.0; ttl_first = ttl_first.0; place = name.0.1 + 10; size = size.0 } in
     let within = not_refused (ltb (length m) (name.0.1 + 10 + size.0)) (Some made) r size.2 in
     subst (λ (x : Record). IsRecordAt m at x) (some_same made r within.1) (record {
       after = name.0.1;
@@ -35,6 +36,7 @@ record_stands m at r h =
       kind = word_stands m name.0.1 kind.0 kind.1;
       class = word_stands m (name.0.1 + 2) class.0 class.1;
       ttl = ttl_stands m (name.0.1 + 4) ttl.0 ttl.1;
+      ttl_first = sym (octet_stands m (name.0.1 + 4) ttl_first.0 ttl_first.1).1;
       size = word_stands m (name.0.1 + 8) size.0 size.1;
       place = refl;
       within = ltb-false (length m) (name.0.1 + 10 + size.0) within.0;
@@ -47,10 +49,12 @@ record_found m at r is =
     let kind = word_found m is.after r.kind is.kind in
     let class = word_found m (is.after + 2) r.class is.class in
     let ttl = ttl_found m (is.after + 4) r.ttl is.ttl in
+    let inside : is.after + 4 < length m = omega (arith, is.ttl.high_word.within) in
+    let ttl_first = octet_found m (is.after + 4) inside ∙ ap Some (sym is.ttl_first) in
     let size = word_found m (is.after + 8) r.size is.size in
     let fits : is.after + 10 + r.size ≤ length m = omega (arith, is.place, is.within) in
     let within = le-ltb (length m) (is.after + 10 + r.size) fits in
-    rw (name, kind, class, ttl, size, within) (ap (λ (place : ℕ). Some (record r { place = place })) (sym is.place))
+    rw (name, kind, class, ttl, ttl_first, size, within) (ap (λ (place : ℕ). Some (record r { place = place })) (sym is.place))
 
 -- the data of an alias, and of an address
 alias_stands : (m : List ℕ) (place size : ℕ) (content : Content) → alias_at m place size ≡ Some content

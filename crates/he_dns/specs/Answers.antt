@@ -1,12 +1,13 @@
 -- What a message answers to a query: the addresses, or the first fault in the order of the checks.
-use Rattle.std.specs.Prelude.{◌≡◌, ℕ, List, Some, None, length}
+use Rattle.std.specs.Prelude.{◌≡◌, ◌⊎◌, ℕ, List, length}
 use Rattle.he_addr.specs.declared.ip.Family.{Family}
 use Rattle.he_addr.specs.declared.ip.Ip.{Ip}
 use Rattle.he_dns.specs.declared.entries.Entry.{Entry}
 use Rattle.he_dns.specs.declared.fault.AnswerFault.{AnswerFault}
 use Rattle.he_dns.specs.declared.fault.AnswerFault.TheVariants as faults
 use Rattle.he_dns.specs.Chains.{IsCanonical, IsTooLong, addresses_of}
-use Rattle.he_dns.specs.Header.{Responds, flags_fault}
+use Rattle.he_dns.specs.Codes.{HasNoAnswer, IsFine}
+use Rattle.he_dns.specs.Header.{Responds}
 use Rattle.he_dns.specs.Records.{AreEntries}
 
 -- a whole response without a fault, and what the records of its answer section say
@@ -14,7 +15,7 @@ pub record Tells (message : List ℕ) (id : ℕ) (name : List ℕ) (family : Fam
   pub flags : ℕ
   pub at : ℕ
   pub responds : Responds message id name family flags (length entries) at
-  pub fine : flags_fault flags ≡ None
+  pub fine : IsFine message flags (length entries) at
   pub section : AreEntries message family at entries
 
 -- the addresses that a message answers
@@ -33,13 +34,13 @@ IsStranger message id name family = (flags answers at : ℕ) → Responds messag
 abbrev pub Fails : List ℕ → ℕ → List ℕ → Family → AnswerFault → Type 0
 Fails message id name family fault =
     (flags : ℕ) × (answers : ℕ) × (at : ℕ) × Responds message id name family flags answers at
-    × (flags_fault flags ≡ Some fault)
+    × HasNoAnswer message flags answers at fault
 
--- it is a response without a fault, and its answer section isn't as many records as the header says
+-- it is a response without a fault, and a record of its answer section isn't what its type says
 abbrev pub IsMalformed : List ℕ → ℕ → List ℕ → Family → Type 0
 IsMalformed message id name family =
     (flags : ℕ) × (answers : ℕ) × (at : ℕ) × Responds message id name family flags answers at
-    × (flags_fault flags ≡ None)
+    × IsFine message flags answers at
     × ((entries : List Entry) → length entries ≡ answers → AreEntries message family at entries → ⊥)
 
 -- more aliases lead on from the name than are followed
@@ -49,7 +50,8 @@ LeadsOn message id name family = (entries : List Entry) × Tells message id name
 -- why a message answers no addresses
 abbrev pub HasFault : List ℕ → ℕ → List ℕ → Family → AnswerFault → Type 0
 HasFault message id name family faults.NotOurs = IsStranger message id name family
-HasFault message id name family faults.Malformed = IsMalformed message id name family
+HasFault message id name family faults.Malformed =
+    Fails message id name family faults.Malformed ⊎ IsMalformed message id name family
 HasFault message id name family faults.ChainTooLong = LeadsOn message id name family
 HasFault message id name family faults.Memory = Unit {0}
 HasFault message id name family fault = Fails message id name family fault

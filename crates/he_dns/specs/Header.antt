@@ -1,8 +1,6 @@
 -- Headers of messages (RFC 1035 section 4.1.1) and their first question (section 4.1.2).
-use Rattle.std.specs.Prelude.{◌≡◌, ℕ, ◌+◌, ◌/◌, ◌%◌, ◌^◌, ◌≤◌, ◌==◌, ◌&&◌, ◌≢◌, Bool, List, Option, Some, None, IsTrue, length, if◌then◌else◌}
+use Rattle.std.specs.Prelude.{◌≡◌, ℕ, ◌+◌, ◌/◌, ◌%◌, ◌^◌, ◌≤◌, ◌==◌, ◌&&◌, Bool, List, IsTrue, length}
 use Rattle.he_addr.specs.declared.ip.Family.{Family}
-use Rattle.he_dns.specs.declared.fault.AnswerFault.{AnswerFault}
-use Rattle.he_dns.specs.declared.fault.AnswerFault.TheVariants as faults
 use Rattle.he_dns.specs.Names.{IsNameAt, is_same}
 use Rattle.he_dns.specs.Numbers.{IsWordAt, class_in, header_len, type_of}
 
@@ -41,17 +39,6 @@ pub record Responds (message : List ℕ) (id : ℕ) (name : List ℕ) (family : 
   pub standard : qr_and_opcode_of flags ≡ 16
   pub question : Asks message name family at
 
--- why a response has no answer to be looked at: it is cut off, or its code says so
-abbrev pub code_fault : ℕ → Option AnswerFault
-code_fault code = if code == 0 then None
-    else if code == 2 then Some faults.ServerFailure
-    else if code == 3 then Some faults.NoSuchName
-    else if code == 5 then Some faults.Refused
-    else Some (faults.OtherCode code)
-
-abbrev pub flags_fault : ℕ → Option AnswerFault
-flags_fault flags = if tc_of flags == 1 then Some faults.Truncated else code_fault (rcode_of flags)
-
 -- the bits that say whether the server is an authority for the name (AA), and whether it asks other servers (RA)
 abbrev pub aa_of : ℕ → ℕ
 aa_of flags = flags / 2 ^ 10 % 2
@@ -70,13 +57,3 @@ pub record IsLame (message : List ℕ) : Type 0 where
   pub answers : ℕ
   pub header : IsHeader message id flags questions answers
   pub lame : IsTrue (is_lame_by flags)
-
--- A response to the query with this id that repeats no question, and whose code says neither that all is well nor that
--- there is no such name: the server refuses.
-pub record IsRefusal (message : List ℕ) (id code : ℕ) : Type 0 where
-  pub flags : ℕ
-  pub answers : ℕ
-  pub header : IsHeader message id flags 0 answers
-  pub standard : qr_and_opcode_of flags ≡ 16
-  pub says : code ≡ rcode_of flags
-  pub fails : (code ≢ 0) × (code ≢ 3)

@@ -1,5 +1,6 @@
 pub mod Answers
 pub mod Chains
+pub mod Codes
 pub mod Header
 pub mod Names
 pub mod Numbers

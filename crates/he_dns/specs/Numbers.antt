@@ -46,6 +46,10 @@ abbrev pub type_of : Family → ℕ
 type_of V4 = 1
 type_of V6 = 28
 
+-- TYPE of the record that offers room for longer datagrams (RFC 6891 section 6.1.1)
+abbrev pub type_opt : ℕ
+type_opt = 41
+
 -- TYPE of an alias (section 3.2.2)
 abbrev pub type_cname : ℕ
 type_cname = 5

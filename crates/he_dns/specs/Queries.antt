@@ -2,17 +2,14 @@
 use Rattle.std.specs.Prelude.{ℕ, List, [], ◌∷◌, ◌++◌, Option, Some, None}
 use Rattle.std.specs.Int.{w16, to_be_bytes}
 use Rattle.he_addr.specs.declared.ip.Family.{Family}
-use Rattle.he_dns.specs.Numbers.{class_in, type_of}
+use Rattle.he_dns.specs.Numbers.{class_in, type_of, type_opt}
 
 -- the header's flags of a query: RD alone (section 4.1.1)
 abbrev pub recursion_desired : ℕ
 recursion_desired = 0x0100
 
--- TYPE of the record that offers room for longer datagrams (RFC 6891 section 6.1.1)
-abbrev pub type_opt : ℕ
-type_opt = 41
-
--- The additional section: none, or a record of that type, with the root's name, the room as its class (section 6.2.3),
+-- The additional section: none, or an OPT record (RFC 6891 section 6.1.1), with the root's name, the room as its
+-- class (section 6.2.3),
 -- TTL 0 and no RDATA.
 abbrev pub additional_of : Option ℕ → List ℕ
 additional_of None = []

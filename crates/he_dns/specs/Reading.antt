@@ -1,7 +1,7 @@
 -- Mirrors the code: what the readers answer, as functions on lists. What stands in a message is said in `Names`,
 -- `Header`,
 -- `Records`, `Chains` and `Answers`.
-use Rattle.std.specs.Prelude.{◌≡◌, ℕ, zero, suc, ◌+◌, ◌-◌, ◌*◌, ◌<◌, ◌/◌, ◌%◌, ◌==◌, ◌&&◌, Bool, List, [], ◌∷◌, ◌++◌, Option, Some, None, Result, Ok, Err, length, min, slice_index, slice_range, take, drop, nat_lt, nat_le, false, not, if◌then◌else◌}
+use Rattle.std.specs.Prelude.{◌≡◌, ℕ, zero, suc, ◌+◌, ◌-◌, ◌*◌, ◌<◌, ◌/◌, ◌==◌, ◌&&◌, Bool, List, [], ◌∷◌, ◌++◌, Option, Some, None, Result, Ok, Err, length, min, slice_index, slice_range, take, drop, nat_lt, nat_le, false, is_none, not, if◌then◌else◌}
 use Rattle.std.specs.Int.{w32, w128, from_be_bytes}
 use Rattle.std.specs.Option.{option_and_then, option_map, option_map_or, option_or, unwrap_or}
 use Rattle.he_addr.specs.declared.ip.Family.{Family}
@@ -20,9 +20,10 @@ use Rattle.he_dns.specs.declared.parts.NamePart.{NamePart}
 use Rattle.he_dns.specs.declared.parts.NamePart.TheVariants.{Root, Label, Pointer}
 use Rattle.he_dns.specs.declared.records.Record.{Record}
 use Rattle.he_dns.specs.Chains.{address_for, addresses_of, alias_of}
-use Rattle.he_dns.specs.Header.{flags_fault, is_lame_by}
+use Rattle.he_dns.specs.Codes.{code_fault}
+use Rattle.he_dns.specs.Header.{is_lame_by, rcode_of, tc_of}
 use Rattle.he_dns.specs.Names.{is_same}
-use Rattle.he_dns.specs.Numbers.{class_in, counted_ttl, type_cname, type_of}
+use Rattle.he_dns.specs.Numbers.{class_in, counted_ttl, type_cname, type_of, type_opt}
 use Rattle.he_dns.specs.Ttls.{alias_ttl}
 
 infixl 10 ◌>>=◌
@@ -99,14 +100,8 @@ header_at message = if nat_lt (length message) 12 then None
 abbrev pub responds : Header → ℕ → Bool
 responds header id = header.id == id && header.flags / 2048 == 16 && header.questions == 1
 
-abbrev pub refusal_of : Header → ℕ → Option ℕ
-refusal_of header id =
-    if ((header.id == id && header.flags / 2048 == 16) && header.questions == 0) && not (header.flags % 16 == 0)
-    && not (header.flags % 16 == 3)
-    then Some (header.flags % 16) else None
-
-unfoldable pub refusal_in : List ℕ → ℕ → Option ℕ
-refusal_in message id = header_at message >>= λ header. refusal_of header id
+abbrev pub responds_bare : Header → ℕ → Bool
+responds_bare header id = header.id == id && header.flags / 2048 == 16 && header.questions == 0
 
 unfoldable pub lame_in : List ℕ → Bool
 lame_in message = option_map_or (λ header. is_lame_by header.flags) (header_at message) false
@@ -124,9 +119,62 @@ response_in message id name family = header_at message >>= λ header.
 unfoldable pub record_at : List ℕ → ℕ → Option Record
 record_at message at =
     name_at message at >>= λ owner. word_at message owner.1 >>= λ kind. word_at message (owner.1 + 2) >>= λ class.
-    ttl_at message (owner.1 + 4) >>= λ ttl. word_at message (owner.1 + 8) >>= λ size.
+    ttl_at message (owner.1 + 4) >>= λ ttl. octet_at message (owner.1 + 4) >>= λ ttl_first.
+    word_at message (owner.1 + 8) >>= λ size.
     if nat_lt (length message) (owner.1 + 10 + size) then None
-    else Some (record { owner = owner.0; kind = kind; class = class; ttl = ttl; place = owner.1 + 10; size = size })
+    else Some (record {
+      owner = owner.0;
+      kind = kind;
+      class = class;
+      ttl = ttl;
+      ttl_first = ttl_first;
+      place = owner.1 + 10;
+      size = size;
+    })
+
+-- where the last of so many records ends
+unfoldable pub behind_records : ℕ → List ℕ → ℕ → Option ℕ
+behind_records zero message at = Some at
+behind_records (suc count) message at =
+    record_at message at >>= λ r. behind_records count message (r.place + r.size)
+
+-- the upper bits of a code, after one more record, and after so many
+abbrev pub extended : Option ℕ → Record → Option (Option ℕ)
+extended found r =
+    if r.kind == type_opt
+    then if is_none found && length r.owner == 0 then Some (Some r.ttl_first) else None
+    else Some found
+
+unfoldable pub extension_from : ℕ → List ℕ → Option ℕ → ℕ → Option ℕ
+extension_from zero message found at = Some (unwrap_or found 0)
+extension_from (suc count) message found at =
+    record_at message at >>= λ r. extended found r >>= λ more. extension_from count message more (r.place + r.size)
+
+unfoldable pub extension_in : List ℕ → ℕ → ℕ → Option ℕ
+extension_in message answers at =
+    word_at message 8 >>= λ authorities. word_at message 10 >>= λ additionals.
+    behind_records answers message at >>= λ behind_answers. behind_records authorities message behind_answers >>=
+    λ begin. extension_from additionals message None begin
+
+-- the code of a response
+abbrev pub code_by : ℕ → Option ℕ → Option ℕ
+code_by low (Some extension) = Some (extension * 16 + low)
+code_by low None = if not (low == 0) && not (low == 3) then Some low else None
+
+abbrev pub code_in : List ℕ → ℕ → ℕ → ℕ → Option ℕ
+code_in message flags answers at = code_by (rcode_of flags) (extension_in message answers at)
+
+abbrev pub response_fault : List ℕ → ℕ → ℕ → ℕ → Option AnswerFault
+response_fault message flags answers at =
+    if tc_of flags == 1 then Some faults.Truncated
+    else option_map_or code_fault (code_in message flags answers at) (Some faults.Malformed)
+
+abbrev pub failure_by : ℕ → Option ℕ
+failure_by code = if not (code == 0) && not (code == 3) then Some code else None
+
+unfoldable pub refusal_in : List ℕ → ℕ → Option ℕ
+refusal_in message id = header_at message >>= λ header.
+    if responds_bare header id then option_and_then failure_by (code_in message header.flags header.answers 12) else None
 
 -- what a record says
 unfoldable pub alias_at : List ℕ → ℕ → ℕ → Option Content
@@ -209,7 +257,8 @@ section_addresses message header at name family =
 
 unfoldable pub answer_of : List ℕ → ℕ → List ℕ → Family → Result (List Ip) AnswerFault
 answer_of message id name family = option_map_or
-    (λ response. option_map_or (λ fault. Err fault) (flags_fault response.0.flags)
+    (λ response. option_map_or (λ fault. Err fault)
+    (response_fault message response.0.flags response.0.answers response.1)
     (section_addresses message response.0 response.1 name family))
     (response_in message id name family) (Err faults.NotOurs)
 

@@ -1,5 +1,5 @@
 -- Resource records (RFC 1035 section 4.1.3), and what they say of hosts.
-use Rattle.std.specs.Prelude.{◌≡◌, ◌⊎◌, ℕ, ◌+◌, ◌≤◌, List, [], ◌∷◌, length, slice_range}
+use Rattle.std.specs.Prelude.{◌≡◌, ◌⊎◌, ℕ, ◌+◌, ◌≤◌, List, [], ◌∷◌, length, slice_index, slice_range}
 use Rattle.std.specs.Int.{w32, w128, from_be_bytes}
 use Rattle.he_addr.specs.declared.ip.Family.{Family}
 use Rattle.he_addr.specs.declared.ip.Family.TheVariants as families
@@ -19,6 +19,7 @@ pub record IsRecordAt (message : List ℕ) (at : ℕ) (r : Record) : Type 0 wher
   pub kind : IsWordAt message after r.kind
   pub class : IsWordAt message (after + 2) r.class
   pub ttl : IsTtlAt message (after + 4) r.ttl
+  pub ttl_first : r.ttl_first ≡ slice_index message (after + 4)
   pub size : IsWordAt message (after + 8) r.size
   pub place : r.place ≡ after + 10
   pub within : r.place + r.size ≤ length message
@@ -57,3 +58,8 @@ abbrev pub AreEntries : List ℕ → Family → ℕ → List Entry → Type 0
 AreEntries message family at [] = Unit {0}
 AreEntries message family at (entry ∷ more) =
     (end : ℕ) × IsEntryAt message family at entry end × AreEntries message family end more
+
+-- records that stand one behind the other from a place on, the last of which ends here
+abbrev pub AreRecords : List ℕ → ℕ → List Record → ℕ → Type 0
+AreRecords message at [] end = end ≡ at
+AreRecords message at (r ∷ more) end = IsRecordAt message at r × AreRecords message (record_end r) more end

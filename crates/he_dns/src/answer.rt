@@ -8,6 +8,7 @@ ghost use Rattle.he_dns.specs.Reading.{answer_of, response_in, section_addresses
 ghost use Rattle.he_dns.specs.Ttls.{MayKeep};
 
 use crate::chain::{addresses_of, addresses_ttl, chain_end, lesser};
+use crate::codes::check;
 use crate::entries::read_entries;
 use crate::fault::AnswerFault;
 use crate::header::{Header, read_header};
@@ -79,7 +80,7 @@ fn find_answer<A: Allocator + Copy>(
     let Some((header, at)) = read_response(message, id, name, family) else {
         return Err(AnswerFault::NotOurs);
     };
-    header.check()?;
+    check(message, header, at)?;
     read_section(alloc, message, header, at, name, family)
 }
 
@@ -95,9 +96,13 @@ fn find_answer<A: Allocator + Copy>(
 /// # Errors
 ///
 /// In the order of the checks: `NotOurs` where the message is no response to the query; `Truncated` where TC is set;
-/// `ServerFailure`, `NoSuchName`, `Refused` or `OtherCode` by its RCODE, if that isn't 0; `Malformed` where the answer
-/// section isn't as many whole records, the RDATA of a CNAME isn't one name, or that of an address hasn't 4 or 16
-/// octets; `ChainTooLong`. `Memory` may come in place of an answer, of `Malformed` or of `ChainTooLong`.
+/// `Malformed` where the sections aren't as many whole records as the header says, or the upper bits of its code can't
+/// be known, unless RCODE alone says an error, but for 3; `ServerFailure`, `NoSuchName`, `Refused` or `OtherCode` by
+/// its
+/// code of 12 bits, if that isn't 0; `Malformed` where the RDATA of a CNAME isn't one name, or that of an address
+/// hasn't
+/// 4 or 16 octets; `ChainTooLong`. `Memory` may come in place of an answer, of the last `Malformed` or of
+/// `ChainTooLong`.
 ///
 /// [`MAX_ALIASES`]: crate::limits::MAX_ALIASES
 /// [`MAX_PARTS`]: crate::limits::MAX_PARTS

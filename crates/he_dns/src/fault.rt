@@ -39,10 +39,11 @@ pub enum AnswerFault {
     /// The server refused (RCODE 5).
     #[error("refused")]
     Refused,
-    /// Another response code than 0, 2, 3 and 5.
+    /// Another response code than 0, 2, 3 and 5, of 12 bits (RFC 6891 section 6.1.3).
     #[error("response code {0}")]
-    OtherCode(u8),
-    /// The answer section isn't as many whole records as the header says, or an alias or address in it isn't one.
+    OtherCode(u16),
+    /// The sections aren't as many whole records as the header says, an alias or address in the answer section isn't
+    /// one, or there are two records of RFC 6891, or one whose owner isn't the root.
     #[error("malformed")]
     Malformed,
     /// More aliases lead on than are followed.

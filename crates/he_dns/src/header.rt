@@ -1,11 +1,9 @@
 // Headers of messages (RFC 1035 section 4.1.1).
 
-ghost use Rattle.std.specs.Prelude.{◌≡◌, Ok, Err};
-ghost use Rattle.std.specs.Option.{option_map_or};
-ghost use Rattle.he_dns.specs.Header.{flags_fault, is_lame_by};
-ghost use Rattle.he_dns.specs.Reading.{header_at, refusal_of, responds};
+ghost use Rattle.std.specs.Prelude.{◌≡◌, ◌==◌};
+ghost use Rattle.he_dns.specs.Header.{is_lame_by, rcode_of, tc_of};
+ghost use Rattle.he_dns.specs.Reading.{header_at, responds, responds_bare};
 
-use crate::fault::AnswerFault;
 use crate::limits::HEADER_LEN;
 use crate::words::word_at;
 
@@ -45,17 +43,11 @@ impl Header {
         self.id == id && self.flags >> 11 == 0b1_0000 && self.questions == 1
     }
 
-    // The code by which a server refuses the query with this id, where it repeats no question.
-    pub(crate) fn refusal(self, id: u16) -> Option<u8>
-        ensures { result ≡ refusal_of self id }
+    // Whether it is of a response to a standard query with this id that repeats no question.
+    pub(crate) fn responds_bare_to(self, id: u16) -> bool
+        ensures { result ≡ responds_bare self id }
     {
-        let code = self.flags % 16;
-        let is_ours = self.id == id && self.flags >> 11 == 0b1_0000;
-        if is_ours && self.questions == 0 && code != 0 && code != 3 {
-            Some(code as u8)
-        } else {
-            None
-        }
+        self.id == id && self.flags >> 11 == 0b1_0000 && self.questions == 0
     }
 
     // Whether the server neither is an authority (AA) nor follows names itself (RA).
@@ -72,19 +64,17 @@ impl Header {
         self.answers
     }
 
-    // Whether the response is whole (TC) and has no error (RCODE).
-    pub(crate) fn check(self) -> Result<(), AnswerFault>
-        ensures { result ≡ option_map_or (λ fault. Err fault) (flags_fault self.flags) (Ok tt) }
+    // Whether the response is cut off (TC).
+    pub(crate) fn is_truncated(self) -> bool
+        ensures { result ≡ (tc_of self.flags == 1) }
     {
-        if (self.flags >> 9) % 2 == 1 {
-            return Err(AnswerFault::Truncated);
-        }
-        match self.flags % 16 {
-            0 => Ok(()),
-            2 => Err(AnswerFault::ServerFailure),
-            3 => Err(AnswerFault::NoSuchName),
-            5 => Err(AnswerFault::Refused),
-            code => Err(AnswerFault::OtherCode(code as u8)),
-        }
+        (self.flags >> 9) % 2 == 1
+    }
+
+    // RCODE: the lower 4 bits of the response's code.
+    pub(crate) fn low_code(self) -> u16
+        ensures { result ≡ rcode_of self.flags }
+    {
+        self.flags % 16
     }
 }

@@ -11,14 +11,16 @@
 //! - a name is what its text spells (`specs/Texts.antt`), and a fault is the text's;
 //! - a query's bytes are the list of `specs/Queries.antt`;
 //! - an answer's addresses are those of `specs/Answers.antt`: the header and the question are a response's to this
-//! query (`specs/Header.antt`), the answer section is as many records as the header says (`specs/Records.antt`), its
+//! query (`specs/Header.antt`) whose code of 12 bits says no error (`specs/Codes.antt`), the answer section is as many
+//! records as the header says (`specs/Records.antt`), its
 //! names are those of RFC 1035 section 4.1.4 with pointers to earlier places alone (`specs/Names.antt`), and the
 //! addresses are those of the name at the end of the chain of aliases (`specs/Chains.antt`). A fault is the message's,
 //! and no message that answers addresses has one;
 //! - the TTL of an answer is the least of those of the aliases that were followed and of the addresses
 //! (`specs/Ttls.antt`).
 //!
-//! [`read_refusal`] and [`is_lame`] report what a message says of the server that sent it (`specs/Header.antt`).
+//! [`read_refusal`] and [`is_lame`] report what a message says of the server that sent it (`specs/Codes.antt`,
+//! `specs/Header.antt`).
 //!
 //! `specs/Reading.antt` mirrors the code, for the proofs.
 //!
@@ -27,6 +29,7 @@
 
 mod answer;
 mod chain;
+mod codes;
 mod entries;
 pub mod fault;
 mod header;

@@ -20,8 +20,12 @@ pub const MAX_TTL: u32 = 0x7fff_ffff;
 // A pointer's first octet is at least this one (RFC 1035 section 4.1.4).
 pub(crate) const POINTER: u8 = 0xc0;
 
-// The octets of a message's header (RFC 1035 section 4.1.1).
+// The octets of a message's header, and the places of NSCOUNT and ARCOUNT in it (RFC 1035 section 4.1.1).
 pub(crate) const HEADER_LEN: usize = 12;
+
+pub(crate) const AUTHORITIES_AT: usize = 8;
+
+pub(crate) const ADDITIONALS_AT: usize = 10;
 
 // TYPE of an IPv4 address, of an alias (RFC 1035 section 3.2.2) and of an IPv6 address (RFC 3596 section 2.1).
 pub(crate) const TYPE_A: u16 = 1;
@@ -33,5 +37,6 @@ pub(crate) const TYPE_AAAA: u16 = 28;
 // CLASS of the Internet (RFC 1035 section 3.2.4).
 pub(crate) const CLASS_IN: u16 = 1;
 
-// The low octet of TYPE of a record that offers room for longer datagrams (RFC 6891 section 6.1.1).
+// TYPE of the record that offers room for longer datagrams, and has the upper bits of a response's code (RFC 6891
+// section 6.1.1); its high octet is 0.
 pub(crate) const TYPE_OPT: u8 = 41;

@@ -5,7 +5,7 @@ ghost use Rattle.he_dns.specs.Reading.{record_at};
 
 use crate::names::read_name;
 use crate::octets::Octets;
-use crate::words::{ttl_at, word_at};
+use crate::words::{octet_at, ttl_at, word_at};
 
 // What stands before a record's data, and where the data stands.
 #[derive(Drop)]
@@ -18,6 +18,8 @@ pub(crate) struct Record {
     pub(crate) class: u16,
     // TTL
     pub(crate) ttl: u32,
+    // Its first octet.
+    pub(crate) ttl_first: u8,
     // The place of RDATA.
     pub(crate) place: usize,
     // RDLENGTH
@@ -25,7 +27,7 @@ pub(crate) struct Record {
 }
 
 // The record at a place.
-#[tactic(auto, unfolding(crate::specs::Reading::record_at, crate::specs::Reading::word_at))]
+#[tactic(auto, unfolding(crate::specs::Reading::record_at, crate::specs::Reading::word_at, crate::specs::Reading::octet_at))]
 pub(crate) fn read_record(message: &[u8], at: usize) -> Option<Record>
     ensures value { result ≡ record_at message.now at }
     ensures within { IfSome result (λ r. r.place + r.size ≤ length message.now) }
@@ -34,6 +36,7 @@ pub(crate) fn read_record(message: &[u8], at: usize) -> Option<Record>
     let kind = word_at(message, end)?;
     let class = word_at(message, end + 2)?;
     let ttl = ttl_at(message, end + 4)?;
+    let ttl_first = octet_at(message, end + 4)?;
     let size = word_at(message, end + 8)? as usize;
     let place = end + 10;
     if message.len() - place < size {
@@ -44,6 +47,7 @@ pub(crate) fn read_record(message: &[u8], at: usize) -> Option<Record>
         kind,
         class,
         ttl,
+        ttl_first,
         place,
         size,
     })

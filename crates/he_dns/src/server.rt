@@ -1,14 +1,17 @@
-// What the header of a message says of the server that sent it (RFC 1035 section 4.1.1).
+// What a message says of the server that sent it (RFC 1035 section 4.1.1).
 
 ghost use Rattle.std.specs.Prelude.{◌≡◌, true, IfNone, IfSome};
-ghost use Rattle.he_dns.specs.Header.{IsLame, IsRefusal};
+ghost use Rattle.he_dns.specs.Codes.{IsRefusal};
+ghost use Rattle.he_dns.specs.Header.{IsLame};
 ghost use Rattle.he_dns.specs.Reading.{lame_in, refusal_in};
 
+use crate::codes::read_code;
 use crate::header::read_header;
+use crate::limits::HEADER_LEN;
 
-/// The RCODE by which a server refuses the query with this id and repeats no question, as one may that does not read
+/// The code by which a server refuses the query with this id and repeats no question, as one may that does not read
 /// on: any code but 0 and 3. None for every other message.
-pub fn read_refusal(message: &[u8], id: u16) -> Option<u8>
+pub fn read_refusal(message: &[u8], id: u16) -> Option<u16>
     ensures some { IfSome result (IsRefusal message.now id) }
     ensures none { IfNone result ((code : _) → IsRefusal message.now id code → ⊥) }
 {
@@ -16,10 +19,17 @@ pub fn read_refusal(message: &[u8], id: u16) -> Option<u8>
 }
 
 #[tactic(auto, unfolding(crate::specs::Reading::refusal_in))]
-fn find_refusal(message: &[u8], id: u16) -> Option<u8>
+fn find_refusal(message: &[u8], id: u16) -> Option<u16>
     ensures { result ≡ refusal_in message.now id }
 {
-    read_header(message)?.refusal(id)
+    let header = read_header(message)?;
+    if !header.responds_bare_to(id) {
+        return None;
+    }
+    match read_code(message, header, HEADER_LEN)? {
+        0 | 3 => None,
+        code => Some(code),
+    }
 }
 
 /// Whether the server that sent a message can't answer for others: it is no authority for the name (AA), and doesn't

@@ -9,7 +9,7 @@ use Rattle.he_host.specs.declared.fib_trie.OwnAddress.{OwnAddress}
 use Rattle.he_host.specs.declared.fib_trie.TrieLine.{TrieLine}
 use Rattle.he_host.specs.declared.fib_trie.TrieLine.TheVariants.{Heading, Leaf, Own, Other}
 use Rattle.he_host.specs.declared.fib_trie.TrieState.{TrieState}
-use Rattle.he_host.specs.Parts.{field_of}
+use Rattle.he_kernel.specs.Parts.{field_of}
 
 -- the line is `/32 host LOCAL`; none where it has fewer fields
 unfoldable pub is_own : List ℕ → Option Bool

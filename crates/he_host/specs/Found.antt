@@ -4,18 +4,19 @@ use Rattle.he_select.specs.declared.host.Source.{Source}
 use Rattle.he_host.specs.declared.found.FoundRoute.{FoundRoute}
 use Rattle.he_host.specs.declared.found.FoundSource.{FoundSource}
 use Rattle.he_host.specs.declared.found.Metered.{Metered}
-use Rattle.he_host.specs.declared.if_inet6.AddressLine.{AddressLine}
+use Rattle.he_kernel.specs.declared.if_inet6.AddressLine.{AddressLine}
 use Rattle.he_host.specs.declared.interface.Interface.{Interface}
-use Rattle.he_host.specs.declared.interface.Link.{Link}
-use Rattle.he_host.specs.declared.ipv4_route.V4Line.{V4Line}
+use Rattle.he_kernel.specs.declared.link.Link.{Link}
+use Rattle.he_kernel.specs.declared.ipv4_line.V4Line.{V4Line}
 use Rattle.he_host.specs.declared.ipv6_route.RouteLine.{RouteLine}
 use Rattle.he_host.specs.declared.left_out.File.TheVariants as files
-use Rattle.he_host.specs.declared.left_out.Why.{Why}
-use Rattle.he_host.specs.declared.left_out.Why.TheVariants as whys
+use Rattle.he_kernel.specs.declared.why.Why.{Why}
+use Rattle.he_kernel.specs.declared.why.Why.TheVariants as whys
 use Rattle.he_host.specs.declared.reading.TheConstants.{HEADING}
-use Rattle.he_host.specs.IfInet6.{address_line, source_of}
+use Rattle.he_kernel.specs.IfInet6.{address_line, source_of}
 use Rattle.he_host.specs.Interfaces.{link_at}
-use Rattle.he_host.specs.Ipv4Route.{v4_line, v4_route}
+use Rattle.he_host.specs.Ipv4Route.{v4_route}
+use Rattle.he_kernel.specs.Ipv4Line.{v4_line}
 use Rattle.he_host.specs.Ipv6Route.{route_line, route_of}
 
 abbrev pub source_by : Option Link → Option AddressLine → Result Source Why

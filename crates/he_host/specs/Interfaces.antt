@@ -3,8 +3,8 @@ use Rattle.std.specs.Prelude.{ℕ, ◌==◌, ◌&&◌, not, List, [], ◌∷◌,
 use Rattle.std.specs.Str.{bytes_eq}
 use Rattle.he_addr.specs.Reading.{◌>>=◌}
 use Rattle.he_host.specs.declared.interface.Interface.{Interface}
-use Rattle.he_host.specs.declared.interface.Link.{Link}
-use Rattle.he_host.specs.Parts.{field_of}
+use Rattle.he_kernel.specs.declared.link.Link.{Link}
+use Rattle.he_kernel.specs.Parts.{field_of}
 
 -- the first interface of this name that is up and has a number
 abbrev pub link_of : List ℕ → List Interface → Option Link

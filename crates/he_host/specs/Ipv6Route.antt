@@ -4,12 +4,12 @@ use Rattle.std.specs.Prelude.{ℕ, ◌/◌, ◌^◌, ◌==◌, ◌&&◌, ◌||�
 use Rattle.he_addr.specs.Prefix.{PrefixBits}
 use Rattle.he_addr.specs.Reading.{◌>>=◌, checked}
 use Rattle.he_host.specs.declared.found.Metered.{Metered}
-use Rattle.he_host.specs.declared.interface.Link.{Link}
+use Rattle.he_kernel.specs.declared.link.Link.{Link}
 use Rattle.he_host.specs.declared.ipv6_route.RouteLine.{RouteLine}
 use Rattle.he_host.specs.declared.ipv6_route.TheConstants.{ANYCAST, CACHED, IN_USE, LAST_METRIC, LOCAL, NETWORK_METRIC, REJECT}
-use Rattle.he_host.specs.declared.left_out.Why.{Why}
-use Rattle.he_host.specs.declared.left_out.Why.TheVariants as whys
-use Rattle.he_host.specs.Hex.{has, hex_field}
+use Rattle.he_kernel.specs.declared.why.Why.{Why}
+use Rattle.he_kernel.specs.declared.why.Why.TheVariants as whys
+use Rattle.he_kernel.specs.Hex.{has, hex_field}
 
 -- the numbers of a line
 unfoldable pub route_line : List ℕ → Option RouteLine

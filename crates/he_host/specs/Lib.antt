@@ -1,16 +1,8 @@
 pub mod FibTrie
 pub mod Found
 pub mod Gathering
-pub mod Hex
-pub mod IfInet6
 pub mod Interfaces
 pub mod Ipv4Route
 pub mod Ipv6Route
-pub mod Lines
-pub mod OwnInterfaces
-pub mod Parts
 pub mod Placing
-pub mod Sysfs
-pub mod Ways
 pub mod Whole
-pub mod Written

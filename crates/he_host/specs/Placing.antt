@@ -12,10 +12,10 @@ use Rattle.he_host.specs.declared.found.FoundRoute.{FoundRoute}
 use Rattle.he_host.specs.declared.found.FoundSource.{FoundSource}
 use Rattle.he_host.specs.declared.found.Metered.{Metered}
 use Rattle.he_host.specs.declared.interface.Interface.{Interface}
-use Rattle.he_host.specs.declared.interface.Link.{Link}
+use Rattle.he_kernel.specs.declared.link.Link.{Link}
 use Rattle.he_host.specs.declared.left_out.File.TheVariants as files
-use Rattle.he_host.specs.declared.left_out.Why.{Why}
-use Rattle.he_host.specs.declared.left_out.Why.TheVariants as whys
+use Rattle.he_kernel.specs.declared.why.Why.{Why}
+use Rattle.he_kernel.specs.declared.why.Why.TheVariants as whys
 use Rattle.he_host.specs.declared.placing.InterfaceAnswer.{InterfaceAnswer}
 use Rattle.he_host.specs.declared.placing.Place.{Place}
 use Rattle.he_host.specs.declared.placing.TheConstants.{LOOPBACK_LEN}

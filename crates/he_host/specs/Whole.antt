@@ -7,15 +7,16 @@ use Rattle.he_host.specs.declared.found.FoundSource.{FoundSource}
 use Rattle.he_host.specs.declared.host.Files.{Files}
 use Rattle.he_host.specs.declared.host.TheConstants.{FIRST, LOOPBACK_BITS, LOOPBACK_LEN}
 use Rattle.he_host.specs.declared.interface.Interface.{Interface}
-use Rattle.he_host.specs.declared.interface.Link.{Link}
+use Rattle.he_kernel.specs.declared.link.Link.{Link}
 use Rattle.he_host.specs.declared.left_out.File.TheVariants as files
 use Rattle.he_host.specs.declared.left_out.LeftOut.{LeftOut}
 use Rattle.he_host.specs.declared.placing.InterfaceAnswer.{InterfaceAnswer}
 use Rattle.he_host.specs.FibTrie.{own_addresses}
 use Rattle.he_host.specs.Found.{found_v4_route, found_v6_route, found_v6_source}
-use Rattle.he_host.specs.Gathering.{routes_kept, routes_left, sources_kept, sources_left}
+use Rattle.he_host.specs.Gathering.{route_read, routes_left, source_read, sources_left}
+use Rattle.he_kernel.specs.Keeping.{routes_kept, sources_kept}
 use Rattle.he_host.specs.Interfaces.{loopback_of}
-use Rattle.he_host.specs.Lines.{numbered}
+use Rattle.he_kernel.specs.Lines.{numbered}
 use Rattle.he_host.specs.Placing.{found_own}
 
 -- the route to the loopback's IPv4 addresses, 127.0.0.0/8, which is in no file
@@ -61,7 +62,7 @@ in_turn v4 v6 = take (min (length v4) FIRST) v4 ++ v6 ++ drop (min (length v4) F
 -- the machine is that of what is kept of these, and what is left out is told, of sources first
 pub record HasKept (sources_found : List FoundSource) (routes_found : List FoundRoute) (host : HostLists)
     (left : List LeftOut) : Type 0 where
-  pub made : Ok host ≡ host_of (sources_kept [] sources_found) (routes_kept [] routes_found)
+  pub made : Ok host ≡ host_of (sources_kept [] (map source_read sources_found)) (routes_kept [] (map route_read routes_found))
   pub told : left ≡ sources_left [] sources_found ++ routes_left [] routes_found
 
 -- the machine of the files, and what is left out of it, with routes that are those of the files by rank

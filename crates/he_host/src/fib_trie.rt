@@ -3,11 +3,11 @@
 
 ghost use Rattle.std.specs.Prelude.{◌≡◌, map, IfOk};
 ghost use Rattle.he_host.specs.FibTrie.{trie_line, is_own, step, told, own_from, nowhere, own_addresses};
-ghost use Rattle.he_host.specs.Lines.{plain};
+ghost use Rattle.he_kernel.specs.Lines.{plain};
 
-use crate::lines::NumberedLine;
-use crate::parts::field;
 use he_addr::{Family, Ip, Memory, read_ip_of};
+use he_kernel::lines::NumberedLine;
+use he_kernel::parts::field;
 use std::alloc::Allocator;
 
 /// What a line says.

@@ -1,6 +1,7 @@
 // What the lines of the files say.
 
-use crate::left_out::{File, Why};
+use crate::left_out::File;
+use he_kernel::why::Why;
 use he_select::{Route, Source};
 
 /// A route with its metric: of two to the same prefix the one with the lower metric is used.

@@ -1,7 +1,6 @@
 // The machine of the files.
 
-ghost use Rattle.std.specs.Prelude.{◌≡◌, IfOk, None, Ok};
-ghost use Rattle.he_select.specs.HostFaults.{host_fault, host_of};
+ghost use Rattle.std.specs.Prelude.{◌≡◌, IfOk};
 ghost use Rattle.he_host.specs.Gathering.{IsRanked};
 ghost use Rattle.he_host.specs.Interfaces.{loopback_of};
 ghost use Rattle.he_host.specs.Whole.{routes_in, v4_sources_in, v6_sources_in, loopback_found, IsHostOf, HasKept, in_turn};
@@ -11,10 +10,11 @@ use crate::found::{FoundRoute, FoundSource, Metered};
 use crate::gathering::{keep_routes, keep_sources, rank_routes};
 use crate::interface::{Interface, find_loopback};
 use crate::left_out::{File, LeftOut};
-use crate::lines::read_lines;
 use crate::placing::{Around, find_v4_sources};
 use crate::reading::{find_v4_routes, find_v6_routes, find_v6_sources};
 use he_addr::{Memory, Prefix};
+use he_kernel::keeping::make_host;
+use he_kernel::lines::read_lines;
 use he_select::{Host, Route, Source};
 use std::alloc::Allocator;
 
@@ -146,20 +146,9 @@ fn put_in_turn<A: Allocator + Copy>(
     Ok(turn)
 }
 
-// The machine of lists that are a machine's.
-fn make_host<A: Allocator + Copy>(sources: Vec<Source, A>, routes: Vec<Route, A>) -> Host<A>
-    requires { host_fault sources.items routes.items ≡ None }
-    ensures { Ok result ≡ host_of sources.items routes.items }
-{
-    match Host::from_lists(sources, routes) {
-        Ok(host) => host,
-        Err(_) => unreachable!(),
-    }
-}
-
 // The machine that keeps of these sources and routes what there is place for. What is kept is a machine's, so that
 // nothing but memory is refused.
-pub(crate) fn keep<A: Allocator + Copy>(
+fn keep<A: Allocator + Copy>(
     alloc: A,
     turn: &[FoundSource],
     routes: &[FoundRoute],

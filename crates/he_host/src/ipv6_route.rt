@@ -4,10 +4,10 @@ ghost use Rattle.std.specs.Prelude.{◌≡◌};
 ghost use Rattle.he_host.specs.Ipv6Route.{is_internal, is_loopback, route_line, route_of};
 
 use crate::found::Metered;
-use crate::hex::{has, read_hex_field};
-use crate::interface::Link;
-use crate::left_out::Why;
 use he_addr::Prefix;
+use he_kernel::hex::{has, read_hex_field};
+use he_kernel::link::Link;
+use he_kernel::why::Why;
 use he_select::Route;
 
 const IN_USE: u128 = 0x0000_0001;

@@ -5,128 +5,32 @@
 use crate::fib_trie::{OwnAddress, read_own_addresses};
 use crate::found::FoundRoute;
 use crate::host::{Files, FoundHost, find_host, find_routes};
-use crate::interface::{Interface, Link};
-use crate::kernel::{NO_SCOPE, ROOT_SERVER_V4, ROOT_SERVER_V6, ask_source};
-use crate::left_out::Why;
-use crate::lines::read_lines;
-use crate::parts::field;
+use crate::interface::Interface;
 use crate::placing::{Around, InterfaceAnswer, find_connected, make_v4_source};
 use crate::remarks::{
     is_elsewhere, write_guess, write_other_source, write_remarks, write_unseen_tables,
 };
-use crate::sysfs::{Sysfs, make_link};
-use crate::writing::write_host;
 use he_addr::prefix::V6_BITS;
 use he_addr::{Ip, Memory, Prefix};
+use he_kernel::fault::MachineFault;
+use he_kernel::files::{read_if_there, read_link_of};
+use he_kernel::lines::read_lines;
+use he_kernel::link::Link;
+use he_kernel::parts::field;
+use he_kernel::sockets::{NO_SCOPE, ROOT_SERVER_V4, ROOT_SERVER_V6, ask_source};
+use he_kernel::why::Why;
+use he_kernel::writing::write_host;
 use he_select::{Host, Policy, Route, Source};
-use std::alloc::{AllocError, AllocFailed, AllocGlobal, Global};
+use std::alloc::{AllocGlobal, Global};
+use std::fs;
 use std::net::Net;
 use std::rt::Files as FileSystem;
-use std::{fs, io};
-use thiserror::Error;
-
-/// Why the lines of this machine aren't written.
-#[derive(Clone, Copy, Debug, PartialEq, Eq, Error)]
-pub enum MachineFault {
-    /// `/proc/net/route` or `/proc/net/fib_trie` can't be read.
-    #[error("cannot read /proc/net")]
-    NoFiles,
-    /// An allocation was refused.
-    #[error("out of memory")]
-    Memory,
-}
-
-impl From<AllocError> for MachineFault {
-    fn from(_refused: AllocError) -> MachineFault {
-        MachineFault::Memory
-    }
-}
-
-impl<T: Drop> From<AllocFailed<T>> for MachineFault {
-    fn from(_refused: AllocFailed<T>) -> MachineFault {
-        MachineFault::Memory
-    }
-}
-
-impl From<io::Error> for MachineFault {
-    fn from(error: io::Error) -> MachineFault {
-        match error.kind() {
-            io::ErrorKind::OutOfMemory => MachineFault::Memory,
-            _ => MachineFault::NoFiles,
-        }
-    }
-}
-
-// Linux's numbers of the errors for which a file has nothing to say: it isn't there, its interface isn't there any
-// more, a part of its path is no directory, and the interface is down, so that it has no carrier.
-const ENOENT: i32 = 2;
-
-const ENODEV: i32 = 19;
-
-const ENOTDIR: i32 = 20;
-
-const EINVAL: i32 = 22;
-
-// Whether there is no such file, or it has nothing to say.
-pub(crate) fn is_absent(error: &io::Error) -> bool {
-    matches!(
-        error.raw_os_error(),
-        Some(ENOENT | ENODEV | ENOTDIR | EINVAL)
-    )
-}
-
-// The bytes of a file; none where it isn't there. A file that is there and can't be read has none, and a remark.
-pub(crate) fn read_if_there<R: FileSystem + AllocGlobal>(
-    rt: &R,
-    path: &str,
-    remarks: &mut Vec<u8>,
-) -> Result<Vec<u8>, MachineFault> {
-    let error = match fs::read(rt, path) {
-        Ok(bytes) => return Ok(bytes),
-        Err(error) => error,
-    };
-    if error.kind() == io::ErrorKind::OutOfMemory {
-        return Err(MachineFault::Memory);
-    }
-    if !is_absent(&error) {
-        let line = format!(in rt.alloc(); "he: cannot read {path}: {error}\n")?;
-        remarks.extend_from_slice(line.as_bytes())?;
-    }
-    Ok(Vec::new(rt.alloc()))
-}
 
 // An interface with its name, before it is lent.
 #[derive(Drop)]
 struct Named {
     name: Vec<u8>,
     link: Link,
-}
-
-fn read_sysfs<R: FileSystem + AllocGlobal>(
-    rt: &R,
-    name: &str,
-    file: &str,
-    remarks: &mut Vec<u8>,
-) -> Result<Vec<u8>, MachineFault> {
-    let path = format!(in rt.alloc(); "/sys/class/net/{name}/{file}")?;
-    read_if_there(rt, path.as_str(), remarks)
-}
-
-pub(crate) fn read_link_of<R: FileSystem + AllocGlobal>(
-    rt: &R,
-    name: &str,
-    remarks: &mut Vec<u8>,
-) -> Result<Link, MachineFault> {
-    let ifindex = read_sysfs(rt, name, "ifindex", remarks)?;
-    let flags = read_sysfs(rt, name, "flags", remarks)?;
-    let carrier = read_sysfs(rt, name, "carrier", remarks)?;
-    let kind = read_sysfs(rt, name, "type", remarks)?;
-    Ok(make_link(Sysfs {
-        ifindex: &ifindex,
-        flags: &flags,
-        carrier: &carrier,
-        kind: &kind,
-    }))
 }
 
 // The name in a line of `/proc/net/dev`, which stands before a colon.

@@ -5,10 +5,12 @@ ghost use Rattle.he_host.specs.Placing.{holds, is_loopback, longer, longer_route
 
 use crate::fib_trie::OwnAddress;
 use crate::found::{FoundRoute, FoundSource, Metered};
-use crate::interface::{Interface, Link, find_loopback};
-use crate::left_out::{File, Why};
+use crate::interface::{Interface, find_loopback};
+use crate::left_out::File;
 use he_addr::prefix::{MAPPED_LEN, V4_BITS};
 use he_addr::{Ip, Memory};
+use he_kernel::link::Link;
+use he_kernel::why::Why;
 use he_select::{Route, Source};
 use std::alloc::Allocator;
 

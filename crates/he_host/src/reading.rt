@@ -2,16 +2,18 @@
 
 ghost use Rattle.std.specs.Prelude.{◌≡◌, ◌++◌, map, IfOk, OnOk};
 ghost use Rattle.he_host.specs.Found.{found_v6_source, found_v6_route, found_v4_route, v6_source, v6_route, v4_route_read};
-ghost use Rattle.he_host.specs.Lines.{plain};
+ghost use Rattle.he_kernel.specs.Lines.{plain};
 
 use crate::found::{FoundRoute, FoundSource, Metered};
-use crate::if_inet6::{make_source, read_address_line};
 use crate::interface::{Interface, read_link};
-use crate::ipv4_route::{make_v4_route, read_v4_line};
+use crate::ipv4_route::make_v4_route;
 use crate::ipv6_route::{make_route, read_route_line};
-use crate::left_out::{File, Why};
-use crate::lines::NumberedLine;
+use crate::left_out::File;
 use he_addr::Memory;
+use he_kernel::if_inet6::{make_source, read_address_line};
+use he_kernel::ipv4_line::read_v4_line;
+use he_kernel::lines::NumberedLine;
+use he_kernel::why::Why;
 use he_select::Source;
 use std::alloc::Allocator;
 

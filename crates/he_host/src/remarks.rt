@@ -3,16 +3,17 @@
 use crate::fib_trie::{OwnAddress, read_own_addresses};
 use crate::found::{FoundRoute, Metered};
 use crate::host::Files;
-use crate::if_inet6::read_address_line;
-use crate::ipv4_route::{read_mask, read_v4_line};
+use crate::ipv4_route::read_mask;
 use crate::ipv6_route::read_route_line;
-use crate::left_out::{File, LeftOut, Why};
-use crate::lines::{NumberedLine, read_lines};
-use crate::parts::field;
+use crate::left_out::{File, LeftOut};
 use crate::placing::holds;
-use crate::ways::Way;
 use he_addr::prefix::MAPPED_LEN;
 use he_addr::{Ip, Memory, Prefix, read_number, write_ip, write_number, write_prefix};
+use he_kernel::if_inet6::read_address_line;
+use he_kernel::ipv4_line::read_v4_line;
+use he_kernel::lines::{NumberedLine, read_lines};
+use he_kernel::parts::field;
+use he_kernel::why::Why;
 use he_select::Source;
 use std::alloc::Allocator;
 
@@ -22,7 +23,6 @@ fn file_name(file: File) -> &'static [u8] {
         File::FibTrie => b"/proc/net/fib_trie",
         File::Ipv6Route => b"/proc/net/ipv6_route",
         File::Ipv4Route => b"/proc/net/route",
-        File::Kernel => b"the kernel's answer",
     }
 }
 
@@ -112,7 +112,6 @@ impl<'t, A: Allocator + Copy> Read<'t, A> {
             File::FibTrie => Some(Subject::Address(find_address(&self.own, left.line)?)),
             File::Ipv6Route => v6_subject(line_at(&self.ipv6_route, left.line)?),
             File::Ipv4Route => v4_subject(line_at(&self.route, left.line)?),
-            File::Kernel => None,
         }
     }
 }
@@ -227,25 +226,6 @@ pub fn write_other_source<A: Allocator + Copy>(
         b" as these lines say: `he host --for ADDRESS` asks it for single addresses\n",
         out,
     )
-}
-
-/// Appends the line for a destination for which the rules take another source than the kernel, whatever lines there
-/// are.
-///
-/// # Errors
-///
-/// [`Memory`]: an allocation was refused; a part of the line may be there.
-pub fn write_unsaid<A: Allocator + Copy>(way: Way, out: &mut Vec<u8, A>) -> Result<(), Memory> {
-    write_word(b"he: ", out)?;
-    write_ip(way.to, out)?;
-    match way.from {
-        Some(from) => {
-            write_word(b" is reached from ", out)?;
-            write_ip(from, out)?;
-        }
-        None => write_word(b" is not reached", out)?,
-    }
-    write_word(b", which source and route lines cannot say\n", out)
 }
 
 // The number of a table with which its part of `/proc/net/fib_trie` begins, as in `Id 51820:`; None in other lines,

@@ -1,7 +1,8 @@
 -- The port that a word names: a number, or a service by its name.
-use Rattle.std.specs.Prelude.{◌≡◌, ◌≤◌, ◌==◌, ◌&&◌, ◌||◌, ℕ, Bool, true, false, not, List, [], ◌∷◌, Some, codes, if◌then◌else◌, length, nat_le}
+use Rattle.std.specs.Prelude.{◌≡◌, ◌≤◌, ◌==◌, ◌&&◌, ◌||◌, ℕ, Bool, true, false, not, List, [], ◌∷◌, Some, codes, drop, if◌then◌else◌, length, nat_le, position}
 use Rattle.std.specs.Char.{is_ascii_alphabetic, is_ascii_alphanumeric}
 use Rattle.std.specs.List.{list_all, list_any}
+use Rattle.std.specs.Option.{option_map_or}
 use Rattle.clap.specs.Matches.{first_value}
 use Rattle.clap.specs.declared.parser.matches.Found.{Found}
 use Rattle.he_addr.specs.Reading.{number_in}
@@ -30,9 +31,18 @@ abbrev pub IsPort : Port → Type 0
 IsPort (ports.Number number) = (LEAST_PORT ≤ number) × (number ≤ MOST_PORT)
 IsPort (ports.Service name) = is_service name.now ≡ true
 
+-- the digits after the zeros that may begin them
+abbrev pub without_zeros : List ℕ → List ℕ
+without_zeros digits = option_map_or (λ at. drop at digits) (position (λ byte. not (byte == 48)) digits) []
+
+-- the digits of a number, as strtoul(3) reads it: a plus sign and zeros may begin it
+abbrev pub port_digits : List ℕ → List ℕ
+port_digits [] = []
+port_digits (byte ∷ word) = if byte == 43 then without_zeros word else without_zeros (byte ∷ word)
+
 -- a word that is a number says that port, any other is the name
 abbrev pub SaysPort : List ℕ → Port → Type 0
-SaysPort word (ports.Number number) = number_in word ≡ Some number
+SaysPort word (ports.Number number) = number_in (port_digits word) ≡ Some number
 SaysPort word (ports.Service name) = name.now ≡ word
 
 -- the port of the line

@@ -109,7 +109,7 @@ pub struct Connection<'a> {
     pub settings: Settings,
     /// The file that has the source, route and policy lines of the race, in place of this machine.
     pub lines: Option<&'a str>,
-    pub resolver: Resolver,
+    pub resolver: Resolver<'a>,
     /// Whether the race is explained.
     pub explains: bool,
     /// Whether each step is reported as it happens.
@@ -126,7 +126,10 @@ pub struct Connection<'a> {
 
 // The connection that the line asks for. Its record or its object goes to standard output only where nothing else
 // does.
-pub(crate) fn connection_of<'a>(matches: &ArgMatches<'a>) -> Result<Connection<'a>, OptionFault>
+pub(crate) fn connection_of<'a>(
+    alloc: Global,
+    matches: &ArgMatches<'a>,
+) -> Result<Connection<'a>, OptionFault>
     ensures port { IfOk result (λ connection. IsPort connection.port) }
     ensures asks { IfOk result (AsksConnection ⟦<u32 as FromStr>⟧.from_str_gives (found_of matches.now)) }
 {
@@ -139,7 +142,7 @@ pub(crate) fn connection_of<'a>(matches: &ArgMatches<'a>) -> Result<Connection<'
     if is_json && (record == Some(STANDARD) || !only_tries) {
         return Err(OptionFault::Json);
     }
-    let (port, resolver) = (port_of(matches)?, resolver_of(matches)?);
+    let (port, resolver) = (port_of(matches)?, resolver_of(alloc, matches)?);
     Ok(Connection {
         host: host_of(matches),
         port,

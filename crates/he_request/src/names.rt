@@ -56,7 +56,7 @@ pub(crate) fn command<'a>(alloc: Global) -> Result<Command<'a>, AllocError> {
 pub struct Names<'a> {
     /// A name or an address.
     pub host: &'a str,
-    pub resolver: Resolver,
+    pub resolver: Resolver<'a>,
     /// Whether the answers are written as JSON.
     pub is_json: bool,
     /// Whether what happened is reported.
@@ -64,10 +64,13 @@ pub struct Names<'a> {
 }
 
 // What the line asks for.
-pub(crate) fn names_of<'a>(matches: &ArgMatches<'a>) -> Result<Names<'a>, OptionFault> {
+pub(crate) fn names_of<'a>(
+    alloc: Global,
+    matches: &ArgMatches<'a>,
+) -> Result<Names<'a>, OptionFault> {
     Ok(Names {
         host: matches.get_str("host").unwrap_or(""),
-        resolver: resolver_of(matches)?,
+        resolver: resolver_of(alloc, matches)?,
         is_json: flag_of(matches, "json"),
         tells_steps: flag_of(matches, "verbose"),
     })

@@ -1,9 +1,9 @@
 //! The port that a line names.
-ghost use Rattle.std.specs.Prelude.{◌≡◌, IfOk, IfSome, true};
+ghost use Rattle.std.specs.Prelude.{◌≡◌, ◌==◌, IfOk, IfSome, not, position, true};
 ghost use Rattle.std.specs.Char.{is_ascii_alphabetic};
 ghost use Rattle.std.specs.List.{list_all, list_any};
 ghost use Rattle.clap.specs.Matches.{found_of};
-ghost use Rattle.he_request.specs.Ports.{IsPort, NamesPort, SaysPort, are_apart, is_service, is_sign};
+ghost use Rattle.he_request.specs.Ports.{IsPort, NamesPort, SaysPort, are_apart, is_service, is_sign, port_digits, without_zeros};
 
 use crate::limits::{LEAST_PORT, MOST_PORT, MOST_SERVICE};
 use crate::refusal::OptionFault;
@@ -11,6 +11,8 @@ use clap::ArgMatches;
 use he_addr::read_number;
 
 const HYPHEN: u8 = b'-';
+
+const PLUS: u8 = b'+';
 
 /// The port that a line names.
 #[derive(Clone, Copy)]
@@ -40,13 +42,37 @@ pub(crate) fn read_port<'a>(word: &'a str) -> Option<Port<'a>>
     ensures is { IfSome result IsPort }
     ensures says { IfSome result (SaysPort word.now) }
 {
-    match read_number(word.as_bytes()) {
+    match read_number(port_digits(word.as_bytes())) {
         Some(number) if LEAST_PORT <= number && number <= MOST_PORT => {
             Some(Port::Number(number as u16))
         }
         _ if is_service(word.as_bytes()) => Some(Port::Service(word)),
         _ => None,
     }
+}
+
+fn port_digits(word: &[u8]) -> &[u8]
+    ensures { result.now ≡ port_digits word.now }
+{
+    match word {
+        [PLUS, digits @ ..] => without_zeros(digits),
+        _ => without_zeros(word),
+    }
+}
+
+fn without_zeros(digits: &[u8]) -> &[u8]
+    ensures { result.now ≡ without_zeros digits.now }
+{
+    match first_nonzero(digits) {
+        Some(at) => &digits[at..],
+        None => &[],
+    }
+}
+
+fn first_nonzero(digits: &[u8]) -> Option<usize>
+    ensures { result ≡ position (λ byte. not (byte == 48)) digits.now }
+{
+    digits.iter().position(|byte| *byte != b'0')
 }
 
 fn is_service(name: &[u8]) -> bool

@@ -32,8 +32,9 @@ repeatable. An address to listen on that is not a\nloopback address needs one";
 const PRIVATE_HELP: &str = "Connect clients of other machines to loopback,\n\
 link-local and private addresses too";
 
-const RESOLVER_HELP: &str = "The name server to ask: ADDRESS, ADDRESS:PORT or\n\
-[ADDRESS]:PORT; default is /etc/resolv.conf";
+const RESOLVER_HELP: &str = "The name server to ask: ADDRESS, ADDRESS:PORT,\n\
+[ADDRESS]:PORT or ADDRESS%INTERFACE;\n\
+default is /etc/resolv.conf";
 
 const RECORD_HELP: &str = "Write each race to a file of its own under DIR";
 
@@ -143,7 +144,7 @@ pub struct Proxy<'a> {
     pub settings: Settings,
     /// The file that has the source, route and policy lines of the races, in place of this machine.
     pub lines: Option<&'a str>,
-    pub resolver: Resolver,
+    pub resolver: Resolver<'a>,
     /// The folder of the records.
     pub record: Option<&'a str>,
     /// How many records are kept, where that is given.
@@ -164,7 +165,7 @@ pub(crate) fn proxy_of<'a>(alloc: Global, matches: &ArgMatches<'a>) -> Result<Pr
     let listen = addresses_in(alloc, values_of(matches, "listen"))?;
     let allow = networks_in(alloc, values_of(matches, "allow"))?;
     let settings = settings_of(changes_of(matches)?);
-    let resolver = resolver_of(matches)?;
+    let resolver = resolver_of(alloc, matches)?;
     let idle = idle_of(matches)?;
     let record = record_of(matches)?;
     Ok(Proxy {

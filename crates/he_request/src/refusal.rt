@@ -5,6 +5,7 @@ ghost use Rattle.he_request.specs.Requests.{refusal_by};
 
 use clap::Error;
 use clap::error::ErrorKind;
+use he_names::HostFault;
 use he_timeline::Range;
 use std::alloc::AllocError;
 use thiserror::Error;
@@ -34,8 +35,10 @@ pub enum Refusal {
 pub enum OptionFault {
     #[error("invalid value for PORT: neither a number from 1 to 65535 nor the name of a service, as `https`")]
     Port,
-    #[error("invalid value for '--resolver <RESOLVER>': neither an address, nor an address and a port, nor `system`")]
+    #[error("invalid value for '--resolver <RESOLVER>': neither an address, alone or with a port or an interface, nor `system`")]
     Resolver,
+    #[error("invalid value for '--resolver <RESOLVER>': {0}")]
+    Server(HostFault),
     #[error("invalid value for '--for <ADDRESS>...': not an IPv4 or IPv6 address")]
     Destination,
     #[error("invalid value for '--record <FILE>': `-` goes with `-z`, since the connection has standard output")]
@@ -96,6 +99,9 @@ impl From<AllocError> for Refusal {
 
 impl From<OptionFault> for Refusal {
     fn from(fault: OptionFault) -> Refusal {
-        Refusal::Option(fault)
+        match fault {
+            OptionFault::Server(HostFault::Memory) => Refusal::Memory,
+            fault => Refusal::Option(fault),
+        }
     }
 }

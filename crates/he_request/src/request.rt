@@ -148,12 +148,12 @@ fn request_of<'a>(
         }));
     };
     match name {
-        "connect" => match connect::connection_of(matches) {
+        "connect" => match connect::connection_of(alloc, matches) {
             Ok(connection) => Ok(Request::Connect(connection)),
-            Err(fault) => Err(Refusal::Option(fault)),
+            Err(fault) => Err(Refusal::from(fault)),
         },
         "proxy" => Ok(Request::Proxy(proxy::proxy_of(alloc, matches)?)),
-        "names" => Ok(Request::Names(names::names_of(matches)?)),
+        "names" => Ok(Request::Names(names::names_of(alloc, matches)?)),
         "host" => Ok(Request::Host(host::host_of(alloc, matches)?)),
         "live" => match live::live_of(matches) {
             Ok(live) => Ok(Request::Live(live)),

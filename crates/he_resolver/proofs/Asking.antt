@@ -4,13 +4,15 @@ use Rattle.std.proofs.lemmas.Bool.{false≢true}
 use Rattle.std.proofs.lemmas.Option.{slice_get_cases}
 use Rattle.he_addr.specs.declared.ip.Family.{Family}
 use Rattle.he_dns.specs.Texts.{HostName}
-use Rattle.he_resolver.specs.Asking.{AsksNext, EndsThrough, IsOfAsking, Takes}
-use Rattle.he_resolver.specs.Faults.{is_of_server}
-use Rattle.he_resolver.specs.Heard.{Heard, HearsOf, IsHeardOf, IsHeardOfOne, IsSaidOf}
+use Rattle.he_resolver.specs.Asking.{AsksNext, EndsThrough, Takes}
+use Rattle.he_settings.specs.Faults.{IsOfAsking}
+use Rattle.he_settings.specs.Faults.{is_of_server}
+use Rattle.he_asking.specs.Said.{Heard, IsHeardOf, IsSaidOf}
+use Rattle.he_resolver.specs.Heard.{HearsOf, IsHeardOfOne}
 use Rattle.he_resolver.specs.declared.family_lookup.FamilyLookup.{FamilyLookup}
-use Rattle.he_resolver.specs.declared.fault.NamesFault.{NamesFault}
-use Rattle.he_resolver.specs.declared.fault.NamesFault.TheVariants as faults
-use Rattle.he_resolver.specs.declared.plan.QueryPlan.{QueryPlan}
+use Rattle.he_settings.specs.declared.fault.NamesFault.{NamesFault}
+use Rattle.he_settings.specs.declared.fault.NamesFault.TheVariants as faults
+use Rattle.he_settings.specs.declared.plan.QueryPlan.{QueryPlan}
 
 past : {X : Type 0} (xs : List X) (i : ℕ) → slice_get xs i ≡ None → length xs ≤ i
 past {X = X} xs i none = elim (slice_get_cases xs i).1 [

@@ -6,11 +6,11 @@ use Rattle.he_names.specs.declared.environment.Environment.{Environment}
 use Rattle.he_names.specs.declared.target.Target.{Target}
 use Rattle.he_resolver.specs.Begins.{AsksFor, BeginsFor}
 use Rattle.he_resolver.specs.Heard.{IsFaithful}
-use Rattle.he_resolver.specs.Plans.{IsPlanFor}
-use Rattle.he_resolver.specs.declared.choice.Choice.{Choice}
+use Rattle.he_settings.specs.Plans.{IsPlanFor}
+use Rattle.he_settings.specs.declared.choice.Choice.{Choice}
 use Rattle.he_resolver.specs.declared.lookup.Source.{Source}
 use Rattle.he_resolver.specs.declared.lookup.Source.TheVariants as sources
-use Rattle.he_resolver.specs.declared.plan.QueryPlan.{QueryPlan}
+use Rattle.he_settings.specs.declared.plan.QueryPlan.{QueryPlan}
 use Rattle.he_resolver.specs.declared.resolver.Resolver.{Resolver}
 
 pub begins_asking : {R : Type 0} (text : List ℕ) (choice : Choice) (environment : Environment) (only : Option Family) (target : Target)

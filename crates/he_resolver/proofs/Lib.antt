@@ -1,9 +1,6 @@
 mod Asking
 mod Beginning
 mod Faithful
-mod Faulty
 mod Owned
-mod Replied
-mod Standing
 mod Tells
 mod Waits

@@ -5,8 +5,9 @@ use Rattle.std.specs.Prelude.{IfOk}
 use Rattle.he_addr.specs.declared.ip.Family.{Family}
 use Rattle.he_addr.specs.declared.ip.Family.TheVariants as families
 use Rattle.he_dns.specs.Texts.{HostName}
-use Rattle.he_resolver.specs.Heard.{AreOwn, Heard, IsFaithful, IsHeardOfOne, IsOwn, Told, TellsHeard, heard_of, names_of}
-use Rattle.he_resolver.specs.Meant.{meant_by}
+use Rattle.he_resolver.specs.Heard.{AreOwn, IsFaithful, IsHeardOfOne, IsOwn, Told, TellsHeard, heard_of, names_of}
+use Rattle.he_asking.specs.Said.{Heard}
+use Rattle.he_settings.specs.Meant.{meant_by}
 use Rattle.he_resolver.specs.Needs.{family_of}
 use Rattle.he_resolver.specs.declared.family_lookup.FamilyLookup.{FamilyLookup}
 use Rattle.he_resolver.specs.declared.resolver.Resolver.{Resolver}

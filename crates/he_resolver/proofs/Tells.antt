@@ -3,8 +3,8 @@ use Rattle.std.proofs.Common.{◌≡◌, ℕ, List, Result, Ok, Err, subst, sym}
 use Rattle.std.proofs.lemmas.Bool.{false≢true}
 use Rattle.std.specs.Result.{IsErr, IsErrAnd}
 use Rattle.he_resolver.specs.Told.{IsNamesText, TellsNames}
-use Rattle.he_resolver.specs.declared.fault.TellFault.{TellFault}
-use Rattle.he_resolver.specs.declared.fault.TellFault.TheVariants as faults
+use Rattle.he_resolver.specs.declared.tell_fault.TellFault.{TellFault}
+use Rattle.he_resolver.specs.declared.tell_fault.TellFault.TheVariants as faults
 
 pub tells_part : (Whole Part : List ℕ → Type 0) (Kept : Type 0) (result : Result (Unit {0}) TellFault) (text : List ℕ)
     → IsErr result × IsErrAnd result (λ fault. fault ≡ faults.Write) → IsNamesText text → Part text → TellsNames Whole Part Kept result

@@ -1,11 +1,11 @@
 -- How a family's look-up goes on: a server that fails leaves it to the next one, and any other answer ends it.
 use Rattle.std.specs.Prelude.{◌≡◌, ◌⊎◌, ◌≤◌, ⊤, true, false, Option, Some, None, Ok, Err, length, vec_len}
-use Rattle.he_resolver.specs.Faults.{is_of_host, is_of_server}
-use Rattle.he_resolver.specs.Heard.{Heard}
+use Rattle.he_settings.specs.Faults.{is_of_host, is_of_server}
+use Rattle.he_asking.specs.Said.{Heard}
 use Rattle.he_resolver.specs.declared.family_lookup.FamilyLookup.{FamilyLookup}
 use Rattle.he_resolver.specs.declared.family_lookup.NextServer.TheVariants.{Now}
-use Rattle.he_resolver.specs.declared.fault.NamesFault.{NamesFault}
-use Rattle.he_resolver.specs.declared.plan.QueryPlan.{QueryPlan}
+use Rattle.he_settings.specs.declared.fault.NamesFault.{NamesFault}
+use Rattle.he_settings.specs.declared.plan.QueryPlan.{QueryPlan}
 
 -- the family, and whether it is settled what it is told, stay as they are
 abbrev pub IsSame : FamilyLookup → FamilyLookup → Type 0
@@ -36,7 +36,3 @@ AsksNext plan old (Some (Err fault)) =
 abbrev pub EndsThrough : QueryPlan → Option Heard → FamilyLookup → Type 0
 EndsThrough plan told new = (fault : NamesFault) → new.told ≡ Some (Err fault) → is_of_server fault ≡ true
     → (told ≡ Some (Err fault)) ⊎ IsThrough plan new
-
--- a fault at which a server isn't asked, or not in another way: of this machine, or of the server
-abbrev pub IsOfAsking : NamesFault → Type 0
-IsOfAsking fault = (is_of_host fault ≡ false) ⊎ (is_of_server fault ≡ true)

@@ -6,11 +6,11 @@ use Rattle.he_names.specs.Targets.{Means}
 use Rattle.he_names.specs.declared.environment.Environment.{Environment}
 use Rattle.he_names.specs.declared.target.Target.{Target}
 use Rattle.he_resolver.specs.Heard.{IsFaithful}
-use Rattle.he_resolver.specs.Known.{AsksSystem, IsKnown}
-use Rattle.he_resolver.specs.Plans.{IsPlanFor}
-use Rattle.he_resolver.specs.declared.choice.Choice.{Choice}
+use Rattle.he_settings.specs.Known.{AsksSystem, IsKnown}
+use Rattle.he_settings.specs.Plans.{IsPlanFor}
+use Rattle.he_settings.specs.declared.choice.Choice.{Choice}
 use Rattle.he_resolver.specs.declared.family_lookup.FamilyLookup.{FamilyLookup}
-use Rattle.he_resolver.specs.declared.fault.NamesFault.TheVariants as faults
+use Rattle.he_settings.specs.declared.fault.NamesFault.TheVariants as faults
 use Rattle.he_resolver.specs.declared.lookup.Source.{Source}
 use Rattle.he_resolver.specs.declared.lookup.Source.TheVariants as sources
 use Rattle.he_resolver.specs.declared.resolver.Resolver.{Resolver}

@@ -1,97 +1,22 @@
--- What is told of a name comes of a message that a name server sent (RFC 1035 section 4.1), by what he_dns says of it.
-use Rattle.std.specs.Prelude.{◌≡◌, ◌⊎◌, ⊤, Bool, true, false, ℕ, List, [], ◌++◌, Option, Some, None, Result, Ok, Err, length, map, slice_get}
-use Rattle.std.specs.Global.{Global, Vec}
-use Rattle.std.specs.Int.{w16, to_be_bytes}
+-- What is told of a host: of what a name server says to the query for one of the names, or of what is known without one.
+use Rattle.std.specs.Prelude.{◌≡◌, ◌⊎◌, ⊤, true, false, ℕ, List, Option, Some, None, Result, Ok, Err, map, slice_get}
+use Rattle.std.specs.Global.{Vec}
 use Rattle.he_addr.specs.declared.ip.Family.{Family}
 use Rattle.he_addr.specs.declared.ip.Family.TheVariants as families
 use Rattle.he_addr.specs.declared.ip.Ip.{Ip}
-use Rattle.he_dns.specs.Answers.{Answers, Fails}
-use Rattle.he_dns.specs.Queries.{query_of}
+use Rattle.he_asking.specs.Said.{Heard, IsAnswered, IsHeardOf, IsSaidOf}
 use Rattle.he_dns.specs.Texts.{HostName}
-use Rattle.he_dns.specs.Ttls.{MayKeep}
-use Rattle.he_dns.specs.declared.answer.Answer.{Answer}
-use Rattle.he_dns.specs.declared.fault.AnswerFault.TheVariants as answers
 use Rattle.he_names.specs.Answers.{cleaned}
-use Rattle.he_resolver.specs.Faults.{is_absence}
-use Rattle.he_resolver.specs.Meant.{meant_by}
-use Rattle.he_resolver.specs.declared.datagrams.Datagrams.{Datagrams}
+use Rattle.he_settings.specs.Faults.{is_absence}
+use Rattle.he_settings.specs.Meant.{meant_by}
+use Rattle.he_settings.specs.declared.fault.NamesFault.{NamesFault}
+use Rattle.he_settings.specs.declared.fault.NamesFault.TheVariants as faults
 use Rattle.he_resolver.specs.declared.family_lookup.FamilyLookup.{FamilyLookup}
-use Rattle.he_resolver.specs.declared.fault.NamesFault.{NamesFault}
-use Rattle.he_resolver.specs.declared.fault.NamesFault.TheVariants as faults
 use Rattle.he_resolver.specs.declared.lookup.Source.{Source}
 use Rattle.he_resolver.specs.declared.lookup.Source.TheVariants as sources
-use Rattle.he_resolver.specs.declared.query.Transport.{Transport}
-use Rattle.he_resolver.specs.declared.query.Transport.TheVariants as transports
-use Rattle.he_resolver.specs.declared.replies.Reply.{Reply}
-use Rattle.he_resolver.specs.declared.replies.Reply.TheVariants as replies
 use Rattle.he_resolver.specs.declared.resolver.Resolver.{Resolver}
-use Rattle.he_resolver.specs.declared.streams.Stage.{Stage}
-use Rattle.he_resolver.specs.declared.streams.Stage.TheVariants as stages
 
--- ---- one message
-
--- a message with this id answers the addresses to the query for the family of the name with these octets
-abbrev pub IsAnswered : ℕ → List ℕ → Family → List Ip → Type 0
-IsAnswered id octets family ips = (message : List ℕ) × Answers message id octets family ips
-
--- a message with this id says to that query that there is no such name
-abbrev pub Denies : ℕ → List ℕ → Family → Type 0
-Denies id octets family = (message : List ℕ) × Fails message id octets family answers.NoSuchName
-
--- and with its addresses, for how long they may be kept
-abbrev pub IsAnswer : ℕ → List ℕ → Family → Answer Global → Type 0
-IsAnswer id octets family answer =
-    (message : List ℕ) × Answers message id octets family answer.addresses.items
-    × MayKeep message id octets family answer.ttl
-
--- the addresses of a reply are those that a message with the id answers to the query, and so is that there is none, or
--- no such name: RCODE 3 is an answer for the type that was asked for (RFC 4074 section 4.2)
-abbrev pub RepliesTo : ℕ → List ℕ → Family → Reply → Type 0
-RepliesTo id octets family (replies.Addresses answer) = IsAnswer id octets family answer
-RepliesTo id octets family replies.NoAddress = IsAnswered id octets family []
-RepliesTo id octets family replies.NoSuchName = Denies id octets family
-RepliesTo id octets family other = ⊤
-
--- ---- what was sent
-
--- the query that was sent over UDP has the id of which answers are taken
-abbrev pub IsSent : List ℕ → Family → Datagrams → Type 0
-IsSent octets family datagrams = (room : Option ℕ) × (datagrams.query.items ≡ query_of datagrams.id octets family room)
-
--- so has the one that is sent over TCP, behind its length in two bytes (RFC 1035 section 4.2.2)
-abbrev pub IsToSend : ℕ → List ℕ → Family → Stage → Type 0
-IsToSend id octets family (stages.Connecting connecting request) =
-    (room : Option ℕ) × (query : List ℕ) × (query ≡ query_of id octets family room)
-    × (request.items ≡ to_be_bytes w16 (length query) ++ query)
-IsToSend id octets family other = ⊥
-
--- the id of which answers are taken
-abbrev pub id_of : Transport → ℕ
-id_of (transports.Datagrams datagrams) = datagrams.id
-id_of (transports.Stream stream) = stream.id
-
--- a server is first asked over TCP where the settings say so (use-vc of resolver(5)), else over UDP
-abbrev pub IsWay : Bool → Transport → Type 0
-IsWay true (transports.Stream stream) = ⊤
-IsWay false (transports.Datagrams datagrams) = ⊤
-IsWay use_vc other = ⊥
-
--- ---- one family of a name
-
--- what a name server told, or why none told anything
-abbrev pub Heard : Type 0
-Heard = Result (Answer Global) NamesFault
-
--- that there is no address, or no such name, is what some message says to the query for the name with these octets
-abbrev pub IsSaidOf : List ℕ → Family → NamesFault → Type 0
-IsSaidOf octets family faults.NoAddress = (id : ℕ) × IsAnswered id octets family []
-IsSaidOf octets family faults.NoSuchName = (id : ℕ) × Denies id octets family
-IsSaidOf octets family fault = ⊤
-
--- what was heard is what some message answers to the query for the name with these octets
-abbrev pub IsHeardOf : List ℕ → Family → Heard → Type 0
-IsHeardOf octets family (Ok answer) = (id : ℕ) × IsAnswer id octets family answer
-IsHeardOf octets family (Err fault) = IsSaidOf octets family fault
+-- ---- one family of the names
 
 -- what was told is as it was, or is now heard
 abbrev pub HearsOf : List ℕ → Family → Option Heard → Option Heard → Type 0

@@ -1,12 +1,5 @@
 pub mod Asking
 pub mod Begins
-pub mod Events
-pub mod Faults
 pub mod Heard
-pub mod Known
-pub mod Meant
 pub mod Needs
-pub mod Plans
-pub mod Replies
-pub mod Scopes
 pub mod Told

@@ -1,14 +1,14 @@
 -- Which sources of events a look-up waits for, of its sockets and its timers. What is settled and not yet told waits
 -- for nothing: every source counts as one of its own, so that only a poll that has asked for another one has
 -- registered at all.
-use Rattle.std.specs.Prelude.{ℕ, ◌≡◌, ◌<◌, ◌⊎◌, ⊤, true, false, Bool, List, [], Option, IsSomeAnd, is_some, length, slice_index_or}
+use Rattle.std.specs.Prelude.{ℕ, ◌≡◌, ◌<◌, ◌⊎◌, ⊤, true, false, Bool, List, [], Option, is_some, length, slice_index_or}
 use Rattle.futures.specs.Channel.{completed_source}
 use Rattle.futures.specs.Task.{Covers}
 use Rattle.futures.specs.declared.task.context.Context.{Context}
 use Rattle.he_addr.specs.declared.ip.Family.{Family}
 use Rattle.he_addr.specs.declared.ip.Family.TheVariants as families
-use Rattle.tokio.specs.Net.{ConnectNeeds, connect_state, stream_readable, stream_writable}
 use Rattle.tokio.specs.Timers.{sleep_source}
+use Rattle.he_asking.specs.Needs.{query_needs}
 use Rattle.he_resolver.specs.declared.family_lookup.FamilyLookup.{FamilyLookup}
 use Rattle.he_resolver.specs.declared.family_lookup.NextServer.{NextServer}
 use Rattle.he_resolver.specs.declared.family_lookup.NextServer.TheVariants.{Now, After, Never}
@@ -17,38 +17,8 @@ use Rattle.he_resolver.specs.declared.gathering.FamilyAnswer.{FamilyAnswer}
 use Rattle.he_resolver.specs.declared.lookup.Lookup.{Lookup}
 use Rattle.he_resolver.specs.declared.lookup.Source.{Source}
 use Rattle.he_resolver.specs.declared.lookup.Source.TheVariants as sources
-use Rattle.he_resolver.specs.declared.query.Query.{Query}
-use Rattle.he_resolver.specs.declared.query.Transport.{Transport}
-use Rattle.he_resolver.specs.declared.query.Transport.TheVariants as transports
+use Rattle.he_asking.specs.declared.query.Query.{Query}
 use Rattle.he_resolver.specs.declared.resolver.Resolver.{Resolver}
-use Rattle.he_resolver.specs.declared.streams.Stage.{Stage}
-use Rattle.he_resolver.specs.declared.streams.Stage.TheVariants.{Connecting, Sending, Length, Message, Over}
-use Rattle.he_resolver.specs.declared.streams.StageOutcome.{StageOutcome}
-use Rattle.he_resolver.specs.declared.streams.StageOutcome.TheVariants as steps
-
--- ---- one query
-
--- over TCP: for the connection, for room to send in, or for what comes
-abbrev pub stage_needs : Stage → ℕ → Type 0
-stage_needs (Connecting connecting request) s = ConnectNeeds (connect_state connecting) s
-stage_needs (Sending sending) s = IsSomeAnd sending.state (λ w. s ≡ stream_writable w.0)
-stage_needs (Length reading) s = IsSomeAnd reading.state (λ r. s ≡ stream_readable r.reader)
-stage_needs (Message reading) s = IsSomeAnd reading.state (λ r. s ≡ stream_readable r.reader)
-stage_needs Over s = ⊥
-
--- a step that waits has registered for all that its stage waits for
-abbrev pub CoversWait : Context → StageOutcome → Type 0
-CoversWait cx (steps.Waits stage) = Covers cx (stage_needs stage)
-CoversWait cx other = ⊤
-
--- over UDP: for what comes
-abbrev pub transport_needs : Transport → ℕ → Type 0
-transport_needs (transports.Datagrams query) s = s ≡ stream_readable query.socket
-transport_needs (transports.Stream query) s = stage_needs query.stage s
-
--- and for the time at which it is sent again
-unfoldable pub query_needs : Query → ℕ → Type 0
-query_needs query s = transport_needs query.transport s ⊎ (s ≡ sleep_source query.timer)
 
 -- ---- one family of a name
 

@@ -1,8 +1,8 @@
 -- What is told of a host.
 use Rattle.std.specs.Prelude.{ℕ, ◌≡◌, List, Result, Ok, Err}
 use Rattle.he_names.specs.Answers.{Answers, IsFound, answers_text}
-use Rattle.he_resolver.specs.declared.fault.TellFault.{TellFault}
-use Rattle.he_resolver.specs.declared.fault.TellFault.TheVariants as faults
+use Rattle.he_resolver.specs.declared.tell_fault.TellFault.{TellFault}
+use Rattle.he_resolver.specs.declared.tell_fault.TellFault.TheVariants as faults
 
 -- the two answers of a name that has an address
 abbrev pub IsNamesText : List ℕ → Type 0

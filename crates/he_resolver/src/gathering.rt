@@ -5,12 +5,12 @@ ghost use Rattle.std.specs.Result.{result_err};
 ghost use Rattle.futures.specs.Task.{Keeps};
 ghost use Rattle.he_resolver.specs.Needs.{IsHeard, gathering_needs, told_of};
 
-use crate::fault::{NamesFault, first_fault};
 use crate::lookup::Lookup;
 use futures::Future;
 use futures::task::{Context, Poll};
 use he_addr::{Family, Ip};
 use he_names::Found;
+use he_settings::{NamesFault, first_fault};
 use std::alloc::Global;
 use std::net::Net;
 use std::random::RandomSource;

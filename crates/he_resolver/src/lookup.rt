@@ -9,17 +9,13 @@ ghost use Rattle.he_resolver.specs.Heard.{AreOwnOf, IsSound, Tells, TellsKnown, 
 ghost use Rattle.he_resolver.specs.Needs.{lookup_needs};
 ghost use Rattle.he_resolver.specs.declared.lookup.Source.TheVariants as sources;
 
-use crate::choice::Choice;
-use crate::fault::NamesFault;
-use crate::known::known_by_itself;
-use crate::log::{LookupEventKind, LookupLog, Origin};
-use crate::plan::plan_for;
 use crate::resolver::Resolver;
-use crate::setup::Setup;
 use crate::system::{SystemQuery, SystemResolver};
 use futures::task::{Context, Poll};
 use he_addr::{Family, Ip};
-use he_names::{Environment, Target, clean_of, read_host};
+use he_asking::{LookupEventKind, LookupLog, Origin, Setup};
+use he_names::{Target, clean_of, read_host};
+use he_settings::{Choice, NamesFault, Wanted, known_by_itself, plan_for};
 use std::alloc::{AllocError, AllocGlobal, Global};
 use std::net::Net;
 use std::random::RandomSource;
@@ -27,19 +23,6 @@ use std::rt::Files;
 use std::thread::Threads;
 use std::time::Clock;
 use tokio::runtime::Handle;
-
-/// What a look-up is to find.
-#[derive(Clone, Copy)]
-pub struct Wanted<'a> {
-    /// A name or an address.
-    pub host: &'a str,
-    /// The family that is asked for alone; both are where there is none.
-    pub only: Option<Family>,
-    /// Which resolver is asked.
-    pub choice: Choice<'a>,
-    /// By which the file of resolver settings is amended.
-    pub environment: Environment<'a>,
-}
 
 /// Finds the addresses of a host, and returns each family's as soon as they are known: a resolver for a race that runs
 /// (RFC 8305 section 3).
@@ -62,7 +45,7 @@ pub(crate) enum Source<'h, R> {
 }
 
 impl<'h, R: Net + RandomSource + Clock> Lookup<'h, R> {
-    /// A look-up of a host of which nothing is known ([`find_known`](crate::find_known)): the file of hosts is not
+    /// A look-up of a host of which nothing is known ([`find_known`](he_settings::find_known)): the file of hosts is not
     /// read. What is an address, or this machine, is its own answer. Nothing is sent before the first poll; the
     /// system's own resolver is called at once, in a thread.
     ///
@@ -153,7 +136,7 @@ impl<'h, R: Net + RandomSource + Clock> Lookup<'h, R> {
         }
     }
 
-    /// A look-up of a host whose addresses are known, by [`find_known`](crate::find_known) or from an earlier one: it
+    /// A look-up of a host whose addresses are known, by [`find_known`](he_settings::find_known) or from an earlier one: it
     /// returns these; nothing is read or asked.
     ///
     /// # Errors
@@ -196,7 +179,7 @@ impl<'h, R: Net + RandomSource + Clock> Lookup<'h, R> {
     /// it is returned, and not after that.
     ///
     /// Both families are asked for at the first poll, that of IPv6 first. The name servers are asked beside one
-    /// another, each [`ALONE`](crate::limits::ALONE) milliseconds after the one before it or as soon as that has
+    /// another, each [`ALONE`](he_asking::limits::ALONE) milliseconds after the one before it or as soon as that has
     /// failed, and the first that answers counts. To each the query is sent once a second, `timeout` times `attempts`
     /// times by the file of resolver settings. The system's resolver has its own time, and returns both families at
     /// once.

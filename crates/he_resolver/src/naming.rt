@@ -4,13 +4,13 @@ ghost use Rattle.std.specs.Prelude.{◌≡◌, IfOk};
 ghost use Rattle.he_stream.specs.Output.{PutsPart, PutsWhole};
 ghost use Rattle.he_resolver.specs.Told.{IsNamesText, TellsNames};
 
-use crate::fault::{NamesFault, TellFault};
 use crate::gathering::{Gathered, Gathering};
-use crate::known::find_known;
-use crate::log::LookupEvent;
-use crate::lookup::{Lookup, Wanted};
+use crate::lookup::Lookup;
 use crate::system::SystemResolver;
+use crate::tell_fault::TellFault;
+use he_asking::LookupEvent;
 use he_names::Found;
+use he_settings::{NamesFault, Wanted, find_known};
 use he_stream::{OutputStream, write_whole};
 use std::alloc::{AllocGlobal, Global};
 use std::net::Net;

@@ -9,14 +9,12 @@ ghost use Rattle.he_resolver.specs.Heard.{AreOwn, IsFaithful, IsOwn, TellsHeard,
 ghost use Rattle.he_resolver.specs.Needs.{family_of, is_settled, names_needs, other_of, resolver_needs};
 
 use crate::family_lookup::FamilyLookup;
-use crate::fault::NamesFault;
-use crate::limits::MOST_STEPS;
-use crate::log::LookupEventKind;
-use crate::meant::addresses_of;
-use crate::setup::Setup;
 use futures::task::{Context, Poll};
 use he_addr::{Family, Ip};
+use he_asking::limits::MOST_STEPS;
+use he_asking::{LookupEventKind, Setup};
 use he_dns::Answer;
+use he_settings::{NamesFault, addresses_of};
 use std::alloc::Global;
 use std::net::Net;
 use std::random::RandomSource;

@@ -5,11 +5,11 @@ ghost use Rattle.futures.specs.Channel.{completed_source};
 ghost use Rattle.futures.specs.Poll.{OnPending};
 ghost use Rattle.futures.specs.Task.{Covers, Keeps};
 
-use crate::fault::NamesFault;
 use futures::Future;
 use futures::channel::oneshot::{self, Receiver};
 use futures::task::{Context, Poll};
 use he_addr::Ip;
+use he_settings::NamesFault;
 use std::alloc::Global;
 use std::net::{IpAddr, ToSocketAddrs};
 use std::string::String;

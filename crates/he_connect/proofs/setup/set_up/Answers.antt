@@ -1,5 +1,5 @@
 use Rattle.std.proofs.Common.{subst, sym}
-use Rattle.he_resolver.specs.Known.{FindsKnown, items_of}
+use Rattle.he_settings.specs.Known.{FindsKnown, items_of}
 use Rattle.he_connect.specs.declared.request.ConnectRequest.{ConnectRequest}
 use Rattle.he_connect.proofs.setup.set_up.Goals as goal
 

@@ -1,6 +1,6 @@
 use Rattle.std.proofs.Common.{◌≡◌, ◌++◌, drop, map}
 use Rattle.he_host.specs.Found.{found_v6_source}
-use Rattle.he_host.specs.Lines.{plain}
+use Rattle.he_kernel.specs.Lines.{plain}
 use Rattle.he_host.proofs.reading.find_v6_sources.Given as goal
 
 -- what was found so far, and what the other lines say, is all

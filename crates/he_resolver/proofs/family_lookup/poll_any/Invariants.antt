@@ -1,6 +1,6 @@
 use Rattle.std.specs.Prelude.{◌≡◌, ℕ, ◌<◌, slice_index_or, vec_len}
 use Rattle.futures.specs.Task.{Hears, IsArmed, Keeps}
-use Rattle.he_resolver.specs.Needs.{query_needs}
+use Rattle.he_asking.specs.Needs.{query_needs}
 use Rattle.he_resolver.proofs.family_lookup.poll_any.Given as goal
 
 abbrev pub invariant-loop-at : goal.invariant-loop-at

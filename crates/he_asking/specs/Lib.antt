@@ -1,0 +1,4 @@
+pub mod Events
+pub mod Needs
+pub mod Replies
+pub mod Said

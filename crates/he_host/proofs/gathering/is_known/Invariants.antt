@@ -1,7 +1,0 @@
-use Rattle.std.proofs.Common.{◌≡◌, drop}
-use Rattle.std.specs.List.{list_any}
-use Rattle.he_host.specs.Gathering.{same_way}
-use Rattle.he_host.proofs.gathering.is_known.Given as goal
-
-abbrev pub invariant-loop-other : goal.invariant-loop-other
-invariant-loop-other l = list_any (same_way l.route) (drop l.other-index l.kept) ≡ list_any (same_way l.route) l.kept

@@ -1,0 +1,5 @@
+pub mod Cutting
+pub mod HexBounds
+pub mod Kept
+pub mod KnownSources
+pub mod OwnInterfaces

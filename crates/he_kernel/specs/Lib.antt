@@ -1,0 +1,11 @@
+pub mod Asked
+pub mod Hex
+pub mod IfInet6
+pub mod Ipv4Line
+pub mod Keeping
+pub mod Lines
+pub mod OwnInterfaces
+pub mod Parts
+pub mod Sysfs
+pub mod Ways
+pub mod Written

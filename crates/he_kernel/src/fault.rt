@@ -1,0 +1,37 @@
+// Why a machine isn't found.
+
+use std::alloc::{AllocError, AllocFailed};
+use std::io;
+use thiserror::Error;
+
+/// Why the lines of this machine aren't written.
+#[derive(Clone, Copy, Debug, PartialEq, Eq, Error)]
+pub enum MachineFault {
+    /// `/proc/net/route` or `/proc/net/fib_trie` can't be read.
+    #[error("cannot read /proc/net")]
+    NoFiles,
+    /// An allocation was refused.
+    #[error("out of memory")]
+    Memory,
+}
+
+impl From<AllocError> for MachineFault {
+    fn from(_refused: AllocError) -> MachineFault {
+        MachineFault::Memory
+    }
+}
+
+impl<T: Drop> From<AllocFailed<T>> for MachineFault {
+    fn from(_refused: AllocFailed<T>) -> MachineFault {
+        MachineFault::Memory
+    }
+}
+
+impl From<io::Error> for MachineFault {
+    fn from(error: io::Error) -> MachineFault {
+        match error.kind() {
+            io::ErrorKind::OutOfMemory => MachineFault::Memory,
+            _ => MachineFault::NoFiles,
+        }
+    }
+}

@@ -1,4 +1,0 @@
-use Rattle.he_resolver.proofs.datagrams.Datagrams.send.Goals as goal
-
-pub returns-clause-sent : goal.returns-clause-sent
-returns-clause-sent g c = (c.args.room, c.in_ok-query.ensures)

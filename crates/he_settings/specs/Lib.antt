@@ -1,0 +1,5 @@
+pub mod Faults
+pub mod Known
+pub mod Meant
+pub mod Plans
+pub mod Scopes

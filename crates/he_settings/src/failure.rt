@@ -1,0 +1,98 @@
+//! How a name server fails.
+
+ghost use Rattle.std.specs.Prelude.{◌≡◌};
+ghost use Rattle.he_settings.specs.Faults.{is_of_room};
+
+use crate::limits::SERVER_PORT;
+use std::fmt;
+use std::net::SocketAddr;
+use thiserror::Error;
+
+/// How a name server failed to answer for a name.
+#[derive(Clone, Copy, Debug, PartialEq, Eq, Error)]
+pub enum Failure {
+    /// RCODE 1: it could not read the query.
+    #[error("FORMERR")]
+    FormatError,
+    /// RCODE 2: it failed.
+    #[error("SERVFAIL")]
+    ServerFailure,
+    /// RCODE 4: it has no such kind of query.
+    #[error("NOTIMP")]
+    NotImplemented,
+    /// RCODE 5: it refused.
+    #[error("REFUSED")]
+    Refused,
+    /// Extended RCODE 16: it has no such version of EDNS (RFC 6891 section 6.1.3).
+    #[error("BADVERS")]
+    BadVersion,
+    /// Another code than those and 0 and 3, of 12 bits.
+    #[error("response code {0}")]
+    Code(u16),
+    /// It answered no address, is no authority for the name, and asks no other server.
+    #[error("knows no more than other servers")]
+    Lame,
+    /// What it answered can't be read.
+    #[error("answered what can't be read")]
+    Malformed,
+    /// It answered more aliases than are followed.
+    #[error("answered more than 16 aliases in a row, as in a loop of them")]
+    Aliases,
+    /// There is no way to it, or nothing listens there.
+    #[error("cannot be reached")]
+    Unreachable,
+}
+
+impl Failure {
+    /// Whether the server may have failed by the record that says how long a datagram of its answer may be.
+    pub fn is_of_room(self) -> bool
+        ensures { result ≡ is_of_room self }
+    {
+        matches!(
+            self,
+            Failure::FormatError | Failure::NotImplemented | Failure::BadVersion
+        )
+    }
+}
+
+/// A name server that failed, and how.
+#[derive(Clone, Copy, PartialEq, Eq)]
+pub struct ServerFault {
+    pub server: SocketAddr,
+    pub failure: Failure,
+}
+
+// The address, with its port where that is not the usual one, and the failure: `192.0.2.1: SERVFAIL`.
+impl fmt::Display for ServerFault {
+    fn fmt<W: fmt::Write>(&self, f: &mut fmt::Formatter<W>) -> fmt::Result {
+        let (server, failure) = (ShownServer(self.server), self.failure);
+        write!(f, "{server}: {failure}")
+    }
+}
+
+/// The address of a server, with its port where that is not the usual one.
+#[derive(Clone, Copy)]
+pub struct ShownServer(pub SocketAddr);
+
+impl fmt::Display for ShownServer {
+    fn fmt<W: fmt::Write>(&self, f: &mut fmt::Formatter<W>) -> fmt::Result {
+        let server = self.0;
+        match server {
+            SocketAddr::V6(six) if six.port() == SERVER_PORT && six.scope_id() != 0 => {
+                let (ip, scope) = (server.ip(), six.scope_id());
+                write!(f, "{ip}%{scope}")
+            }
+            _ if server.port() == SERVER_PORT => {
+                let ip = server.ip();
+                write!(f, "{ip}")
+            }
+            _ => write!(f, "{server}"),
+        }
+    }
+}
+
+impl fmt::Debug for ServerFault {
+    fn fmt<W: fmt::Write>(&self, f: &mut fmt::Formatter<W>) -> fmt::Result {
+        fmt::Display::fmt(self, f)
+    }
+}

@@ -1,0 +1,161 @@
+//! Why a name has no addresses.
+
+ghost use Rattle.std.specs.Prelude.{◌≡◌, ◌⊎◌};
+ghost use Rattle.he_settings.specs.Faults.{first_of, is_absence, is_of_host, is_of_server, of_host, rank_of};
+ghost use Rattle.he_settings.specs.declared.fault.NamesFault.TheVariants.{Files, Memory, Runtime};
+
+use crate::failure::ServerFault;
+use crate::file_fault::FileFault;
+use he_dns::NameFault;
+use he_names::HostFault;
+use std::alloc::{AllocError, AllocFailed};
+use std::io;
+use thiserror::Error;
+
+// The numbers that Linux gives to too many open files, of the machine and of the process.
+const ENFILE: i32 = 23;
+
+const EMFILE: i32 = 24;
+
+/// Why a name has no addresses.
+#[derive(Clone, Copy, Debug, PartialEq, Eq, Error)]
+pub enum NamesFault {
+    /// The text names no host.
+    #[error(transparent)]
+    Host(HostFault),
+    /// The text is no host name.
+    #[error("not a host name: {0}")]
+    Name(NameFault),
+    /// The name exists, and has no address.
+    #[error("the name has no address")]
+    NoAddress,
+    /// There is no such name (RFC 1035 section 4.1.1, RCODE 3).
+    #[error("no such name")]
+    NoSuchName,
+    /// No name server answered in its time.
+    #[error("no name server answers")]
+    NoAnswer,
+    /// No name server answered for the name, and this is the first of those that failed.
+    #[error("name server {0}")]
+    Server(ServerFault),
+    /// The family is not asked for.
+    #[error("not asked for: the option no-aaaa of /etc/resolv.conf or RES_OPTIONS")]
+    NotAsked,
+    /// The system's resolver has no address of the name.
+    #[error("the system's resolver has no address")]
+    System,
+    /// A file of the system that is there can't be read.
+    #[error("{0}")]
+    Unreadable(FileFault),
+    /// This machine has no such interface as the name server is to be asked over.
+    #[error("this machine has no interface as after '%' of the name server: `ip link` lists them")]
+    Interface,
+    /// The process or the machine has as many files open as it may.
+    #[error("too many open files")]
+    Files,
+    /// The event loop could not be made or failed, or the clock did.
+    #[error("cannot run the sockets")]
+    Runtime,
+    /// An allocation was refused.
+    #[error("out of memory")]
+    Memory,
+}
+
+impl NamesFault {
+    /// Whether the host is what the fault is about, so that a line that reports the fault is to name it.
+    pub fn is_of_host(self) -> bool
+        ensures { result ≡ is_of_host self }
+    {
+        !matches!(
+            self,
+            NamesFault::Unreadable(_)
+                | NamesFault::Interface
+                | NamesFault::Files
+                | NamesFault::Runtime
+                | NamesFault::Memory
+        )
+    }
+
+    /// Whether a name server said that there is nothing.
+    pub fn is_absence(self) -> bool
+        ensures { result ≡ is_absence self }
+    {
+        matches!(self, NamesFault::NoSuchName | NamesFault::NoAddress)
+    }
+
+    /// Whether another name server may still tell more.
+    pub fn is_of_server(self) -> bool
+        ensures { result ≡ is_of_server self }
+    {
+        matches!(self, NamesFault::NoAnswer | NamesFault::Server(_))
+    }
+
+    // How early the fault is told where the families differ: that of the lesser number.
+    fn rank(self) -> u8
+        ensures { result ≡ rank_of self }
+    {
+        match self {
+            NamesFault::Memory => 0,
+            NamesFault::Unreadable(_)
+            | NamesFault::Interface
+            | NamesFault::Files
+            | NamesFault::Runtime => 1,
+            NamesFault::Host(_) | NamesFault::Name(_) | NamesFault::System => 2,
+            NamesFault::NoAnswer => 3,
+            NamesFault::Server(_) => 4,
+            NamesFault::NoSuchName => 5,
+            NamesFault::NoAddress => 6,
+            NamesFault::NotAsked => 7,
+        }
+    }
+}
+
+impl From<AllocError> for NamesFault {
+    ghost from_gives = { λ _ fault. fault ≡ Memory };
+
+    fn from(_refused: AllocError) -> NamesFault {
+        NamesFault::Memory
+    }
+}
+
+impl<T: Drop> From<AllocFailed<T>> for NamesFault {
+    ghost from_gives = { λ _ fault. fault ≡ Memory };
+
+    fn from(_refused: AllocFailed<T>) -> NamesFault {
+        NamesFault::Memory
+    }
+}
+
+impl From<HostFault> for NamesFault {
+    ghost from_gives = { λ host fault. fault ≡ of_host host };
+
+    fn from(fault: HostFault) -> NamesFault {
+        match fault {
+            HostFault::Memory => NamesFault::Memory,
+            fault => NamesFault::Host(fault),
+        }
+    }
+}
+
+impl From<io::Error> for NamesFault {
+    ghost from_gives = { λ _ fault. (fault ≡ Files) ⊎ (fault ≡ Runtime) ⊎ (fault ≡ Memory) };
+
+    fn from(error: io::Error) -> NamesFault {
+        if let Some(EMFILE | ENFILE) = error.raw_os_error() {
+            return NamesFault::Files;
+        }
+        match error.kind() {
+            io::ErrorKind::OutOfMemory => NamesFault::Memory,
+            _ => NamesFault::Runtime,
+        }
+    }
+}
+
+/// Which fault is reported where neither family has an address, of that of IPv6 and that of IPv4: want of memory or of
+/// files first; then that no server answered and that one failed; that there is no such name, and that there is no
+/// address.
+pub fn first_fault(v6: NamesFault, v4: NamesFault) -> NamesFault
+    ensures { result ≡ first_of v6 v4 }
+{
+    if v6.rank() <= v4.rank() { v6 } else { v4 }
+}
