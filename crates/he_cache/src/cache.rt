@@ -46,8 +46,8 @@ impl<V: Drop> AnswerCache<V> {
     ///
     /// `Memory`.
     pub fn new(alloc: Global) -> Result<AnswerCache<V>, Memory>
-        ensures six { IfOk result (λ cache. cache.v6 ≡ lru_cache [] MOST_HOSTS) }
-        ensures four { IfOk result (λ cache. cache.v4 ≡ lru_cache [] MOST_HOSTS) }
+        ensures six { IfOk result (λ cache. cache.v6 ≡ lru_cache [] 1024) }
+        ensures four { IfOk result (λ cache. cache.v4 ≡ lru_cache [] 1024) }
     {
         let most = NonZeroUsize::new(MOST_HOSTS).unwrap_or(NonZeroUsize::MIN);
         Ok(AnswerCache {

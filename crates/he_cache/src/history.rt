@@ -54,7 +54,7 @@ impl History {
     ///
     /// `Memory`.
     pub fn new(alloc: Global) -> Result<History, Memory>
-        ensures { IfOk result (λ history. history.seen ≡ lru_cache [] MOST_ADDRESSES) }
+        ensures { IfOk result (λ history. history.seen ≡ lru_cache [] 4096) }
     {
         let most = NonZeroUsize::new(MOST_ADDRESSES).unwrap_or(NonZeroUsize::MIN);
         Ok(History {

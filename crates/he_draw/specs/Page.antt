@@ -75,9 +75,9 @@ pub record IsSection {A : Type 0} (course : Course A) (file : ℕ) (text : List 
 abbrev pub WritesSection : {A : Type 0} → Course A → ℕ → List ℕ → List ℕ → Type 0
 WritesSection course file old new = (text : List ℕ) × IsSection course file text × (new ≡ old ++ text)
 
--- a name stands in the text, and nothing of it is read as a tag
-abbrev pub HasName : List ℕ → List ℕ → Type 0
-HasName name text = (first last : List ℕ) × (text ≡ first ++ (flat_map escaped name ++ last))
+-- a text's name is a heading above its races, of which nothing is read as a tag
+abbrev pub name_text : List ℕ → List ℕ
+name_text name = codes "</article><article>\n<h2>" ++ (flat_map escaped name ++ codes "</h2>\n")
 
 -- what is counted of all races, each number after what it is
 abbrev pub count_facts : Counted → ℕ → List (Fact Counted)

@@ -2,7 +2,7 @@
 
 ghost use Rattle.std.specs.Prelude.{ℕ, ◌≡◌, ◌++◌, List, OnOk};
 ghost use Rattle.he_draw.specs.Picture.{Prints};
-ghost use Rattle.he_draw.specs.Page.{HasName, totals_facts};
+ghost use Rattle.he_draw.specs.Page.{name_text, totals_facts};
 
 use crate::escaping::write_escaped;
 use crate::totals::{Totals, push_totals};
@@ -68,7 +68,7 @@ pub fn write_head<A: Allocator + Copy>(text: &mut Vec<u8, A>) -> Result<(), Memo
 
 /// Appends the name of a text, above its races. After `Memory` the vector holds a first part of it too.
 pub fn write_name<A: Allocator + Copy>(name: &str, text: &mut Vec<u8, A>) -> Result<(), Memory>
-    ensures { OnOk result ((own : List ℕ) × HasName name.now own × (text.new.items ≡ text.old.items ++ own)) }
+    ensures { OnOk result (text.new.items ≡ text.old.items ++ name_text name.now) }
 {
     text.extend_from_slice(b"</article><article>\n<h2>")?;
     write_escaped(name.as_bytes(), text)?;

@@ -13,7 +13,6 @@ use Rattle.he_front.specs.declared.http.Method.{Method}
 use Rattle.he_front.specs.declared.http.Method.TheVariants as methods
 use Rattle.he_front.specs.declared.http.ReadHead.{ReadHead}
 use Rattle.he_front.specs.declared.http.ReadHead.TheVariants as reads
-use Rattle.he_front.specs.declared.http.TheConstants.{MOST_FIELDS}
 
 -- methods, with capital letters (RFC 9110 section 9.1)
 abbrev pub IsMethod : List ℕ → Method → Type 0
@@ -81,9 +80,9 @@ IsReadWithin n (reads.Whole head len) = LiesWithin n head × (len ≤ n)
 IsReadWithin n reads.Partial = Unit {0}
 IsReadWithin n reads.Refused = Unit {0}
 
--- The octets begin with this head, which has so many; with none yet, and more can make one; or with none that has so
--- few fields, whatever follows.
+-- The octets begin with this head, which has so many; with none yet, and more can make one; or with none that has at
+-- most 64 fields, whatever follows.
 abbrev pub ReadsHead : List ℕ → ReadHead → Type 0
 ReadsHead octets (reads.Whole head len) = HasHead octets head len
 ReadsHead octets reads.Partial = HasNoRequest octets × MayBecomeRequest octets
-ReadsHead octets reads.Refused = RequestOverflows MOST_FIELDS octets
+ReadsHead octets reads.Refused = RequestOverflows 64 octets

@@ -1,6 +1,7 @@
 pub mod Asked
 pub mod Authority
 pub mod Http
+pub mod Lines
 pub mod Messages
 pub mod Openings
 pub mod Pages

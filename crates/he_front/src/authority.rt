@@ -118,7 +118,7 @@ fn find(text: &[u8], mark: u8) -> Option<usize>
 
 // What stands before the first mark, and what stands after it.
 #[tactic(auto, unfolding(he_addr::specs::Reading::cut_in))]
-fn cut(text: &[u8], mark: u8) -> Option<(&[u8], &[u8])>
+pub(crate) fn cut(text: &[u8], mark: u8) -> Option<(&[u8], &[u8])>
     ensures { option_map (λ parts. (parts.0.now, parts.1.now)) result ≡ cut_in mark text.now }
 {
     let at = find(text, mark)?;

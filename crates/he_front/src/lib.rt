@@ -8,6 +8,7 @@
 //!   `specs/Socks`).
 //! - [`read_head`]: the same of the head of a request of HTTP, by the grammar of `httparse`, with at most
 //!   [`MOST_FIELDS`] fields; where its target and its first field Host stand (`specs/Http`).
+//! - [`request_line`]: the method and the target of any octets, for a log (`specs/Lines`).
 //! - [`read_authority`]: a target names a host and a port exactly where it is one of the grammar, and then those
 //!   (`specs/Authority`).
 //! - [`Asked::by_socks`], [`Asked::by_connect`]: the host's text and the port are those that the request names
@@ -24,6 +25,7 @@
 pub mod asked;
 pub mod authority;
 pub mod http;
+pub mod line;
 pub mod opening;
 pub mod pages;
 pub mod replies;
@@ -35,6 +37,7 @@ mod tests;
 pub use asked::Asked;
 pub use authority::{MOST_HOST, read_authority};
 pub use http::{Head, MOST_FIELDS, ReadHead, read_head};
+pub use line::{RequestLine, request_line};
 pub use opening::{Opening, opening_of};
 pub use pages::{Page, page_asked};
 pub use replies::{Ended, method_reply, old_socks_reply};

@@ -3,6 +3,7 @@
 use crate::asked::Asked;
 use crate::authority::read_authority;
 use crate::http::{Head, ReadHead, read_head};
+use crate::line::request_line;
 use crate::opening::{Opening, opening_of};
 use crate::pages::{Page, page_asked};
 use crate::replies::{Ended, method_reply, old_socks_reply};
@@ -117,6 +118,18 @@ fn a_page_is_asked_for(rt: HostRuntime) {
     assert!(rt; page(b"/", b"example.org:1080").is_none());
     assert!(rt; page(b"http://127.0.0.1:1080/", b"127.0.0.1:1080").is_none());
     assert!(rt; page_asked(b"/", None, LOOPBACK, 1080).is_none());
+}
+
+#[test]
+fn what_is_refused_has_a_line(rt: HostRuntime) {
+    let post = request_line(b"POST /form HTTP/1.1\r\nHost: a b\r\n\r\n");
+    assert!(rt; post.method == b"POST".as_slice() && post.target == b"/form".as_slice());
+    let short = request_line(b"OPTIONS *\r\n");
+    assert!(rt; short.method == b"OPTIONS".as_slice() && short.target == b"*".as_slice());
+    let none = request_line(b"\nGET / HTTP/1.1\n");
+    assert!(rt; none.method.is_empty() && none.target.is_empty());
+    let long = request_line(&[b'A'; 40]);
+    assert!(rt; long.method.len() == 32 && long.target.is_empty());
 }
 
 fn page(target: &[u8], host: &[u8]) -> Option<Page> {

@@ -1,1 +1,4 @@
 pub mod Failures
+pub mod Going
+pub mod Talking
+pub mod Unlike

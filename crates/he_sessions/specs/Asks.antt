@@ -1,9 +1,10 @@
 -- What octets of a client ask for.
-use Rattle.std.specs.Prelude.{◌≡◌, ℕ, ⊤, List, Some, string_bytes}
+use Rattle.std.specs.Prelude.{◌≡◌, ℕ, ⊤, Bool, true, false, List, Option, Some, string_bytes}
 use Rattle.std.specs.declared.alloc.Global.{Global}
 use Rattle.httparse.specs.declared.spans.Span.{Span}
 use Rattle.httparse.specs.Spans.{span_bytes}
 use Rattle.he_front.specs.declared.asked.Asked.{Asked}
+use Rattle.he_front.specs.declared.http.Head.{Head}
 use Rattle.he_front.specs.declared.http.Head.TheVariants as heads
 use Rattle.he_front.specs.declared.replies.Ended.{Ended}
 use Rattle.he_front.specs.declared.replies.Ended.TheVariants as ends
@@ -11,9 +12,11 @@ use Rattle.he_front.specs.declared.socks.Request.{Request}
 use Rattle.he_front.specs.Asked.{asked_in}
 use Rattle.he_front.specs.Authority.{IsAuthority}
 use Rattle.he_front.specs.Http.{HasHead}
-use Rattle.he_front.specs.Socks.{IsRequest}
+use Rattle.he_front.specs.Socks.{IsGreeting, IsRequest}
 use Rattle.he_sessions.specs.declared.asking.Ask.{Ask}
 use Rattle.he_sessions.specs.declared.asking.Ask.TheVariants as asks
+use Rattle.he_sessions.specs.declared.asking.Extent.{Extent}
+use Rattle.he_sessions.specs.declared.asking.Extent.TheVariants as extents
 use Rattle.he_sessions.specs.declared.asking.Protocol.{Protocol}
 use Rattle.he_sessions.specs.declared.asking.Protocol.TheVariants as protocols
 
@@ -39,12 +42,29 @@ IsFailure ends.TimedOut = ⊤
 IsFailure ends.Command = ⊤
 IsFailure ends.Kind = ⊤
 
--- a tunnel is one that they ask for, and what is refused is no connection
-abbrev pub Asks : List ℕ → Ask → Type 0
-Asks octets asks.More = ⊤
-Asks octets (asks.Greeting len) = ⊤
-Asks octets asks.NoMethod = ⊤
-Asks octets (asks.Tunnel protocol asked len) = AsksTunnel octets protocol asked len
-Asks octets (asks.Page extent path host) = ⊤
-Asks octets (asks.Refused protocol ended) = IsFailure ended
-Asks octets asks.Unknown = ⊤
+-- a client of SOCKS 5 greets before it asks (RFC 1928 section 3)
+abbrev pub greets : Protocol → Bool
+greets protocols.OldSocks = false
+greets protocols.Socks = true
+greets protocols.Http = false
+
+-- GET and HEAD (RFC 9110 sections 9.3.1 and 9.3.2)
+abbrev pub page_head : Extent → Span → Option Span → Head
+page_head extents.Whole path host = heads.Get path host
+page_head extents.Head path host = heads.Head path host
+
+-- the octets begin with a request for a page
+abbrev pub AsksPage : List ℕ → Extent → Span → Option Span → Type 0
+AsksPage octets extent path host = (len : ℕ) × HasHead octets (page_head extent path host) len
+
+-- A greeting, a tunnel or a page is one that the octets begin with, and what is refused is no connection. Only a
+-- client that has greeted asks by SOCKS 5, and it greets once.
+abbrev pub Asks : Bool → List ℕ → Ask → Type 0
+Asks has_greeted octets asks.More = ⊤
+Asks has_greeted octets (asks.Greeting len) = (has_greeted ≡ false) × IsGreeting octets true len
+Asks has_greeted octets asks.NoMethod = has_greeted ≡ false
+Asks has_greeted octets (asks.Tunnel protocol asked len) =
+    (greets protocol ≡ has_greeted) × AsksTunnel octets protocol asked len
+Asks has_greeted octets (asks.Page extent path host) = (has_greeted ≡ false) × AsksPage octets extent path host
+Asks has_greeted octets (asks.Refused protocol ended) = (greets protocol ≡ has_greeted) × IsFailure ended
+Asks has_greeted octets asks.Unknown = ⊤

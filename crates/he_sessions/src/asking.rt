@@ -1,9 +1,9 @@
 //! What a client's octets ask for.
-ghost use Rattle.std.specs.Prelude.{◌≡◌, IfOk, IfSome, drop};
+ghost use Rattle.std.specs.Prelude.{◌≡◌, IfOk, IfSome, drop, false, true};
 ghost use Rattle.httparse.specs.Spans.{span_bytes};
 ghost use Rattle.he_front.specs.Http.{HasHead};
 ghost use Rattle.he_front.specs.declared.http.Head.TheVariants as heads;
-ghost use Rattle.he_sessions.specs.Asks.{Asks, IsFailure};
+ghost use Rattle.he_sessions.specs.Asks.{Asks, IsFailure, greets};
 
 use he_front::{
     Asked, Ended, Head, Opening, Read, ReadHead, Refusal, opening_of, read_greeting, read_head,
@@ -53,7 +53,7 @@ pub enum Ask {
 
 // What the octets ask for. A client of SOCKS 5 that was greeted asks by a request.
 pub(crate) fn read_ask(alloc: Global, octets: &[u8], was_greeted: bool) -> Result<Ask, AllocError>
-    ensures { IfOk result (Asks octets.now) }
+    ensures { IfOk result (Asks was_greeted octets.now) }
 {
     if was_greeted {
         return read_socks(alloc, octets);
@@ -70,7 +70,7 @@ pub(crate) fn read_ask(alloc: Global, octets: &[u8], was_greeted: bool) -> Resul
 }
 
 fn greeting_in(octets: &[u8]) -> Ask
-    ensures { Asks octets.now result }
+    ensures { Asks false octets.now result }
 {
     match read_greeting(octets) {
         Read::Whole(true, len) => Ask::Greeting(len),
@@ -81,7 +81,7 @@ fn greeting_in(octets: &[u8]) -> Ask
 }
 
 fn read_socks(alloc: Global, octets: &[u8]) -> Result<Ask, AllocError>
-    ensures { IfOk result (Asks octets.now) }
+    ensures { IfOk result (Asks true octets.now) }
 {
     let (request, len) = match read_request(octets) {
         Read::Whole(request, len) => (request, len),
@@ -108,7 +108,7 @@ fn ended_by(refusal: Refusal) -> Ended
 }
 
 fn read_http(alloc: Global, octets: &[u8]) -> Result<Ask, AllocError>
-    ensures { IfOk result (Asks octets.now) }
+    ensures { IfOk result (Asks false octets.now) }
 {
     match read_head(octets) {
         ReadHead::Whole(Head::Tunnel(target), len) => read_connect(alloc, octets, target, len),
@@ -124,7 +124,7 @@ fn read_http(alloc: Global, octets: &[u8]) -> Result<Ask, AllocError>
 // The tunnel to the target that stands here.
 fn read_connect(alloc: Global, octets: &[u8], target: Span, len: usize) -> Result<Ask, AllocError>
     requires { HasHead octets.now (heads.Tunnel target) len }
-    ensures { IfOk result (Asks octets.now) }
+    ensures { IfOk result (Asks false octets.now) }
 {
     let Some(text) = piece(octets, target) else {
         return Ok(Ask::Refused(Protocol::Http, Ended::Kind));
@@ -133,6 +133,17 @@ fn read_connect(alloc: Global, octets: &[u8], target: Span, len: usize) -> Resul
         Ok(Some(asked)) => Ok(Ask::Tunnel(Protocol::Http, asked, len)),
         Ok(None) => Ok(Ask::Refused(Protocol::Http, Ended::Kind)),
         Err(refused) => Err(refused),
+    }
+}
+
+// The protocol that a client asks by, of which no more is known than whether it was greeted.
+pub(crate) fn protocol_of(was_greeted: bool) -> Protocol
+    ensures { greets result ≡ was_greeted }
+{
+    if was_greeted {
+        Protocol::Socks
+    } else {
+        Protocol::Http
     }
 }
 

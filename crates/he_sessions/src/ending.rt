@@ -1,7 +1,7 @@
 //! How a session ended.
 
 use crate::racer::Winner;
-use he_front::Ended;
+use he_front::{Ended, RequestLine};
 use std::fmt;
 use std::fmt::{Display, Formatter, Write};
 use std::net::SocketAddr;
@@ -19,7 +19,7 @@ pub enum Ending {
     Idle,
     /// The client went away before its tunnel was open.
     Left,
-    /// It had not asked for anything yet, and made room for another client.
+    /// Nothing had come from it yet, and it made room for another client.
     Displaced,
     /// The request was not whole, or its answer not taken, in the time for it.
     Late,
@@ -62,6 +62,8 @@ pub struct SessionEnd<'a> {
     pub port: u16,
     /// How the race for it ended, or why it was refused; `None` where it did not come so far.
     pub result: Option<Result<Winner, Ended>>,
+    /// The method and the target of a request of HTTP that asks for a page or is refused; any octets.
+    pub request: Option<RequestLine<'a>>,
     /// Bytes that were written to the server.
     pub sent: u64,
     /// Bytes that were written to the client once the tunnel was open.

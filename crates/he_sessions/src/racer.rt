@@ -5,6 +5,7 @@ ghost use Rattle.futures.specs.Task.{Keeps};
 ghost use Rattle.he_front.specs.declared.replies.Ended.{Ended};
 ghost use Rattle.he_sessions.specs.declared.racer.Won.{Won};
 
+use crate::connection::Connection;
 use crate::ending::SessionEnd;
 use futures::Future;
 use futures::task::{Context, Poll};
@@ -13,7 +14,6 @@ use he_front::Ended;
 use std::alloc::AllocError;
 use std::io;
 use std::net::SocketAddr;
-use tokio::net::TcpStream;
 
 /// The address that won a race.
 #[derive(Clone, Copy, Debug, PartialEq, Eq)]
@@ -28,9 +28,9 @@ pub struct Winner {
 
 /// What a race gave.
 #[derive(Drop)]
-pub struct Won {
+pub struct Won<S> {
     /// The connection.
-    pub stream: TcpStream,
+    pub stream: S,
     /// The address that it goes to.
     pub winner: Winner,
 }
@@ -48,7 +48,7 @@ pub struct PageAsked<'a> {
     pub host: Option<&'a [u8]>,
 }
 
-/// A client's place among those that have not asked for anything yet. It is given back where it is dropped.
+/// A client's place among those that have said nothing yet. It is given back where it is dropped.
 pub trait Place: Drop {
     /// Ready once the client is to go, since another one takes its place.
     fn poll_lost(&mut self, cx: &mut Context<'_>) -> Poll<()>
@@ -57,17 +57,20 @@ pub trait Place: Drop {
 
 /// What races for connections, shows pages and logs sessions.
 pub trait Racer {
-    /// A race that is under way.
-    type Race: Future<Output = Result<Won, Ended>>;
+    /// The connections of clients, and those that races give.
+    type Stream: Connection;
 
-    /// A place of a client that has not asked for anything yet.
+    /// A race that is under way.
+    type Race: Future<Output = Result<Won<Self::Stream>, Ended>>;
+
+    /// A place of a client that has said nothing yet.
     type Place: Place;
 
     // The client of this address is served.
     ghost serves: { Self → SocketAddr → Type 0 };
 
     // May be the end of a race that the client of this address asks for, for the host of these octets at this port.
-    ghost answers: { Self → SocketAddr → List ℕ → ℕ → Result Won Ended → Type 0 };
+    ghost answers: { Self → SocketAddr → List ℕ → ℕ → Result (Won Self.Stream) Ended → Type 0 };
 
     /// Whether the client of this address is served.
     fn is_served(&self, client: SocketAddr) -> bool
@@ -88,7 +91,7 @@ pub trait Racer {
     /// the proxy itself.
     fn race(&self, client: SocketAddr, host: &str, port: u16) -> Result<Self::Race, Ended>
         ensures can { IfOk result Self.Race.can_poll }
-        ensures answers { IfOk result (λ race. (end : Result Won Ended)
+        ensures answers { IfOk result (λ race. (end : Result (Won Self.Stream) Ended)
             → Self.Race.gives race end → Self.answers self.now client host.now port end) };
 
     /// Writes the whole HTTP response to a GET of a page.

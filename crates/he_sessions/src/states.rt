@@ -6,21 +6,20 @@ use crate::racer::Won;
 use bytes::BytesMut;
 use he_relay::{Cut, Tunnel};
 use std::time::Instant;
-use tokio::net::TcpStream;
 
 /// How far a session is.
 #[derive(Drop)]
-pub enum State<F> {
+pub enum State<F, S> {
     /// What the client asks for is read.
-    Asking(Asking),
+    Asking(Asking<S>),
     /// It is raced for.
-    Racing(Racing<F>),
+    Racing(Racing<F, S>),
     /// The race is won, and the client is told so.
-    Answering(Answering),
+    Answering(Answering<S>),
     /// The client is told last of all why there is no tunnel, or is given a page.
-    Closing(Closing),
+    Closing(Closing<S>),
     /// The tunnel is open.
-    Relaying(Relaying),
+    Relaying(Relaying<S>),
     /// One of its two connections broke off, and the other one is to be reset.
     Cutting(Cutting),
     /// It has ended.
@@ -29,9 +28,9 @@ pub enum State<F> {
 
 /// What the client asks for is read.
 #[derive(Drop)]
-pub struct Asking {
+pub struct Asking<S> {
     /// The client.
-    pub client: TcpStream,
+    pub client: S,
     /// What has come and isn't answered yet.
     pub come: Vec<u8>,
     /// Whether its greeting was answered.
@@ -42,9 +41,9 @@ pub struct Asking {
 
 /// A race is under way.
 #[derive(Drop)]
-pub struct Racing<F> {
+pub struct Racing<F, S> {
     /// The client.
-    pub client: TcpStream,
+    pub client: S,
     /// What it sent after its request.
     pub early: Vec<u8>,
     /// Whether it sends no more.
@@ -57,22 +56,22 @@ pub struct Racing<F> {
 
 /// The race is won.
 #[derive(Drop)]
-pub struct Answering {
+pub struct Answering<S> {
     /// The client.
-    pub client: TcpStream,
+    pub client: S,
     /// What it sent after its request.
     pub early: Vec<u8>,
     /// What the race gave.
-    pub won: Won,
+    pub won: Won<S>,
     /// What is to be written before the tunnel is open.
     pub reply: BytesMut,
 }
 
 /// There will be no tunnel.
 #[derive(Drop)]
-pub struct Closing {
+pub struct Closing<S> {
     /// The client.
-    pub client: TcpStream,
+    pub client: S,
     /// What is to be written before the close.
     pub reply: BytesMut,
     /// How the session ends.
@@ -81,9 +80,9 @@ pub struct Closing {
 
 /// The tunnel is open.
 #[derive(Drop)]
-pub struct Relaying {
+pub struct Relaying<S> {
     /// The tunnel.
-    pub tunnel: Tunnel<TcpStream, TcpStream>,
+    pub tunnel: Tunnel<S, S>,
     /// How many bytes had moved both ways when it was last looked.
     pub seen: u64,
     /// Until when it may be idle, once a byte moved.

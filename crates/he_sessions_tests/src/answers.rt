@@ -14,15 +14,16 @@ const ASKS: &[u8] = b"\x05\x01\x00\x05\x01\x00\x03\x0bexample.org\x01\xbb";
 
 const CONNECTS: &[u8] = b"CONNECT example.org:443 HTTP/1.1\r\nHost: example.org:443\r\n\r\n";
 
-// What comes of a client that sends this.
-fn ask<R: Lender + Net<Listener = TcpListener, Stream = TcpStream>>(
+// What comes of a client that sends this, in pieces of so many octets.
+fn ask_in_pieces<R: Lender + Net<Listener = TcpListener, Stream = TcpStream>>(
     rt: &R,
     course: Course,
     sends: &[u8],
+    piece: usize,
 ) -> io::Result<Outcome> {
     let client = Part {
         sends: Vec::from_slice(rt.alloc(), sends)?,
-        piece: usize::MAX,
+        piece,
         ends_after: usize::MAX,
     };
     let server = Part {
@@ -31,6 +32,15 @@ fn ask<R: Lender + Net<Listener = TcpListener, Stream = TcpStream>>(
         ends_after: 0,
     };
     run(rt, TARGET, course, None, client, server)
+}
+
+// The same, at once.
+fn ask<R: Lender + Net<Listener = TcpListener, Stream = TcpStream>>(
+    rt: &R,
+    course: Course,
+    sends: &[u8],
+) -> io::Result<Outcome> {
+    ask_in_pieces(rt, course, sends, usize::MAX)
 }
 
 // Whether the client gets this and nothing else, and the session ends so.
@@ -148,6 +158,21 @@ fn http_is_answered_by_its_status(rt: HostRuntime) -> Result<(), Fail> {
             b"HTTP/1.1 400 "
         )?
     );
+    Ok(())
+}
+
+#[test]
+fn a_client_that_says_nothing_makes_room(rt: HostRuntime) -> Result<(), Fail> {
+    assert!(rt; is_answered(&rt, Course::LosesPlace, b"", b"", Ending::Displaced)?);
+    Ok(())
+}
+
+#[test]
+fn a_client_from_which_something_has_come_makes_no_room(rt: HostRuntime) -> Result<(), Fail> {
+    let reply = b"\x05\x00\x05\x05\x00\x01\x00\x00\x00\x00\x00\x00";
+    assert!(rt; is_answered(&rt, Course::LosesPlace, ASKS, reply, Ending::Refused)?);
+    let slow = ask_in_pieces(&rt, Course::LosesPlace, ASKS, 1)?;
+    assert!(rt; slow.client_got.as_slice() == reply.as_slice());
     Ok(())
 }
 

@@ -49,6 +49,8 @@ pub enum Course {
     IsRefused(Ended),
     /// It goes on for longer than the test.
     GoesOn,
+    /// The client is to make room at once for another one; a race ends by a refusal.
+    LosesPlace,
 }
 
 /// A race.
@@ -61,9 +63,9 @@ pub enum Race {
 }
 
 impl Future for Race {
-    type Output = Result<Won, Ended>;
+    type Output = Result<Won<TcpStream>, Ended>;
 
-    fn poll(&mut self, cx: &mut Context<'_>) -> Poll<Result<Won, Ended>> {
+    fn poll(&mut self, cx: &mut Context<'_>) -> Poll<Result<Won<TcpStream>, Ended>> {
         match replace(self, Race::Over) {
             Race::Won(stream) => Poll::Ready(Ok(Won {
                 stream,
@@ -97,24 +99,33 @@ pub struct Told {
 pub struct OneTarget {
     pub host: &'static str,
     pub port: u16,
+    pub is_place_lost: bool,
     pub race: Cell<Option<Result<Race, Ended>>>,
     pub told: Cell<Option<Told>>,
 }
 
-/// A place that is never lost.
+/// A place that is lost at once, or never.
 #[derive(Drop)]
-pub struct Kept;
+pub struct OnePlace {
+    is_lost: bool,
+}
 
-impl Place for Kept {
+impl Place for OnePlace {
     fn poll_lost(&mut self, _cx: &mut Context<'_>) -> Poll<()> {
-        Poll::Pending
+        if self.is_lost {
+            Poll::Ready(())
+        } else {
+            Poll::Pending
+        }
     }
 }
 
 impl Racer for OneTarget {
+    type Stream = TcpStream;
+
     type Race = Race;
 
-    type Place = Kept;
+    type Place = OnePlace;
 
     ghost use Rattle.std.specs.Prelude.{⊤};
 
@@ -126,8 +137,10 @@ impl Racer for OneTarget {
         true
     }
 
-    fn place(&self, _client: SocketAddr) -> io::Result<Kept> {
-        Ok(Kept)
+    fn place(&self, _client: SocketAddr) -> io::Result<OnePlace> {
+        Ok(OnePlace {
+            is_lost: self.is_place_lost,
+        })
     }
 
     fn race(&self, _client: SocketAddr, host: &str, port: u16) -> Result<Race, Ended> {
@@ -285,10 +298,11 @@ fn race_of<R: Lender>(
         Course::GoesOn => Ok(Race::Waiting(
             handle.time().sleep(rt, Duration::from_secs(PATIENCE))?,
         )),
+        Course::LosesPlace => Ok(Race::Ended(Ended::Refused)),
     })
 }
 
-/// Runs the session of one client to its end.
+/// Runs the session of one client to its end. The first piece of what the client sends lies unread when it begins.
 pub fn run<R: Lender + Net<Listener = TcpListener, Stream = std::net::TcpStream>>(
     rt: &R,
     target: (&'static str, u16),
@@ -304,6 +318,7 @@ pub fn run<R: Lender + Net<Listener = TcpListener, Stream = std::net::TcpStream>
     let racer = OneTarget {
         host: target.0,
         port: target.1,
+        is_place_lost: course == Course::LosesPlace,
         race: Cell::new(Some(race_of(rt, &handle, course, to_server)?)),
         told: Cell::new(None),
     };
@@ -313,15 +328,15 @@ pub fn run<R: Lender + Net<Listener = TcpListener, Stream = std::net::TcpStream>
     };
     let session = Session::new(rt, rt.alloc(), handle.time(), &racer, taken, from, limits)?;
     let peers = join3(
-        session,
         Peer::new(rt.alloc(), near, client),
         Peer::new(rt.alloc(), far, server),
+        session,
     );
     let timed = handle
         .time()
         .timeout(rt, Duration::from_secs(PATIENCE), peers)?;
     match runtime.block_on(rt, timed)? {
-        Ok((_, client_got, server_got)) => Ok(Outcome {
+        Ok((client_got, server_got, _)) => Ok(Outcome {
             client_got,
             server_got,
             told: racer.told.get(),

@@ -1,0 +1,2 @@
+pub mod GivenUp
+pub mod Known

@@ -1,0 +1,141 @@
+//! The last races, for the page.
+
+use he_addr::{Family, Memory};
+use he_course::Course;
+use he_draw::{Times, Totals, write_head, write_name, write_section, write_tail};
+use he_timeline::Timeline;
+use std::alloc::{AllocError, Global};
+use std::cell::Cell;
+
+/// How many races the page has at most.
+pub const PAGE_RACES: usize = 100;
+
+/// The last races, of which the oldest goes where there are too many.
+#[derive(Drop)]
+pub struct Recent {
+    alloc: Global,
+    races: Cell<Vec<Shown>>,
+}
+
+/// A race that is shown, and what it is called.
+#[derive(Drop)]
+pub struct Shown {
+    pub name: String,
+    pub recorded: Timeline,
+}
+
+impl Recent {
+    pub fn new(alloc: Global) -> Recent {
+        Recent {
+            alloc,
+            races: Cell::new(Vec::new(alloc)),
+        }
+    }
+
+    /// Adds a race. Where memory is refused it isn't shown.
+    pub fn add(&self, race: Shown) {
+        let mut races = self.races.replace(Vec::new(self.alloc));
+        if races.len() >= PAGE_RACES {
+            races.remove(0);
+        }
+        let _ = races.push(race);
+        self.races.set(races);
+    }
+
+    /// Appends a page of the races, the newest first, which a browser reads again every five seconds.
+    ///
+    /// # Errors
+    ///
+    /// `Memory` where an allocation was refused; a part of the page may be there.
+    pub fn write_page(&self, out: &mut Vec<u8>) -> Result<(), Memory> {
+        let races = self.races.replace(Vec::new(self.alloc));
+        let written = write_races(self.alloc, races.as_slice(), out);
+        self.races.set(races);
+        written
+    }
+}
+
+fn write_races(alloc: Global, races: &[Shown], out: &mut Vec<u8>) -> Result<(), Memory> {
+    let mut counts = Counts::new(alloc);
+    write_head(out)?;
+    out.extend_from_slice(b"<meta http-equiv='refresh' content='5'>\n")?;
+    for (place, race) in races.iter().rev().enumerate() {
+        let course = Course::of(alloc, &race.recorded, place.saturating_add(1), 1)?;
+        write_name(race.name.as_str(), out)?;
+        write_section(&course, 0, out)?;
+        counts.add(&course)?;
+    }
+    write_tail(counts.totals()?, out)
+}
+
+// What is counted of the races.
+#[derive(Drop)]
+struct Counts {
+    by_v6: u64,
+    by_v4: u64,
+    not_won: u64,
+    // The times to connect of those that were won.
+    times: Vec<u64>,
+    end: u64,
+}
+
+impl Counts {
+    fn new(alloc: Global) -> Counts {
+        Counts {
+            by_v6: 0,
+            by_v4: 0,
+            not_won: 0,
+            times: Vec::new(alloc),
+            end: 0,
+        }
+    }
+
+    fn add(&mut self, course: &Course<Global>) -> Result<(), Memory> {
+        self.end = self.end.max(course.end());
+        let count = match course.ended.winner {
+            Some(line) => {
+                self.times.push(course.end())?;
+                match line.ip.family() {
+                    Family::V6 => &mut self.by_v6,
+                    Family::V4 => &mut self.by_v4,
+                }
+            }
+            None => &mut self.not_won,
+        };
+        *count = count.saturating_add(1);
+        Ok(())
+    }
+
+    fn totals(self) -> Result<Totals, Memory> {
+        let Counts {
+            by_v6,
+            by_v4,
+            not_won,
+            mut times,
+            end,
+        } = self;
+        times.sort_unstable();
+        Ok(Totals {
+            races: by_v6.saturating_add(by_v4).saturating_add(not_won),
+            by_v6,
+            by_v4,
+            not_won,
+            times: times_of(times.as_slice()),
+            end,
+        })
+    }
+}
+
+// Of sorted times, the least within which so many of 100 connect.
+fn times_of(times: &[u64]) -> Option<Times> {
+    Some(Times {
+        median: within(times, 50)?,
+        p90: within(times, 90)?,
+        p99: within(times, 99)?,
+    })
+}
+
+fn within(times: &[u64], percent: usize) -> Option<u64> {
+    let count = times.len().saturating_mul(percent).div_ceil(100);
+    times.get(count.saturating_sub(1)).copied()
+}

@@ -1,0 +1,47 @@
+//! A fault of the system that may last, and is said once.
+
+use crate::cause::Cause;
+use std::cell::Cell;
+use std::io;
+
+/// Whether something fails, and whether that was said.
+#[derive(Drop)]
+pub struct Trouble {
+    state: Cell<State>,
+}
+
+#[derive(Clone, Copy)]
+enum State {
+    Well,
+    Fails(Cause),
+    Said,
+}
+
+impl Trouble {
+    /// Nothing has failed yet.
+    pub fn none() -> Trouble {
+        Trouble {
+            state: Cell::new(State::Well),
+        }
+    }
+
+    /// Notes how it went this time.
+    pub fn note(&self, done: &io::Result<()>) {
+        match (done, self.state.get()) {
+            (Ok(()), _) => self.state.set(State::Well),
+            (Err(error), State::Well) => self.state.set(State::Fails(Cause::of(error))),
+            (Err(_), _) => {}
+        }
+    }
+
+    /// The fault that is to be said: the first one, and the first one after each time that it went well.
+    pub fn take(&self) -> Option<Cause> {
+        match self.state.get() {
+            State::Fails(cause) => {
+                self.state.set(State::Said);
+                Some(cause)
+            }
+            State::Well | State::Said => None,
+        }
+    }
+}

@@ -1,0 +1,179 @@
+//! The answers that races share, and for which hosts name servers are being asked.
+ghost use Rattle.std.specs.Prelude.{◌≡◌, IfOk, IfSome};
+ghost use Rattle.he_kept.specs.Answers.{IsAbout, IsOfHost, Serves};
+
+use crate::answer::{KeptAnswer, KeptHost, Question};
+use crate::table::KeptTable;
+use he_addr::{Family, Memory};
+use std::alloc::{AllocError, Global};
+use std::cell::Cell;
+use std::io;
+use std::mem::drop;
+use std::time::{Clock, Instant};
+use tokio::sync::Notify;
+
+/// The answers that all races share, and what they are asking for.
+#[derive(Drop)]
+pub struct KeptAnswers {
+    alloc: Global,
+    // From when on seconds are counted.
+    start: Instant,
+    table: Cell<Option<KeptTable>>,
+    asked: Cell<Option<Vec<Question>>>,
+    /// Fires where one of them has its answer, or goes away.
+    pub answered: Notify,
+}
+
+/// That a race asks name servers for a family of a host, until this is dropped.
+pub struct Asking<'h> {
+    kept: &'h KeptAnswers,
+    question: Question,
+}
+
+impl Drop for Asking<'_> {
+    fn drop(self) {
+        let Self { kept, question } = self;
+        kept.remove(&question);
+        drop(question);
+    }
+}
+
+impl KeptAnswers {
+    /// Nothing is kept.
+    ///
+    /// # Errors
+    ///
+    /// Those of the clock, `OutOfMemory`.
+    pub fn new<R: Clock>(rt: &R, alloc: Global) -> io::Result<KeptAnswers> {
+        let table = match KeptTable::new(alloc) {
+            Ok(table) => table,
+            Err(Memory) => return Err(io::ErrorKind::OutOfMemory.into()),
+        };
+        Ok(KeptAnswers {
+            alloc,
+            start: Instant::now(rt)?,
+            table: Cell::new(Some(table)),
+            asked: Cell::new(Some(Vec::new(alloc))),
+            answered: Notify::new(alloc)?,
+        })
+    }
+
+    /// The second in which it is asked, by a clock that goes on. None where the clock fails.
+    pub fn second<R: Clock>(&self, rt: &R) -> Option<u64> {
+        let now = Instant::now(rt).ok()?;
+        Some(now.saturating_duration_since(self.start).as_secs())
+    }
+
+    /// What is kept of the family of the host and counts in this second. None also where memory is refused.
+    pub fn known_of(&self, now: u64, host: &str, family: Family) -> Option<KeptAnswer>
+        ensures { IfSome result (λ answer. Serves answer now host.now family) }
+    {
+        let table = self.table.take()?;
+        let known = known_in(self.alloc, &table, now, host, family);
+        self.table.set(Some(table));
+        known
+    }
+
+    /// What is kept of the host and counts in this second, where the answer of each family that is tried is; `only` is
+    /// the family that is tried alone.
+    pub fn known(&self, now: u64, host: &str, only: Option<Family>) -> Option<KeptHost>
+        ensures { IfSome result (λ known. IsOfHost only known now host.now) }
+    {
+        match only {
+            None => Some(KeptHost {
+                six: Some(self.known_of(now, host, Family::V6)?),
+                four: Some(self.known_of(now, host, Family::V4)?),
+            }),
+            Some(Family::V6) => Some(KeptHost {
+                six: Some(self.known_of(now, host, Family::V6)?),
+                four: None,
+            }),
+            Some(Family::V4) => Some(KeptHost {
+                six: None,
+                four: Some(self.known_of(now, host, Family::V4)?),
+            }),
+        }
+    }
+
+    /// Keeps an answer. Where memory is refused it is not kept.
+    pub fn keep(&self, answer: KeptAnswer) {
+        if let Some(mut table) = self.table.take() {
+            let _ = table.keep(answer);
+            self.table.set(Some(table));
+        } else {
+            drop(answer);
+        }
+    }
+
+    /// The question of a race that asks name servers for the family of the host, where one does. None also where
+    /// memory is refused.
+    pub fn asked(&self, host: &str, family: Family) -> Option<Question>
+        ensures { IfSome result (λ question. IsAbout question host.now family) }
+    {
+        let asked = self.asked.take()?;
+        let found = asked_in(self.alloc, &asked, host, family);
+        self.asked.set(Some(asked));
+        found
+    }
+
+    /// Notes that a race asks for the family of the host.
+    ///
+    /// # Errors
+    ///
+    /// `AllocError` where an allocation was refused: it is not noted.
+    pub fn ask(&self, host: &str, family: Family) -> Result<Asking<'_>, AllocError>
+        ensures { IfOk result (λ asking. IsAbout asking.question host.now family) }
+    {
+        let question = Question::of(self.alloc, host, family)?;
+        let noted = Question::of(self.alloc, host, family)?;
+        let Some(mut asked) = self.asked.take() else {
+            return Err(AllocError);
+        };
+        let pushed = asked.push(noted);
+        self.asked.set(Some(asked));
+        match pushed {
+            Ok(()) => Ok(Asking {
+                kept: self,
+                question,
+            }),
+            Err(_) => Err(AllocError),
+        }
+    }
+
+    // The race has its answer, or goes away; those that wait are woken.
+    fn remove(&self, question: &Question) {
+        let Some(mut asked) = self.asked.take() else {
+            return;
+        };
+        let place = asked
+            .iter()
+            .position(|other| other.is_of(&question.host, question.family));
+        if let Some(place) = place {
+            drop(asked.swap_remove(place));
+        }
+        self.asked.set(Some(asked));
+        self.answered.notify_waiters();
+    }
+}
+
+fn known_in(
+    alloc: Global,
+    table: &KeptTable,
+    now: u64,
+    host: &str,
+    family: Family,
+) -> Option<KeptAnswer>
+    ensures { IfSome result (λ answer. Serves answer now host.now family) }
+{
+    match table.answer(now, host, family) {
+        Ok(Some(kept)) => kept.copied(alloc).ok(),
+        _ => None,
+    }
+}
+
+fn asked_in(alloc: Global, asked: &[Question], host: &str, family: Family) -> Option<Question>
+    ensures { IfSome result (λ question. IsAbout question host.now family) }
+{
+    let found = asked.iter().find(|question| question.is_of(host, family))?;
+    Question::of(alloc, found.host.as_str(), found.family).ok()
+}

@@ -1,0 +1,331 @@
+//! The log: a line for each session.
+ghost use Rattle.std.specs.Prelude.{◌≡◌, ◌++◌, OnOk};
+ghost use Rattle.std.specs.List.{list_all};
+ghost use Rattle.he_log.specs.Log.{is_bare_byte, value_text};
+
+use crate::facts::Facts;
+use crate::output::Output;
+use he_access::reach::Place;
+use he_addr::{Memory, write_ip, write_number};
+use he_front::{Ended, RequestLine};
+use he_history::{Cause, stamp_now};
+use he_live::{Endpoint, socket_of};
+use he_print::write_string;
+use he_sessions::{Ending, SessionEnd, Winner};
+use std::alloc::Global;
+use std::io::Write;
+use std::net::SocketAddr;
+use std::time::Clock;
+
+/// How sessions are logged.
+#[derive(Clone, Copy, Debug, PartialEq, Eq)]
+pub enum LogForm {
+    Silent,
+    /// A line of text for each session.
+    Text,
+    /// A line with a JSON object for each session.
+    Json,
+}
+
+/// The log, and where its lines go.
+#[derive(Drop)]
+pub struct Log<F: Drop> {
+    alloc: Global,
+    form: LogForm,
+    out: Output<F>,
+}
+
+impl<F: Write + Drop> Log<F> {
+    pub fn new(alloc: Global, form: LogForm, out: F) -> Log<F> {
+        Log {
+            alloc,
+            form,
+            out: Output::new(alloc, out),
+        }
+    }
+
+    /// Writes the line of a session that has ended: `time=2026-11-26T16:34:40.123Z client=127.0.0.1:53422
+    /// host=example.org port=443 start=2026-11-26T16:34:39.871Z names=21 winner=2001:db8::1 ms=23 lost=0 sent=517
+    /// received=4096 end=closed`, or an object with the same members.
+    pub fn tell<R: Clock>(&self, rt: &R, end: &SessionEnd<'_>, facts: &Facts) {
+        if let Some(line) = self.begin_line(rt)
+            && let Ok(line) = line_of(self.alloc, end, facts, line)
+        {
+            self.out.write(line.as_slice());
+        }
+    }
+
+    /// Writes the line of a client that is turned away, since it is not served.
+    pub fn tell_turned_away<R: Clock>(&self, rt: &R, client: SocketAddr) {
+        if let Some(line) = self.begin_line(rt)
+            && let Ok(line) = line_of_turned_away(self.alloc, client, line)
+        {
+            self.out.write(line.as_slice());
+        }
+    }
+
+    // A line with the time now, where the clock has one. None in a log that is silent.
+    fn begin_line<R: Clock>(&self, rt: &R) -> Option<Line> {
+        let is_json = match self.form {
+            LogForm::Silent => return None,
+            LogForm::Text => false,
+            LogForm::Json => true,
+        };
+        let mut line = Line {
+            is_json,
+            text: Vec::new(self.alloc),
+        };
+        if let Some(now) = stamp_now(rt, self.alloc) {
+            line.put_text("time", now.as_bytes()).ok()?;
+        }
+        Some(line)
+    }
+
+    /// Writes a line of the proxy itself, as `he: no descriptor is left`.
+    pub fn say(&self, what: &str) {
+        if let Ok(line) = format!(in self.alloc; "he: {what}\n") {
+            self.out.write(line.as_bytes());
+        }
+    }
+
+    /// Says that something is not kept, and why.
+    pub fn tell_unkept(&self, what: &str, why: Cause) {
+        if let Ok(what) = format!(in self.alloc; "cannot keep {what}: {why}") {
+            self.say(&what);
+        }
+    }
+
+    /// Says that the file of known addresses was one of something else, and where that is now.
+    pub fn tell_moved(&self, to: &str) {
+        if let Ok(what) = format!(in self.alloc;
+            "no line of the history was ADDRESS SOURCE MILLISECONDS SECOND: what it was is kept as {to}"
+        ) {
+            self.say(&what);
+        }
+    }
+
+    /// Says which lines of the file of known addresses are wrong.
+    pub fn tell_passed_over(&self, lines: &[u64]) {
+        for line in lines {
+            if let Ok(what) = format!(in self.alloc;
+                "line {line} of the history was passed over: it is not ADDRESS SOURCE MILLISECONDS SECOND"
+            ) {
+                self.say(&what);
+            }
+        }
+    }
+
+    /// Says that as many sessions run as may.
+    pub fn tell_most(&self, most: u32) {
+        if let Ok(what) = format!(in self.alloc;
+            "{most} sessions run, as many as --most allows: other clients wait until one ends"
+        ) {
+            self.say(&what);
+        }
+    }
+
+    /// Says that there is room for sessions again.
+    pub fn tell_room(&self, most: u32) {
+        if let Ok(what) = format!(in self.alloc; "fewer than {most} sessions run again") {
+            self.say(&what);
+        }
+    }
+
+    /// Says at which places the proxy listens, in a log of text.
+    pub fn tell_places(&self, places: &[Place]) {
+        if self.form != LogForm::Text {
+            return;
+        }
+        for place in places {
+            self.tell_place(*place);
+        }
+    }
+
+    fn tell_place(&self, place: Place) {
+        let Place { ip, port } = place;
+        let address = socket_of(ip, Endpoint { port, scope: 0 });
+        if let Ok(what) = format!(in self.alloc; "listening at {address}") {
+            self.say(&what);
+        }
+    }
+}
+
+// The line of a session that ended.
+fn line_of(
+    alloc: Global,
+    end: &SessionEnd<'_>,
+    facts: &Facts,
+    mut line: Line,
+) -> Result<Vec<u8>, Memory> {
+    line.put_client(alloc, end.client)?;
+    line.put_text("host", end.host.as_bytes())?;
+    line.put_number("port", u64::from(end.port))?;
+    if let Some(request) = end.request {
+        line.put_request(alloc, request)?;
+    }
+    line.put_facts(facts)?;
+    match end.result {
+        Some(Ok(winner)) => line.put_winner(alloc, winner)?,
+        Some(Err(ended)) => line.put_text("fault", fault_of(ended, facts).as_bytes())?,
+        None => {}
+    }
+    line.put_tried(alloc, facts)?;
+    line.put_number("sent", end.sent)?;
+    line.put_number("received", end.received)?;
+    line.put_end(alloc, end.how)?;
+    line.finish()
+}
+
+fn line_of_turned_away(
+    alloc: Global,
+    client: SocketAddr,
+    mut line: Line,
+) -> Result<Vec<u8>, Memory> {
+    line.put_client(alloc, client)?;
+    line.put_text("end", b"turned-away")?;
+    line.finish()
+}
+
+// A line while it is written: `name=value name=value` or an object.
+#[derive(Drop)]
+struct Line {
+    is_json: bool,
+    text: Vec<u8>,
+}
+
+impl Line {
+    fn put_client(&mut self, alloc: Global, client: SocketAddr) -> Result<(), Memory> {
+        // An IPv4 client of an IPv6 socket has its own address.
+        let client = SocketAddr::new(client.ip().to_canonical(), client.port());
+        self.put_text("client", format!(in alloc; "{client}")?.as_bytes())
+    }
+
+    // What asks for no tunnel, as text (UTF-8), whatever its octets are.
+    fn put_request(&mut self, alloc: Global, request: RequestLine<'_>) -> Result<(), Memory> {
+        let RequestLine { method, target } = request;
+        let method = String::from_utf8_lossy(alloc, method)?;
+        let target = String::from_utf8_lossy(alloc, target)?;
+        self.put_text("method", method.as_bytes())?;
+        self.put_text("target", target.as_bytes())
+    }
+
+    // When the race began, its record, and how long it had no address to try.
+    fn put_facts(&mut self, facts: &Facts) -> Result<(), Memory> {
+        if let Some(began) = &facts.began {
+            self.put_text("start", began.as_bytes())?;
+        }
+        if let Some(record) = &facts.record {
+            self.put_text("record", record.as_bytes())?;
+        }
+        if let Some(names) = facts.names {
+            self.put_number("names", names)?;
+        }
+        Ok(())
+    }
+
+    fn put_winner(&mut self, alloc: Global, winner: Winner) -> Result<(), Memory> {
+        let mut ip = Vec::new(alloc);
+        write_ip(winner.ip, &mut ip)?;
+        self.put_text("winner", ip.as_slice())?;
+        self.put_number("ms", winner.ticks)?;
+        self.put_number("lost", winner.lost)
+    }
+
+    // After how long a race was given up, and what was tried without a winner.
+    fn put_tried(&mut self, alloc: Global, facts: &Facts) -> Result<(), Memory> {
+        if let Some(tick) = facts.given_up {
+            self.put_number("ms", tick)?;
+        }
+        if facts.tried.is_empty() {
+            return Ok(());
+        }
+        let mut tried = Vec::new(alloc);
+        for ip in &facts.tried {
+            if !tried.is_empty() {
+                tried.push(b',')?;
+            }
+            write_ip(*ip, &mut tried)?;
+        }
+        self.put_text("tried", tried.as_slice())
+    }
+
+    fn put_end(&mut self, alloc: Global, how: Ending) -> Result<(), Memory> {
+        self.put_text("end", format!(in alloc; "{how}")?.as_bytes())
+    }
+
+    fn put_text(&mut self, name: &str, value: &[u8]) -> Result<(), Memory> {
+        self.put_name(name)?;
+        write_value(self.is_json, value, &mut self.text)
+    }
+
+    fn put_number(&mut self, name: &str, value: u64) -> Result<(), Memory> {
+        self.put_name(name)?;
+        write_number(value, &mut self.text)
+    }
+
+    fn put_name(&mut self, name: &str) -> Result<(), Memory> {
+        let is_first = self.text.is_empty();
+        if self.is_json {
+            self.text.push(if is_first { b'{' } else { b',' })?;
+            write_string(name.as_bytes(), &mut self.text)?;
+            self.text.push(b':')?;
+            return Ok(());
+        }
+        if !is_first {
+            self.text.push(b' ')?;
+        }
+        self.text.extend_from_slice(name.as_bytes())?;
+        self.text.push(b'=')?;
+        Ok(())
+    }
+
+    fn finish(self) -> Result<Vec<u8>, Memory> {
+        let Line { is_json, mut text } = self;
+        if is_json {
+            text.push(b'}')?;
+        }
+        text.push(b'\n')?;
+        Ok(text)
+    }
+}
+
+// Appends a value: as a string of JSON, or, where a line of text can have it so, as it is.
+fn write_value(is_json: bool, value: &[u8], text: &mut Vec<u8>) -> Result<(), Memory>
+    ensures { OnOk result (text.new.items ≡ text.old.items ++ value_text is_json value.now) }
+{
+    if is_json || !is_bare(value) {
+        return write_string(value, text);
+    }
+    text.extend_from_slice(value)?;
+    Ok(())
+}
+
+// Whether a value needs no quotation marks: no space, quotation mark, backslash or control character is in it.
+fn is_bare(value: &[u8]) -> bool
+    ensures { result ≡ list_all is_bare_byte value.now }
+{
+    value.iter().all(|byte| is_bare_byte(*byte))
+}
+
+fn is_bare_byte(byte: u8) -> bool
+    ensures { result ≡ is_bare_byte byte }
+{
+    byte > b' ' && byte != b'"' && byte != b'\\' && byte != 127
+}
+
+// The word for how a session ended without a connection: that of its race, or that of the refusal.
+fn fault_of(ended: Ended, facts: &Facts) -> &'static str {
+    if let Some(lost) = facts.lost {
+        return lost.word();
+    }
+    match ended {
+        Ended::Forbidden => "forbidden",
+        Ended::NoNetwork => "no-network",
+        Ended::NoHost => "no-address",
+        Ended::Refused => "all-failed",
+        Ended::TimedOut => "timed-out",
+        Ended::Command => "command",
+        Ended::Kind => "address-kind",
+        Ended::Connected | Ended::Failed => "proxy-failed",
+    }
+}

@@ -1,0 +1,112 @@
+//! Why a session has no connection.
+ghost use Rattle.std.specs.Prelude.{◌≡◌};
+ghost use Rattle.he_log.specs.Lost.{ended_of, of_attempt, of_failure, of_names};
+
+use he_front::Ended;
+use he_live::Reason;
+use he_settings::{Failure, NamesFault};
+
+/// Why a session has no connection.
+#[derive(Clone, Copy, Debug, PartialEq, Eq)]
+pub enum Lost {
+    /// The client may not reach the target.
+    Forbidden,
+    /// Every attempt failed, and one was refused.
+    AllFailed,
+    /// No attempt had an answer by the race's limit.
+    TimedOut,
+    /// Nothing on the way to the host takes the packets.
+    Unreachable,
+    /// No network leads to an address of the host.
+    NoNetwork,
+    /// The process or the machine has as many files open as it may.
+    NoDescriptor,
+    /// The text is no name of a host.
+    NotAName,
+    /// There is no such name.
+    NoSuchName,
+    /// The name has no address that can be tried.
+    NoAddress,
+    /// No name server answered in its time.
+    NoAnswer,
+    /// A name server refused to answer.
+    DnsRefused,
+    /// The name servers failed.
+    DnsFailed,
+    /// The proxy failed: no memory, no clock, or a file of this machine that can't be read.
+    ProxyFailed,
+}
+
+impl Lost {
+    /// Why a look-up has no address.
+    pub fn of_names(fault: NamesFault) -> Lost
+        ensures { result ≡ of_names fault }
+    {
+        match fault {
+            NamesFault::Host(_) | NamesFault::Name(_) => Lost::NotAName,
+            NamesFault::NoSuchName => Lost::NoSuchName,
+            NamesFault::NoAddress | NamesFault::NotAsked | NamesFault::System => Lost::NoAddress,
+            NamesFault::NoAnswer => Lost::NoAnswer,
+            NamesFault::Server(server) => Lost::of_failure(server.failure),
+            NamesFault::Files => Lost::NoDescriptor,
+            // A fault of this machine.
+            _ => Lost::ProxyFailed,
+        }
+    }
+
+    fn of_failure(failure: Failure) -> Lost
+        ensures { result ≡ of_failure failure }
+    {
+        match failure {
+            Failure::Refused => Lost::DnsRefused,
+            _ => Lost::DnsFailed,
+        }
+    }
+
+    /// Why an attempt failed.
+    pub fn of_attempt(reason: Reason) -> Lost
+        ensures { result ≡ of_attempt reason }
+    {
+        match reason {
+            Reason::Refused | Reason::Reset => Lost::AllFailed,
+            Reason::TimedOut => Lost::TimedOut,
+            Reason::NetworkUnreachable | Reason::NetworkDown | Reason::NoFamily => Lost::NoNetwork,
+            Reason::TooManyFiles | Reason::TooManyFilesInSystem => Lost::NoDescriptor,
+            Reason::OutOfMemory | Reason::NoBuffers => Lost::ProxyFailed,
+            _ => Lost::Unreachable,
+        }
+    }
+
+    /// What the client is answered.
+    pub fn ended(self) -> Ended
+        ensures { result ≡ ended_of self }
+    {
+        match self {
+            Lost::Forbidden => Ended::Forbidden,
+            Lost::AllFailed => Ended::Refused,
+            Lost::TimedOut => Ended::TimedOut,
+            Lost::NoNetwork => Ended::NoNetwork,
+            Lost::NoDescriptor | Lost::ProxyFailed => Ended::Failed,
+            _ => Ended::NoHost,
+        }
+    }
+
+    /// The word for it in the log.
+    pub fn word(self) -> &'static str {
+        match self {
+            Lost::Forbidden => "forbidden",
+            Lost::AllFailed => "all-failed",
+            Lost::TimedOut => "timed-out",
+            Lost::Unreachable => "unreachable",
+            Lost::NoNetwork => "no-network",
+            Lost::NoDescriptor => "no-descriptor",
+            Lost::NotAName => "not-a-name",
+            Lost::NoSuchName => "no-such-name",
+            Lost::NoAddress => "no-address",
+            Lost::NoAnswer => "no-answer",
+            Lost::DnsRefused => "dns-refused",
+            Lost::DnsFailed => "dns-failed",
+            Lost::ProxyFailed => "proxy-failed",
+        }
+    }
+}

@@ -1,0 +1,25 @@
+use Rattle.std.proofs.Common.{rules}
+use Rattle.he_sessions.proofs.Talking.{talks_written}
+use Rattle.he_sessions.proofs.session.Session.step_asking.Goals as goal
+
+pub returns-in-Pending-clause-step : goal.returns-in-Pending-clause-step
+returns-in-Pending-clause-step g c = record {
+  goes_on = λ first at. record {
+    greeting = at.greeting;
+    greeted = at.greeted;
+    talks = talks_written _ _ first _ _ _ _ _ _ c.poll_write_all_buf.ensures.bytes at.talks;
+  };
+  follows = search rules;
+  same = search rules;
+}
+
+pub returns-in-Ready-Ok-clause-step : goal.returns-in-Ready-Ok-clause-step
+returns-in-Ready-Ok-clause-step g c = record {
+  goes_on = λ first at. c.answer.ensures.step.goes_on first (record {
+    greeting = at.greeting;
+    greeted = at.greeted;
+    talks = talks_written _ _ first _ _ _ _ _ _ c.poll_write_all_buf.ensures.bytes at.talks;
+  });
+  follows = search rules;
+  same = search rules;
+}

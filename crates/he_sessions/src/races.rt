@@ -1,0 +1,152 @@
+//! What a session does while its race is under way.
+ghost use Rattle.std.specs.Prelude.{◌≡◌, Ok, string_bytes};
+ghost use Rattle.futures.specs.Task.{IsArmed, Keeps};
+ghost use Rattle.he_sessions.specs.Asks.{greets};
+ghost use Rattle.he_sessions.specs.Sessions.{HasAsked, IsAt, IsNext, IsPolled, IsStep, MayPoll, TellsOn};
+ghost use Rattle.he_sessions.specs.Talks.{welcome};
+ghost use Rattle.he_sessions.specs.declared.session.Next.{Next};
+
+use crate::asking::Protocol;
+use crate::ending::Ending;
+use crate::hearing::{Heard, poll_hear};
+use crate::racer::{Racer, Won};
+use crate::reply::{failure_of, success};
+use crate::session::{Next, Session};
+use crate::states::{Answering, Racing, State};
+use crate::timing::restart;
+use futures::Future;
+use futures::task::{Context, Poll};
+use he_front::Ended;
+use std::alloc::AllocError;
+use std::time::Clock;
+
+// The most octets that are kept for the server while a race is under way.
+const MOST_EARLY: usize = 16_384;
+
+impl<'q, K: Clock, Q: Racer> Session<'q, K, Q> {
+    pub(crate) fn step_racing(
+        &mut self,
+        racing: Racing<Q::Race, Q::Stream>,
+        cx: &mut Context<'_>,
+    ) -> Next
+        requires may { MayPoll Q.Racer Q.Race.Future Q.Stream.reads Q.Stream.writes Q.Stream.cuts self.old
+            (State.Racing racing) }
+        requires over { self.old.state ≡ State.Over }
+        ensures step { IsStep Q.Racer Q.Race.Future Q.Stream.reads Q.Stream.writes Q.Stream.cuts self.old
+            (State.Racing racing) self.new }
+        ensures polled { IsPolled result cx.old cx.new }
+    {
+        let Racing {
+            client,
+            early,
+            has_ended,
+            protocol,
+            mut race,
+        } = racing;
+        match race.poll(cx) {
+            Poll::Pending => self.hear_early(
+                Racing {
+                    client,
+                    early,
+                    has_ended,
+                    protocol,
+                    race,
+                },
+                cx,
+            ),
+            Poll::Ready(Ok(won)) => self.open(client, early, protocol, won),
+            Poll::Ready(Err(ended)) => self.lose(client, protocol, ended),
+        }
+    }
+
+    // Keeps what the client sends before its tunnel is open, and sees whether it went away. A client that has sent
+    // something and then sends no more still waits for the answer.
+    fn hear_early(&mut self, mut racing: Racing<Q::Race, Q::Stream>, cx: &mut Context<'_>) -> Next
+        requires over { self.old.state ≡ State.Over }
+        requires can { Q.Race.can_poll racing.race }
+        requires armed { IsArmed cx.old }
+        ensures step { IsStep Q.Racer Q.Race.Future Q.Stream.reads Q.Stream.writes Q.Stream.cuts self.old
+            (State.Racing racing) self.new }
+        ensures armed { IsArmed cx.new }
+        ensures kept { Keeps cx.old cx.new }
+    {
+        if racing.has_ended || racing.early.len() >= MOST_EARLY {
+            self.state = State::Racing(racing);
+            return Next::Waits;
+        }
+        match poll_hear(&mut racing.client, &mut racing.early, MOST_EARLY, cx) {
+            Poll::Pending => {
+                self.state = State::Racing(racing);
+                Next::Waits
+            }
+            Poll::Ready(Heard::Octets) => {
+                self.state = State::Racing(racing);
+                Next::GoesOn
+            }
+            Poll::Ready(Heard::End) if !racing.early.is_empty() => {
+                racing.has_ended = true;
+                self.state = State::Racing(racing);
+                Next::Waits
+            }
+            Poll::Ready(Heard::End | Heard::Broken) => self.leave(racing.race, cx),
+            Poll::Ready(Heard::NoMemory) => Next::Ends(Ending::Failed),
+        }
+    }
+
+    // Has the race of a client that left end now.
+    fn leave(&self, mut race: Q::Race, cx: &mut Context<'_>) -> Next
+        requires can { Q.Race.can_poll race }
+        ensures on { result ≡ Next.Waits → ⊥ }
+        ensures kept { Keeps cx.old cx.new }
+    {
+        self.asker.racer.left(self.asker.address);
+        let _ = race.poll(cx);
+        Next::Ends(Ending::Left)
+    }
+
+    // Tells the client that its race is won.
+    fn open(
+        &mut self,
+        client: Q::Stream,
+        early: Vec<u8>,
+        protocol: Protocol,
+        won: Won<Q::Stream>,
+    ) -> Next
+        requires won { Q.answers self.old.asker.racer.now self.old.asker.address (string_bytes self.old.asked.host)
+            self.old.asked.port (Ok won) }
+        requires over { self.old.state ≡ State.Over }
+        ensures asked { (first : Q.Stream)
+            → HasAsked Q.Stream.reads Q.Stream.writes first self.old.asked client early.items protocol
+            → IsAt Q.Racer Q.Race.Future Q.Stream.reads Q.Stream.writes Q.Stream.cuts first self.new
+            self.new.state }
+        ensures next { IsNext self.old self.new }
+        ensures on { result ≡ Next.Waits → ⊥ }
+    {
+        self.result = Some(Ok(won.winner));
+        match success(self.alloc, protocol) {
+            Ok(reply) => {
+                restart(self.clock, &mut self.sleep, self.limits.request);
+                self.state = State::Answering(Answering {
+                    client,
+                    early,
+                    won,
+                    reply,
+                });
+                Next::GoesOn
+            }
+            Err(AllocError) => Next::Ends(Ending::Failed),
+        }
+    }
+
+    // Tells the client that its race is lost, or was not begun.
+    pub(crate) fn lose(&mut self, client: Q::Stream, protocol: Protocol, ended: Ended) -> Next
+        requires over { self.old.state ≡ State.Over }
+        ensures told { TellsOn Q.Racer Q.Race.Future Q.Stream.reads Q.Stream.writes Q.Stream.cuts client
+            (welcome (greets protocol)) self.new }
+        ensures next { IsNext self.old self.new }
+        ensures on { result ≡ Next.Waits → ⊥ }
+    {
+        self.result = Some(Err(ended));
+        self.refuse(client, protocol, failure_of(ended))
+    }
+}

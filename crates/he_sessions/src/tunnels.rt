@@ -1,0 +1,197 @@
+//! What a session does once its race is won: its tunnel is opened and ended.
+ghost use Rattle.std.specs.Prelude.{◌≡◌, [], IfOk};
+ghost use Rattle.futures.specs.Task.{IsArmed, Keeps};
+ghost use Rattle.he_relay.specs.Tunnels.{IsBegun};
+ghost use Rattle.he_sessions.specs.Sessions.{IsCutOf, IsPolled, IsStep};
+ghost use Rattle.he_sessions.specs.declared.session.Next.{Next};
+
+use crate::connection::Connection;
+use crate::ending::Ending;
+use crate::racer::{Racer, Won};
+use crate::session::{Next, Session};
+use crate::states::{Answering, Cutting, Relaying, State};
+use crate::timing::{restart, restart_within, time_after};
+use futures::Future;
+use futures::task::{Context, Poll};
+use he_relay::fault::Traffic;
+use he_relay::{Broke, Tunnel};
+use std::alloc::{AllocError, Global};
+use std::mem::drop;
+use std::time::{Clock, Duration};
+use tokio::io::poll_write_all_buf;
+
+// How many milliseconds pass between two looks whether all is sent to a connection that is to be reset, and how many
+// there are at most.
+const LOOK: u64 = 10;
+
+const MOST_LOOKS: u32 = 1_000;
+
+impl<'q, K: Clock, Q: Racer> Session<'q, K, Q> {
+    pub(crate) fn step_answering(
+        &mut self,
+        mut answering: Answering<Q::Stream>,
+        cx: &mut Context<'_>,
+    ) -> Next
+        requires over { self.old.state ≡ State.Over }
+        ensures step { IsStep Q.Racer Q.Race.Future Q.Stream.reads Q.Stream.writes Q.Stream.cuts self.old
+            (State.Answering answering) self.new }
+        ensures polled { IsPolled result cx.old cx.new }
+    {
+        if self.sleep.poll_elapsed(cx).is_ready() {
+            return Next::Ends(Ending::Late);
+        }
+        match poll_write_all_buf(&mut answering.client, cx, &mut answering.reply) {
+            Poll::Pending => {
+                self.state = State::Answering(answering);
+                Next::Waits
+            }
+            Poll::Ready(Err(_)) => Next::Ends(Ending::Left),
+            Poll::Ready(Ok(())) => self.relay(answering),
+        }
+    }
+
+    // Opens the tunnel.
+    fn relay(&mut self, answering: Answering<Q::Stream>) -> Next
+        requires told { answering.reply.items ≡ [] }
+        requires over { self.old.state ≡ State.Over }
+        ensures step { IsStep Q.Racer Q.Race.Future Q.Stream.reads Q.Stream.writes Q.Stream.cuts self.old
+            (State.Answering answering) self.new }
+        ensures on { result ≡ Next.Waits → ⊥ }
+    {
+        match tunnel_of(self.alloc, answering) {
+            Ok(tunnel) => {
+                restart_within(self.clock, &mut self.sleep, self.limits.idle);
+                self.state = State::Relaying(Relaying {
+                    tunnel,
+                    seen: 0,
+                    until: None,
+                });
+                Next::GoesOn
+            }
+            Err(AllocError) => Next::Ends(Ending::Failed),
+        }
+    }
+
+    pub(crate) fn step_relaying(
+        &mut self,
+        mut relaying: Relaying<Q::Stream>,
+        cx: &mut Context<'_>,
+    ) -> Next
+        requires over { self.old.state ≡ State.Over }
+        ensures step { IsStep Q.Racer Q.Race.Future Q.Stream.reads Q.Stream.writes Q.Stream.cuts self.old
+            (State.Relaying relaying) self.new }
+        ensures polled { IsPolled result cx.old cx.new }
+    {
+        let polled = relaying.tunnel.poll_tunnel(cx);
+        let Traffic { sent, received } = relaying.tunnel.traffic();
+        self.sent = sent;
+        self.received = received;
+        match polled {
+            Poll::Pending => self.watch(relaying, sent.saturating_add(received), cx),
+            Poll::Ready(Ok(())) => Next::Ends(Ending::Closed),
+            Poll::Ready(Err(broke)) => {
+                self.state = State::Cutting(cutting_of(relaying.tunnel, broke));
+                Next::GoesOn
+            }
+        }
+    }
+
+    // Ends a tunnel in which no byte moved for as long as it may be idle.
+    fn watch(&mut self, mut relaying: Relaying<Q::Stream>, moved: u64, cx: &mut Context<'_>) -> Next
+        requires armed { IsArmed cx.old }
+        requires over { self.old.state ≡ State.Over }
+        ensures step { IsStep Q.Racer Q.Race.Future Q.Stream.reads Q.Stream.writes Q.Stream.cuts self.old
+            (State.Relaying relaying) self.new }
+        ensures armed { IsArmed cx.new }
+        ensures kept { Keeps cx.old cx.new }
+    {
+        let Some(limit) = self.limits.idle else {
+            self.state = State::Relaying(relaying);
+            return Next::Waits;
+        };
+        note_moved(self.clock, &mut relaying, moved, limit);
+        if self.sleep.poll_elapsed(cx).is_pending() {
+            self.state = State::Relaying(relaying);
+            return Next::Waits;
+        }
+        match relaying.until {
+            Some(until) if until > self.sleep.deadline() => {
+                self.sleep.reset(until);
+                self.state = State::Relaying(relaying);
+                Next::GoesOn
+            }
+            _ => Next::Ends(Ending::Idle),
+        }
+    }
+
+    // Resets the connection that did not break off, once all that came before is sent.
+    pub(crate) fn step_cutting(&mut self, mut cutting: Cutting, cx: &mut Context<'_>) -> Next
+        requires over { self.old.state ≡ State.Over }
+        ensures step { IsStep Q.Racer Q.Race.Future Q.Stream.reads Q.Stream.writes Q.Stream.cuts self.old
+            (State.Cutting cutting) self.new }
+        ensures polled { IsPolled result cx.old cx.new }
+    {
+        if cutting.looks == 0 || cutting.cut.is_sent() {
+            cutting.cut.reset();
+            return Next::Ends(cutting.how);
+        }
+        cutting.looks -= 1;
+        self.state = State::Cutting(cutting);
+        restart(self.clock, &mut self.sleep, Duration::from_millis(LOOK));
+        match self.sleep.poll(cx) {
+            Poll::Pending => Next::Waits,
+            Poll::Ready(_) => Next::GoesOn,
+        }
+    }
+}
+
+// Notes that so many bytes have moved in all: where these are more, the tunnel may be idle for this long from now on.
+fn note_moved<K: Clock, S>(clock: &K, relaying: &mut Relaying<S>, moved: u64, limit: Duration)
+    ensures { relaying.new.tunnel ≡ relaying.old.tunnel }
+{
+    if moved != relaying.seen {
+        relaying.seen = moved;
+        relaying.until = time_after(clock, limit);
+    }
+}
+
+// The end of a tunnel of which one connection broke off.
+fn cutting_of<S: Connection>(tunnel: Tunnel<S, S>, broke: Broke) -> Cutting
+    ensures { IsCutOf S.cuts tunnel broke result.cut result.how }
+{
+    let (client, server) = tunnel.into_ends();
+    let (left, how) = match broke {
+        Broke::Client => {
+            drop(client);
+            (server, Ending::ClientBroke)
+        }
+        Broke::Server => {
+            drop(server);
+            (client, Ending::ServerBroke)
+        }
+    };
+    Cutting {
+        cut: left.into_cut(),
+        how,
+        looks: MOST_LOOKS,
+    }
+}
+
+// The tunnel between the client and what its race gave.
+fn tunnel_of<S: Connection>(
+    alloc: Global,
+    answering: Answering<S>,
+) -> Result<Tunnel<S, S>, AllocError>
+    ensures { IfOk result (IsBegun answering.client answering.won.stream answering.early.items) }
+{
+    let Answering {
+        client,
+        early,
+        won,
+        reply: _,
+    } = answering;
+    let Won { stream, winner: _ } = won;
+    client.send_at_once();
+    stream.send_at_once();
+    Tunnel::new(alloc, client, stream, early)
+}
