@@ -3,6 +3,7 @@
 
 use crate::example::Counts;
 use he_command::{Session, System, run_words};
+use he_inputs::RaceStream;
 use he_stream::{FromReader, ToWriter};
 use std::io;
 use std::mem::drop;
@@ -57,6 +58,7 @@ where
         output: ToWriter::new(FakeWriter::new(rt.alloc()).failing_flush()),
         faults: FakeWriter::new(rt.alloc()).with_room(room),
         file: None,
+        stream: RaceStream::new(rt.alloc()),
         place: 0,
         unread: 0,
     };

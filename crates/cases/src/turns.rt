@@ -6,7 +6,7 @@ use he_addr::Memory;
 use he_plan::{Fate, Mark, Transcript, plan};
 use he_race::{race_one, run_attempt};
 use he_reading::read_race;
-use he_replay::limits::MOST_RACES;
+use he_streaming::limits::MOST_RACES;
 use he_timeline::Timeline;
 use he_words::TextKind;
 use he_write::write_transcript;

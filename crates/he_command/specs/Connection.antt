@@ -19,8 +19,8 @@ use Rattle.he_request.specs.declared.port.Port.{Port}
 use Rattle.he_request.specs.declared.port.Port.TheVariants as ports
 use Rattle.he_request.specs.declared.resolver.Resolver.{Resolver}
 use Rattle.he_request.specs.declared.resolver.Resolver.TheVariants as resolvers
-use Rattle.he_resolver.specs.declared.choice.Choice.{Choice}
-use Rattle.he_resolver.specs.declared.choice.Choice.TheVariants as choices
+use Rattle.he_settings.specs.declared.choice.Choice.{Choice}
+use Rattle.he_settings.specs.declared.choice.Choice.TheVariants as choices
 use Rattle.he_stream.specs.declared.stream.InputStream as inputs
 use Rattle.he_stream.specs.declared.stream.OutputStream as outputs
 use Rattle.he_tasks.specs.Status.{status_of}
@@ -55,6 +55,7 @@ lines_of (Some path) = lines.File path
 abbrev pub choice_of : Resolver → Choice
 choice_of resolvers.Configured = choices.Configured
 choice_of (resolvers.Server server) = choices.Server server
+choice_of (resolvers.OnLink server) = choices.OnLink server
 choice_of resolvers.System = choices.System
 
 -- the race that is asked for, at the port of this number, by resolver settings that this environment amends
@@ -106,13 +107,14 @@ EndsRace output connection text kept won before after status =
     ((kept ≡ DONE) × EndsKept output connection.is_json connection.only_tries text won before after status)
     ⊎ ((kept ≢ DONE) × (status ≡ FAULT) × (after ≡ before))
 
--- what comes of a connection: it has no port, its record has no place, or its race was not run, and the output is left
--- alone; or a race was run for what is asked for, its record is kept, and then what it won is relayed
-abbrev pub MakesConnection : {F P O : Type 0} → inputs.Ghosts F → outputs.Ghosts P → outputs.Ghosts O → Connection → O
-    → O → ℕ → Type 0
-MakesConnection {F} {P} {O} file page output connection before after status =
+-- what comes of a connection, by resolver settings that this environment amends: it has no port, its record has no
+-- place, or its race was not run, and the output is left alone; or a race was run for what is asked for, its record is
+-- kept, and then what it won is relayed
+abbrev pub MakesConnection : {F P O : Type 0} → inputs.Ghosts F → outputs.Ghosts P → outputs.Ghosts O → Environment
+    → Connection → O → O → ℕ → Type 0
+MakesConnection {F} {P} {O} file page output environment connection before after status =
     ((LacksPort (WasRead file) connection.port status ⊎ (status ≡ FAULT)) × (after ≡ before))
-    ⊎ ((port : ℕ) × (environment : Environment) × (text story : List ℕ) × (won : Option Dialed) × (between : O)
+    ⊎ ((port : ℕ) × (text story : List ℕ) × (won : Option Dialed) × (between : O)
     × (kept : ℕ) × HasPort (WasRead file) connection.port port
     × IsRun (race_of connection port environment) text story won
     × KeepsRecord (WasWritten page) output connection.record text before between kept

@@ -9,7 +9,7 @@ use Rattle.he_plan.specs.declared.transcript.Outcome3.TheVariants as results
 use Rattle.he_request.specs.declared.live.Live.{Live}
 use Rattle.he_stream.specs.declared.stream.InputStream as inputs
 use Rattle.he_stream.specs.declared.stream.OutputStream as outputs
-use Rattle.he_tasks.specs.Streams.{Gave, TookAll, TookPart}
+use Rattle.he_tasks.specs.Streams.{Gave, GaveSoFar, TookAll, TookPart}
 use Rattle.he_tasks.specs.declared.reports.TheConstants.{DONE, FAULT, NO_CONNECTION}
 use Rattle.he_command.specs.Connection.{LacksPort}
 use Rattle.he_command.specs.Files.{WasRead}
@@ -25,8 +25,8 @@ status_of_live must (Ok result) = DONE
 abbrev pub RunsRace : {I O : Type 0} → inputs.Ghosts I → outputs.Ghosts O → Live → I → I → O → O → ℕ → Type 0
 RunsRace input output options first last before after status =
     (result : Result Outcome3 LiveFault) × (told : LiveReport)
-    × Lives (Gave input first last) (TookAll output before after) (TookPart output before after)
-    (after ≡ before) options.changes told result
+    × Lives (Gave input first last) (GaveSoFar input first last) (TookAll output before after)
+    (TookPart output before after) (after ≡ before) options.changes told result
     × (status ≡ status_of_live options.must_connect result)
 
 -- that; or its record could not be written to the file that was named, where the race may not have begun

@@ -2,10 +2,10 @@
 use Rattle.std.specs.Prelude.{◌≡◌, ℕ}
 use Rattle.std.specs.Option.{unwrap_or}
 use Rattle.he_names.specs.declared.environment.Environment.{Environment}
-use Rattle.he_proxy.specs.declared.request.LogForm.{LogForm}
-use Rattle.he_proxy.specs.declared.request.LogForm.TheVariants as forms
+use Rattle.he_log.specs.declared.log.LogForm.{LogForm}
+use Rattle.he_log.specs.declared.log.LogForm.TheVariants as forms
 use Rattle.he_proxy.specs.declared.request.ProxyRequest.{ProxyRequest}
-use Rattle.he_proxy.specs.declared.request.TheConstants.{DEFAULT_RECORDS, DEFAULT_SESSIONS}
+use Rattle.he_proxy.specs.declared.limits.TheConstants.{DEFAULT_RECORDS, DEFAULT_SESSIONS}
 use Rattle.he_request.specs.declared.proxy.Proxy.{Proxy}
 use Rattle.he_request.specs.declared.proxy.SessionLog.{SessionLog}
 use Rattle.he_request.specs.declared.proxy.SessionLog.TheVariants as logs

@@ -1,12 +1,13 @@
 -- What a run of the program has done: by what is known of its streams, by the first and the last state of the input,
 -- the states of the output before and after, and the exit status.
 use Rattle.std.specs.Prelude.{◌≡◌, ◌⊎◌, ℕ, Bool, true, false, Result, Ok, Err}
+use Rattle.he_names.specs.declared.environment.Environment.{Environment}
 use Rattle.he_request.specs.declared.refusal.Refusal.{Refusal}
 use Rattle.he_request.specs.declared.refusal.Refusal.TheVariants as refusals
 use Rattle.he_request.specs.declared.request.Request.{Request}
 use Rattle.he_request.specs.declared.request.Request.TheVariants as requests
 use Rattle.he_resolver.specs.Told.{TellsNames}
-use Rattle.he_resolver.specs.declared.fault.TellFault.{TellFault}
+use Rattle.he_resolver.specs.declared.tell_fault.TellFault.{TellFault}
 use Rattle.he_stream.specs.declared.stream.InputStream as inputs
 use Rattle.he_stream.specs.declared.stream.OutputStream as outputs
 use Rattle.he_tasks.specs.Status.{status_of}
@@ -35,19 +36,20 @@ RunsNames output false before after status =
 
 -- What comes of a line: what it asks for was done, and the status tells how that ended; or it asks for nothing that is
 -- done, and nothing is read. file, page: what is known of the files that are read, and of one that is written.
+-- environment: by which the file of resolver settings is amended.
 abbrev pub RunsLine : {I F P O : Type 0} → inputs.Ghosts I → inputs.Ghosts F → outputs.Ghosts P → outputs.Ghosts O
-    → Result Request Refusal → I → I → O → O → ℕ → Type 0
-RunsLine input file page output (Ok (requests.Texts texts)) first last before after status =
+    → Environment → Result Request Refusal → I → I → O → O → ℕ → Type 0
+RunsLine input file page output environment (Ok (requests.Texts texts)) first last before after status =
     DoesTexts input file page output texts first last before after status
-RunsLine input file page output (Ok (requests.Live options)) first last before after status =
+RunsLine input file page output environment (Ok (requests.Live options)) first last before after status =
     RunsLive input file output options first last before after status
-RunsLine input file page output (Ok (requests.Host options)) first last before after status =
+RunsLine input file page output environment (Ok (requests.Host options)) first last before after status =
     (last ≡ first) × Shows output before after status
-RunsLine input file page output (Ok (requests.Proxy proxy)) first last before after status =
+RunsLine input file page output environment (Ok (requests.Proxy proxy)) first last before after status =
     (last ≡ first) × (after ≡ before) × (status ≡ status_of_proxy proxy)
-RunsLine input file page output (Ok (requests.Names options)) first last before after status =
+RunsLine input file page output environment (Ok (requests.Names options)) first last before after status =
     (last ≡ first) × RunsNames output options.is_json before after status
-RunsLine input file page output (Ok (requests.Connect connection)) first last before after status =
-    MakesConnection file page output connection before after status
-RunsLine input file page output (Err refusal) first last before after status =
+RunsLine input file page output environment (Ok (requests.Connect connection)) first last before after status =
+    MakesConnection file page output environment connection before after status
+RunsLine input file page output environment (Err refusal) first last before after status =
     (last ≡ first) × Refuses output refusal before after status

@@ -9,8 +9,9 @@ use crate::objects::{race_object, show_object};
 use crate::port::number_of;
 use crate::race_request::race_of;
 use crate::record::{discard_record, keep_record, open_record};
-use crate::system::{System, Variables};
+use crate::system::System;
 use he_connect::{ConnectFault, ConnectRequest, FinishedRace, Lines, race};
+use he_names::Environment;
 use he_relay::{DEFAULT_WAIT, RelayFault, over_socket, relay_standard};
 use he_request::Connection;
 use he_stream::{FromReader, InputStream, OutputStream, ToWriter};
@@ -24,18 +25,18 @@ use std::net::TcpStream;
 pub(crate) fn run_connect<R: System, I: InputStream, O: OutputStream + Send, F: Write>(
     session: &mut Session<'_, '_, R, O, F>,
     connection: &Connection<'_>,
+    environment: Environment<'_>,
     input: &mut I,
 ) -> u8
     ensures { MakesConnection ⟦<FromReader<R::File> as InputStream>⟧ ⟦<ToWriter<R::File> as OutputStream>⟧
-        O.OutputStream connection.now session.old.output session.new.output result }
+        O.OutputStream environment.entry connection.now session.old.output session.new.output result }
 {
     let (rt, alloc) = (session.system, session.alloc);
     let port = match number_of(session, connection.port) {
         Ok(port) => port,
         Err(status) => return status,
     };
-    let variables = Variables::read(rt);
-    let request = race_of(connection, port, variables.environment());
+    let request = race_of(connection, port, environment);
     let place = match open_record(rt, alloc, connection.record) {
         Ok(place) => place,
         Err(error) => {

@@ -37,5 +37,5 @@ pub use he_request::{read_words, takes_text};
 pub use he_tasks::Session;
 pub use he_tasks::reports::{report, report_path};
 pub use run::{run_line, run_words};
-pub use system::{System, columns_of};
+pub use system::{System, Variables, columns_of};
 pub use words::{report_not_text, tell_short_timeout, tell_waiting};

@@ -5,9 +5,10 @@ ghost use Rattle.he_tasks.specs.declared.reports.TheConstants.{FAULT};
 
 use crate::race_request::{choice_of, families_of, lines_of};
 use crate::system::{System, Variables};
-use he_proxy::{DEFAULT_RECORDS, DEFAULT_SESSIONS, LogForm, ProxyFault, ProxyRequest, serve};
+use he_log::LogForm;
+use he_names::Environment;
+use he_proxy::{DEFAULT_RECORDS, DEFAULT_SESSIONS, ProxyFault, ProxyRequest, serve};
 use he_request::{Proxy, Resolver, SessionLog};
-use he_resolver::Environment;
 use he_stream::OutputStream;
 use he_tasks::reports::{report, report_path};
 use he_tasks::{FAULT, Session, USAGE};
@@ -29,7 +30,9 @@ pub(crate) fn run_proxy<R: System, O: OutputStream, F: Write>(
             let _ = session.faults.write_all(NOT_SYSTEM);
             USAGE
         }
-        Resolver::Configured | Resolver::Server(_) => serve_clients(session, proxy),
+        Resolver::Configured | Resolver::Server(_) | Resolver::OnLink(_) => {
+            serve_clients(session, proxy)
+        }
     }
 }
 
@@ -48,8 +51,8 @@ fn serve_clients<R: System, O: OutputStream, F: Write>(
     }
 }
 
-// Says why it does not serve; a fault of the records has the name of their directory, and one of what is known of
-// addresses that of its file.
+// Says why it does not serve. A fault of the lines or of the known addresses has the name of their file, one of the
+// records that of their directory.
 fn report_fault<R, O: OutputStream, F: Write>(
     session: &mut Session<'_, '_, R, O, F>,
     fault: ProxyFault,
@@ -59,6 +62,7 @@ fn report_fault<R, O: OutputStream, F: Write>(
     ensures output { session.new.output ≡ session.old.output }
 {
     let path = match fault {
+        ProxyFault::Lines(_) => proxy.lines,
         ProxyFault::Record(_) => proxy.record,
         ProxyFault::History(_) => proxy.history,
         _ => None,

@@ -4,8 +4,9 @@ ghost use Rattle.he_command.specs.Connection.{choice_of, families_of, lines_of, 
 
 use he_addr::Family;
 use he_connect::{ConnectRequest, Families, Lines};
+use he_names::Environment;
 use he_request::{Connection, Resolver};
-use he_resolver::{Choice, Environment};
+use he_settings::Choice;
 
 // The race for a connection at this port, by resolver settings that this environment amends.
 pub(crate) fn race_of<'a, 'c>(
@@ -53,12 +54,13 @@ where
 }
 
 // The resolver that is asked.
-pub(crate) fn choice_of<'a>(resolver: Resolver) -> Choice<'a>
-    ensures { result ≡ choice_of resolver }
+pub(crate) fn choice_of(resolver: Resolver<'_>) -> Choice<'_>
+    ensures { result ≡ choice_of resolver.entry }
 {
     match resolver {
         Resolver::Configured => Choice::Configured,
         Resolver::Server(server) => Choice::Server(server),
+        Resolver::OnLink(server) => Choice::OnLink(server),
         Resolver::System => Choice::System,
     }
 }

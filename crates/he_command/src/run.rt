@@ -1,5 +1,6 @@
 //! A whole run of the program over an input, an output and a writer of faults.
 ghost use Rattle.std.specs.Prelude.{IfOk, Result};
+ghost use Rattle.he_names.specs.declared.environment.Environment.{Environment};
 ghost use Rattle.he_request.specs.Requests.{IsRequest};
 ghost use Rattle.he_command.specs.Run.{Refuses, RunsLine};
 
@@ -8,9 +9,10 @@ use crate::host::run_host;
 use crate::live::run_live;
 use crate::names::run_names;
 use crate::proxy::run_proxy;
-use crate::system::{System, columns_of};
+use crate::system::{System, Variables, columns_of};
 use crate::words::tell_short_timeout;
 use he_inputs::StreamFault;
+use he_names::Environment;
 use he_request::shown::shown_lines;
 use he_request::{Refusal, Request, read_words};
 use he_stream::{FromReader, InputStream, OutputStream, ToWriter};
@@ -30,27 +32,29 @@ pub fn run_words<'a, R: System, I: InputStream, O: OutputStream + Send, F: Write
     words: &'a [&'a str],
     input: &mut I,
 ) -> u8
-    ensures { (line : Result Request Refusal) × IfOk line IsRequest
+    ensures { (line : Result Request Refusal) × (environment : Environment) × IfOk line IsRequest
         × RunsLine I.InputStream ⟦<FromReader<R::File> as InputStream>⟧ ⟦<ToWriter<R::File> as OutputStream>⟧
-        O.OutputStream line input.old input.new session.old.output session.new.output result }
+        O.OutputStream environment line input.old input.new session.old.output session.new.output result }
 {
     let line = read_words(session.alloc, words, VERSION, columns_of(session.system));
     tell_short_timeout(words, &line, &mut session.faults);
-    run_line(session, line, input)
+    let variables = Variables::read(session.system);
+    run_line(session, line, variables.environment(), input)
 }
 
-/// Runs what a command line asks for, and answers the exit status.
+/// Runs what a command line asks for, and answers the exit status. The environment amends the resolver's settings.
 pub fn run_line<R: System, I: InputStream, O: OutputStream + Send, F: Write>(
     session: &mut Session<'_, '_, R, O, F>,
     line: Result<Request<'_>, Refusal>,
+    environment: Environment<'_>,
     input: &mut I,
 ) -> u8
     requires { IfOk line IsRequest }
     ensures { RunsLine I.InputStream ⟦<FromReader<R::File> as InputStream>⟧ ⟦<ToWriter<R::File> as OutputStream>⟧
-        O.OutputStream line.entry input.old input.new session.old.output session.new.output result }
+        O.OutputStream environment.entry line.entry input.old input.new session.old.output session.new.output result }
 {
     match line {
-        Ok(Request::Connect(connection)) => run_connect(session, &connection, input),
+        Ok(Request::Connect(connection)) => run_connect(session, &connection, environment, input),
         Ok(Request::Proxy(proxy)) => run_proxy(session, &proxy),
         Ok(Request::Names(options)) => run_names(session, options),
         Ok(Request::Host(options)) => run_host(session, &options),

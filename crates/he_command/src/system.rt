@@ -1,7 +1,8 @@
 //! What a run of the program is lent.
 
+use he_names::Environment;
 use he_request::limits::{DEFAULT_WIDTH, LEAST_WIDTH, MOST_WIDTH};
-use he_resolver::{Environment, SystemResolver};
+use he_resolver::SystemResolver;
 use he_tasks::TaskSystem;
 use std::env;
 use std::net::Net;
@@ -28,22 +29,24 @@ pub fn columns_of<R: System>(rt: &R) -> u16 {
     }
 }
 
-// The variables of the environment that amend the resolver's settings.
+/// The variables of the environment that amend the resolver's settings.
 #[derive(Drop)]
-pub(crate) struct Variables {
+pub struct Variables {
     local_domain: Option<String>,
     res_options: Option<String>,
 }
 
 impl Variables {
-    pub(crate) fn read<R: System>(rt: &R) -> Variables {
+    /// Those of this process.
+    pub fn read<R: System>(rt: &R) -> Variables {
         Variables {
             local_domain: env::var(rt, "LOCALDOMAIN").ok(),
             res_options: env::var(rt, "RES_OPTIONS").ok(),
         }
     }
 
-    pub(crate) fn environment(&self) -> Environment<'_> {
+    /// As `he_resolver` has them.
+    pub fn environment(&self) -> Environment<'_> {
         Environment {
             local_domain: self.local_domain.as_deref(),
             res_options: self.res_options.as_deref(),

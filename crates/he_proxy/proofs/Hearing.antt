@@ -9,7 +9,7 @@ use Rattle.futures.specs.Task.{Covers}
 use Rattle.futures.specs.declared.task.context.Context.{Context}
 use Rattle.futures.specs.declared.task.Poll.{Poll}
 use Rattle.futures.specs.declared.task.Poll.TheVariants.{Pending, Ready}
-use Rattle.he_race.specs.Heard.{AnswerLists, IsSilent, StaysSilent, Tells}
+use Rattle.he_turns.specs.Heard.{AnswerLists, IsSilent, StaysSilent, Tells}
 use Rattle.he_proxy.specs.Sources.{Asks, HearsAt, HearsBy, HearsOwn, IsToldWith, needs_at}
 use Rattle.he_proxy.specs.declared.source.RaceSource.{RaceSource}
 use Rattle.he_proxy.specs.declared.source.Turn.{Turn}

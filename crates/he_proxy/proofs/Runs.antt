@@ -7,9 +7,9 @@ use Rattle.he_connect.specs.declared.request.ConnectRequest.{ConnectRequest}
 use Rattle.he_connect.specs.declared.setup.Setup.{Setup}
 use Rattle.he_front.specs.declared.replies.Ended.{Ended}
 use Rattle.he_live.specs.declared.endpoint.Endpoint.{Endpoint}
-use Rattle.he_race.specs.Resolving.{ReplaysGiven}
-use Rattle.he_race.specs.Winner.{WinnerGoes}
-use Rattle.he_race.specs.declared.live.Raced.{Raced}
+use Rattle.he_turns.specs.Resolving.{ReplaysGiven}
+use Rattle.he_turns.specs.Winner.{WinnerGoes}
+use Rattle.he_turns.specs.declared.live.Raced.{Raced}
 use Rattle.he_sessions.specs.declared.racer.Won.{Won}
 use Rattle.he_timeline.specs.Race.{Race}
 use Rattle.he_proxy.specs.Dials.{GoesTo}

@@ -1,15 +1,16 @@
 -- What the races of one client may connect to.
-use Rattle.std.specs.Prelude.{ℕ, ◌||◌, Bool, Option}
-use Rattle.he_addr.specs.declared.ip.Ip.{Ip}
+use Rattle.std.specs.Prelude.{ℕ, ◌≡◌, ◌||◌, Bool, true, false, is_some}
 use Rattle.he_access.specs.Reaching.{IsReached}
 use Rattle.he_access.specs.Tests.{is_here}
+use Rattle.he_kernel.specs.declared.ways.Way.{Way}
 use Rattle.he_proxy.specs.declared.access.Reach.{Reach}
 
 -- the client reaches all but the proxy itself: it is a program of this machine, or private addresses are allowed
 abbrev pub is_wide : Reach → Bool
 is_wide reach = reach.allows_private || is_here reach.client.ip reach.client.source
 
--- the client's races reach the address at the port, where the kernel connects to it from some address or from none
-abbrev pub Reaches : Reach → Ip → ℕ → Type 0
-Reaches reach ip port =
-    (source : Option Ip) × IsReached (is_wide reach) reach.own.now (record { ip = ip; port = port }) source
+-- the client's races reach a destination at the port, by the address from which the kernel says that it connects to it;
+-- where not all is reached, only where there is one
+pub record Reaches (reach : Reach) (way : Way) (port : ℕ) : Type 0 where
+  pub reached : IsReached (is_wide reach) reach.own.now (record { ip = way.to; port = port }) way.from
+  pub way_is : is_wide reach ≡ false → is_some way.from ≡ true

@@ -10,10 +10,12 @@ use Rattle.he_proxy.specs.Access.{Reaches}
 use Rattle.he_proxy.specs.declared.access.Reach.{Reach}
 use Rattle.he_proxy.specs.declared.dial.Joined.{Joined}
 
--- the connection was asked for at the address and the endpoint's port, which the client's races reach
+-- the connection was asked for at the address and the endpoint's port, which the client's races reach by the kernel's
+-- answer for this address
 pub record GoesTo (reach : Reach) (to : Endpoint) (ip : Ip) (joined : Joined) : Type 0 where
   pub socket : IsSocketOf ip to joined.to
-  pub reached : Reaches reach ip to.port
+  pub answered : joined.way.to ≡ ip
+  pub reached : Reaches reach joined.way to.port
 
 -- a connection that is being made waits to be writable
 abbrev pub DialNeeds : Option (Result TcpStream Error) → ℕ → Type 0

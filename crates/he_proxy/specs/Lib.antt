@@ -1,10 +1,7 @@
 pub mod Access
 pub mod Dials
-pub mod GivenUp
 pub mod Kept
-pub mod Known
-pub mod Log
-pub mod Lost
+pub mod Limits
 pub mod Races
 pub mod Sockets
 pub mod Sources

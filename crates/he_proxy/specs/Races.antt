@@ -9,17 +9,18 @@ use Rattle.he_front.specs.declared.replies.Ended.{Ended}
 use Rattle.he_plan.specs.Transcript.{Report}
 use Rattle.he_plan.specs.declared.transcript.Line.{Line}
 use Rattle.he_plan.specs.declared.transcript.Outcome3.TheVariants as results
-use Rattle.he_race.specs.declared.live.Raced.{Raced}
+use Rattle.he_turns.specs.declared.live.Raced.{Raced}
 use Rattle.he_sessions.specs.declared.racer.Winner.{Winner}
 use Rattle.he_sessions.specs.declared.racer.Won.{Won}
 use Rattle.he_timeline.specs.Race.{Race}
+use Rattle.tokio.specs.declared.net.stream.TcpStream.{TcpStream}
 use Rattle.he_connect.specs.Races.{IsSetUp}
 use Rattle.he_connect.specs.declared.request.ConnectRequest.{ConnectRequest}
 use Rattle.he_connect.specs.declared.setup.Setup.{Setup}
 use Rattle.he_addr.specs.Text.{ip_of}
 use Rattle.he_live.specs.declared.endpoint.Endpoint.{Endpoint}
-use Rattle.he_race.specs.Resolving.{ReplaysGiven}
-use Rattle.he_race.specs.Winner.{WinnerGoes}
+use Rattle.he_turns.specs.Resolving.{ReplaysGiven}
+use Rattle.he_turns.specs.Winner.{WinnerGoes}
 use Rattle.he_proxy.specs.Dials.{GoesTo}
 use Rattle.he_access.specs.declared.reach.Place.{Place}
 use Rattle.he_proxy.specs.declared.access.Reach.{Reach}
@@ -38,14 +39,14 @@ pub record IsWinner (recorded : Race) (report : Report) (winner : Winner) : Type
   pub lost : lost course ≡ Some winner.lost
 
 -- the winner of this race is handed out, with its connection
-pub record IsWonOf (raced : Raced Joined) (won : Won) : Type 0 where
+pub record IsWonOf (raced : Raced Joined) (won : Won TcpStream) : Type 0 where
   pub winner : IsWinner raced.recorded raced.transcript won.winner
   pub joined : Joined
   pub is_winner : raced.winner ≡ Some joined
   pub stream : won.stream ≡ joined.stream
 
 -- of the ends that a race may give, what is handed out: a winner only where the race gave one, and that one
-abbrev pub HandsOut : (Raced Joined → Type 0) → Result Won Ended → Type 0
+abbrev pub HandsOut : (Raced Joined → Type 0) → Result (Won TcpStream) Ended → Type 0
 HandsOut gives (Ok won) = (raced : Raced Joined) × gives raced × IsWonOf raced won
 HandsOut gives (Err ended) = ⊤
 
@@ -73,7 +74,7 @@ pub record RunsFrom (start : Race) (to : Endpoint) (reach : Reach) (raced : Race
   pub goes : WinnerGoes (GoesTo reach to) raced
 
 -- what is handed out is the winner of the race that is asked for: it began as he_connect has it, and was run so
-pub record IsWonFor (request : ConnectRequest) (reach : Reach) (won : Won) : Type 0 where
+pub record IsWonFor (request : ConnectRequest) (reach : Reach) (won : Won TcpStream) : Type 0 where
   pub setup : Setup
   pub set_up : IsSetUp request setup
   pub raced : Raced Joined
@@ -82,7 +83,7 @@ pub record IsWonFor (request : ConnectRequest) (reach : Reach) (won : Won) : Typ
 
 -- what is handed out to a session of the client, for the host at the port
 pub record IsWonBy (proxy : ProxyRequest) (places : List Place) (client : SocketAddr) (host : List ℕ) (port : ℕ)
-    (won : Won) : Type 0 where
+    (won : Won TcpStream) : Type 0 where
   pub request : ConnectRequest
   pub asks : AsksFor proxy host port request
   pub reach : Reach
@@ -90,5 +91,5 @@ pub record IsWonBy (proxy : ProxyRequest) (places : List Place) (client : Socket
   pub winner : IsWonFor request reach won
 
 -- whatever it ends with, a winner that is handed out is so
-abbrev pub Wins : (Won → Type 0) → (Result Won Ended → Type 0) → Type 0
-Wins So gives = (end : Result Won Ended) → gives end → IfOk end So
+abbrev pub Wins : (Won TcpStream → Type 0) → (Result (Won TcpStream) Ended → Type 0) → Type 0
+Wins So gives = (end : Result (Won TcpStream) Ended) → gives end → IfOk end So

@@ -1,12 +1,14 @@
 -- What a race of the proxy is told of its host, and what its source waits for.
-use Rattle.std.specs.Prelude.{ℕ, ◌≡◌, ⊤, Bool, Option, Some, None, Ok, is_some}
+use Rattle.std.specs.Prelude.{ℕ, ◌≡◌, ⊤, Bool, List, Option, Some, None, Ok, is_some, string_bytes}
 use Rattle.std.specs.Global.{Vec}
+use Rattle.he_addr.specs.declared.ip.Family.{Family}
 use Rattle.he_addr.specs.declared.ip.Ip.{Ip}
 use Rattle.he_connect.specs.Answers.{IsToldOf}
 use Rattle.he_connect.specs.declared.source.HostAnswers.{HostAnswers}
 use Rattle.he_live.specs.declared.steps.Quiet.{Quiet}
-use Rattle.he_race.specs.Heard.{AnswerLists, Tells, ips_of}
+use Rattle.he_turns.specs.Heard.{AnswerLists, Tells, ips_of}
 use Rattle.tokio.specs.Locks.{notified_source}
+use Rattle.he_proxy.specs.Kept.{AreKeptFor}
 use Rattle.he_proxy.specs.declared.source.RaceSource.{RaceSource}
 use Rattle.he_proxy.specs.declared.source.Turn.{Turn}
 use Rattle.he_proxy.specs.declared.source.Turn.TheVariants as turns
@@ -23,12 +25,12 @@ IsToldWith None None = ⊤
 IsToldWith (Some bare) (Some told) = HasSameLines bare told
 IsToldWith bare told = ⊥
 
--- nothing is told, or some addresses as the look-up would tell them (that these are the host's is in no clause, since
--- what is kept is shared)
-abbrev pub IsOfKept : Bool → Option AnswerLists → Type 0
-IsOfKept brings None = ⊤
-IsOfKept brings (Some told) =
-    (ips : Vec Ip) × (bare : AnswerLists) × IsToldOf brings (Ok ips) bare × HasSameLines bare told
+-- nothing is told, or the addresses that are kept for this family of the host, as the look-up would tell them
+abbrev pub IsOfKept : Bool → List ℕ → Family → Option AnswerLists → Type 0
+IsOfKept brings host family None = ⊤
+IsOfKept brings host family (Some told) =
+    (ips : Vec Ip) × AreKeptFor host family ips.items × (bare : AnswerLists) × IsToldOf brings (Ok ips) bare
+    × HasSameLines bare told
 
 -- the race asks for its host itself
 abbrev pub Asks : Turn → Type 0
@@ -53,7 +55,8 @@ module _ {R : Type 0} where
   abbrev pub HearsAt : Turn → Tells (HostAnswers R Quiet) → Tells (RaceSource R)
   HearsAt (turns.Asks asked) own old family now told new =
       Asks new.turn × HearsOwn own old family now told new
-  HearsAt (turns.Waits _) own old family now told new = IsOfKept (is_some old.answers.machine) told
+  HearsAt (turns.Waits _) own old family now told new =
+      IsOfKept (is_some old.answers.machine) (string_bytes old.host) family told
 
   abbrev pub HearsBy : Tells (HostAnswers R Quiet) → Tells (RaceSource R)
   HearsBy own old family now told new = HearsAt old.turn own old family now told new

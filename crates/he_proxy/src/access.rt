@@ -5,10 +5,11 @@ ghost use Rattle.he_addr.specs.Text.{ip_of};
 ghost use Rattle.he_access.specs.Tests.{is_here};
 ghost use Rattle.he_proxy.specs.Access.{Reaches, is_wide};
 
-use he_access::reach::{Place, is_here, may_reach};
+use he_access::reach::{Place, is_here, is_loopback, may_reach};
 use he_addr::Ip;
-use he_host::kernel::{NO_SCOPE, ask_source};
-use he_live::{Endpoint, socket_of};
+use he_kernel::asked::AskedWays;
+use he_kernel::sockets::NO_SCOPE;
+use he_kernel::ways::Way;
 use std::net::{IpAddr, Net, SocketAddr};
 
 /// The place of a socket.
@@ -17,12 +18,6 @@ pub fn place_of(socket: SocketAddr) -> Place {
         ip: ip_of(socket.ip()),
         port: socket.port(),
     }
-}
-
-// The socket of the place, over no interface that is named.
-pub(crate) fn socket_at(place: Place) -> SocketAddr {
-    let Place { ip, port } = place;
-    socket_of(ip, Endpoint { port, scope: 0 })
 }
 
 /// The address as `he_addr` has it.
@@ -36,7 +31,7 @@ pub fn ip_of(ip: IpAddr) -> Ip
 }
 
 /// A client, and the address from which the kernel connects to it, which is the client's own where that is a program
-/// of this machine. None where the kernel has no way to it.
+/// of this machine. None where the kernel has no way to it, and for a client of loopback, which is of this machine.
 #[derive(Clone, Copy)]
 pub struct Client {
     pub ip: Ip,
@@ -44,15 +39,17 @@ pub struct Client {
 }
 
 impl Client {
-    /// The client of a socket.
-    pub fn of<N: Net>(net: &N, socket: SocketAddr) -> Client
+    /// The client of a socket, by what the kernel answers in its race.
+    pub fn of<N: Net>(net: &N, asked: &AskedWays, socket: SocketAddr) -> Client
         ensures { result.ip ≡ ip_of (socket_ip socket) }
     {
         let ip = ip_of(socket.ip());
-        Client {
-            ip,
-            source: ask_source(net, ip, NO_SCOPE),
-        }
+        let source = if is_loopback(ip) {
+            None
+        } else {
+            asked.way(net, ip, NO_SCOPE).from
+        };
+        Client { ip, source }
     }
 
     /// Whether it is a program of this machine.
@@ -81,17 +78,15 @@ impl<'a> Reach<'a> {
         self.allows_private || self.client.is_near()
     }
 
-    /// Whether the client's races may connect to the address at the endpoint. A client from elsewhere reaches none
-    /// where the kernel doesn't say from which address it would connect to it.
-    pub fn has<N: Net>(self, net: &N, ip: Ip, to: Endpoint) -> bool
-        ensures { IsTrue result → Reaches self.entry ip to.port }
+    /// Whether the client's races may connect to a destination at the port, by the kernel's answer for it. A client
+    /// from elsewhere reaches none where the kernel doesn't say from which address it would connect to it.
+    pub fn has(self, way: Way, port: u16) -> bool
+        ensures { IsTrue result → Reaches self.entry way port }
     {
-        let source = ask_source(net, ip, to.scope);
         let is_wide = self.is_wide();
-        if source.is_none() && !is_wide {
+        if way.from.is_none() && !is_wide {
             return false;
         }
-        let place = Place { ip, port: to.port };
-        may_reach(is_wide, self.own, place, source)
+        may_reach(is_wide, self.own, Place { ip: way.to, port }, way.from)
     }
 }

@@ -6,21 +6,26 @@ ghost use Rattle.tokio.specs.Net.{stream_writable};
 ghost use Rattle.he_proxy.specs.Dials.{DialNeeds};
 
 use crate::access::{Reach, ip_of};
+use crate::sockets::SharedLoop;
 use futures::task::{Context, Poll};
 use he_addr::Ip;
+use he_kernel::asked::AskedWays;
+use he_kernel::ways::Way;
 use he_live::{Endpoint, Reason, Step, StepKind, Steps, socket_of};
-use he_race::{AttemptFault, Connector, Trial};
 use he_relay::keep_alive;
+use he_turns::{AttemptFault, Connector, Trial};
 use std::net::{Net, SocketAddr};
 use std::os::fd::OwnedFd;
 use std::{io, net};
 use tokio::net::TcpStream;
 use tokio::reactor::Handle;
 
-/// A connection, with the address, the port and the interface that it was asked for.
+/// A connection, with the address, the port and the interface that it was asked for, and what the kernel answered for
+/// that address.
 #[derive(Drop)]
 pub struct Joined {
     to: SocketAddr,
+    way: Way,
     stream: TcpStream,
 }
 
@@ -46,25 +51,27 @@ pub struct LoopConnector<'h, N: Net> {
     to: Endpoint,
     reach: Reach<'h>,
     steps: Steps,
+    asked: AskedWays,
 }
 
 impl<'h, N: Net> LoopConnector<'h, N> {
     pub fn new(
-        net: &'h N,
-        reactor: &'h Handle,
+        shared: SharedLoop<'h, N>,
         to: Endpoint,
         reach: Reach<'h>,
         steps: Steps,
+        asked: AskedWays,
     ) -> LoopConnector<'h, N>
         ensures to { result.to ≡ to }
         ensures reach { result.reach ≡ reach.entry }
     {
         LoopConnector {
-            net,
-            reactor,
+            net: shared.rt,
+            reactor: shared.handle.reactor(),
             to,
             reach,
             steps,
+            asked,
         }
     }
 }
@@ -83,7 +90,8 @@ impl<'h, N: Net> Connector for LoopConnector<'h, N> {
 
     // An address that is not reached is an attempt that can't begin.
     fn begin(&mut self, place: usize, ip: Ip, now: u64) -> Result<LoopTrial, AttemptFault> {
-        if !self.reach.has(self.net, ip, self.to) {
+        let way = self.asked.way(self.net, ip, self.to.scope);
+        if !self.reach.has(way, self.to.port) {
             return Err(AttemptFault::Begin);
         }
         let Ok(steps) = self.steps.for_attempt() else {
@@ -92,7 +100,7 @@ impl<'h, N: Net> Connector for LoopConnector<'h, N> {
         let to = socket_of(ip, self.to);
         let trial = LoopTrial {
             place,
-            ip,
+            way,
             to,
             dialing: Some(begin_dialing(self.net, self.reactor, to)),
             steps,
@@ -106,7 +114,7 @@ impl<'h, N: Net> Connector for LoopConnector<'h, N> {
 #[derive(Drop)]
 pub struct LoopTrial {
     place: usize,
-    ip: Ip,
+    way: Way,
     to: SocketAddr,
     // None once its end was given.
     dialing: Option<io::Result<TcpStream>>,
@@ -117,7 +125,7 @@ impl LoopTrial {
     fn note(&self, tick: u64, what: StepKind) {
         self.steps.note(Step {
             place: self.place,
-            ip: self.ip,
+            ip: self.way.to,
             tick,
             what,
         });
@@ -136,7 +144,7 @@ impl Trial for LoopTrial {
 
     ghost due_tick = { λ _. None };
 
-    ghost may_give = { λ trial joined. joined.to ≡ trial.to };
+    ghost may_give = { λ trial joined. (joined.to ≡ trial.to) × (joined.way ≡ trial.way) };
 
     fn poll_trial(&mut self, now: u64, cx: &mut Context<'_>) -> Poll<Result<Joined, AttemptFault>> {
         match poll_dialing(&mut self.dialing, cx) {
@@ -145,6 +153,7 @@ impl Trial for LoopTrial {
                 self.note(now, StepKind::Connected);
                 Poll::Ready(Ok(Joined {
                     to: self.to,
+                    way: self.way,
                     stream,
                 }))
             }

@@ -1,7 +1,7 @@
 //! Why a proxy doesn't serve.
 
-use crate::cause::Cause;
 use he_connect::ConnectFault;
+use he_history::Cause;
 use he_live::Reason;
 use std::alloc::{AllocError, AllocFailed};
 use std::io;

@@ -5,23 +5,20 @@ ghost use Rattle.he_proxy.specs.Races.{IsWinner, IsWonOf};
 
 use crate::access::Reach;
 use crate::dial::Joined;
-use crate::facts::{Facts, SessionFacts};
-use crate::giving_up::{GivenUp, given_up_at};
-use crate::known::{KnownAddresses, Learnt};
-use crate::lost::Lost;
-use crate::recent::{Recent, Shown};
-use crate::record::{RecordName, Records};
 use crate::sockets::{Noted, SharedLoop};
 use he_addr::{Ip, Memory};
 use he_connect::Families;
 use he_course::Course;
 use he_front::Ended;
-use he_host::kernel::NO_SCOPE;
-use he_live::Endpoint;
+use he_history::{
+    GivenUp, KnownAddresses, Learnt, Recent, RecordName, Records, Shown, given_up_at,
+};
+use he_kernel::sockets::NO_SCOPE;
+use he_log::{Facts, Lost, SessionFacts};
 use he_plan::{Line, Mark, Outcome3, Transcript};
-use he_race::Raced;
 use he_sessions::{Winner, Won};
 use he_timeline::Timeline;
+use he_turns::Raced;
 use he_write::write_timeline;
 use std::alloc::{AllocError, AllocGlobal, Global};
 use std::cell::Cell;
@@ -30,6 +27,7 @@ use std::net::{Net, SocketAddr};
 use std::random::RandomSource;
 use std::rt::Files;
 use std::time::Clock;
+use tokio::net::TcpStream;
 
 /// What is to be known of a race at its end.
 #[derive(Drop)]
@@ -67,7 +65,7 @@ impl<'h, R: Clock + Files + RandomSource + AllocGlobal + Net + Copy> Keeping<'h,
 
     /// Keeps the record of the race and what it says of addresses, and hands out its winner, or why there is none. Of
     /// a race that was given up it keeps the record up to there, and hands out nothing.
-    pub fn end(&self, raced: Raced<Joined>) -> Result<Won, Ended>
+    pub fn end(&self, raced: Raced<Joined>) -> Result<Won<TcpStream>, Ended>
         ensures { IfOk result (IsWonOf raced) }
     {
         match self.noted.progress.given_up() {
@@ -81,7 +79,7 @@ impl<'h, R: Clock + Files + RandomSource + AllocGlobal + Net + Copy> Keeping<'h,
     }
 
     // Keeps the race that ended, and hands out its winner, or why there is none.
-    fn hand_out(&self, raced: Raced<Joined>) -> Result<Won, Ended>
+    fn hand_out(&self, raced: Raced<Joined>) -> Result<Won<TcpStream>, Ended>
         ensures { IfOk result (IsWonOf raced) }
     {
         let winner = winner_of(self.shared.alloc, &raced);
@@ -209,11 +207,8 @@ impl<'h, R: Clock + Files + RandomSource + AllocGlobal + Net + Copy> Keeping<'h,
     }
 
     fn lost_by(&self, line: Line) -> Lost {
-        let to = Endpoint {
-            port: self.port,
-            scope: NO_SCOPE,
-        };
-        if !self.reach.has(self.shared.rt, line.ip, to) {
+        let way = self.noted.asked.way(self.shared.rt, line.ip, NO_SCOPE);
+        if !self.reach.has(way, self.port) {
             return Lost::Forbidden;
         }
         match line.mark {

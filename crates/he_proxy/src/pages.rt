@@ -1,9 +1,9 @@
 //! The pages of the proxy itself.
 
-use crate::recent::Recent;
 use he_access::reach::Place;
 use he_addr::Memory;
 use he_front::{Ended, Page, page_asked, write_advice, write_config, write_page};
+use he_history::Recent;
 use std::alloc::Global;
 
 /// A GET that is answered: its target, and the value of its field Host.

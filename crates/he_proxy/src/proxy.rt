@@ -1,47 +1,36 @@
-//! The proxy: its sockets, and the loop that serves.
+//! The proxy, and the loop that serves.
 
-ghost use Rattle.std.specs.Prelude.{IfOk};
 ghost use Rattle.futures.specs.Runs.{AllItems};
 ghost use Rattle.he_proxy.specs.Sockets.{MayAccept};
 
-use crate::access::{ip_of, place_of};
-use crate::answers::KeptAnswers;
-use crate::beginning::Beginning;
-use crate::cause::Cause;
-use crate::clients::{Clients, Service};
-use crate::facts::SessionFacts;
 use crate::fault::ProxyFault;
-use crate::known::{KnownAddresses, KnownAtStart};
-use crate::log::Log;
+use crate::limits::REQUEST_SECONDS;
+use crate::listening::Listening;
 use crate::racer::LoopRacer;
-use crate::recent::Recent;
-use crate::record::Records;
-use crate::request::{DEFAULT_PORT, ProxyRequest};
-use crate::running::Running;
+use crate::request::ProxyRequest;
 use crate::server::Server;
 use crate::sockets::SharedLoop;
 use crate::state::ProxyState;
-use crate::turned::TurnedAway;
 use futures::stream::SelectAll;
 use futures::{Future, Stream, StreamExt};
-use he_access::reach::{Place, is_loopback};
-use he_relay::keep_alive;
+use he_clients::{Beginning, Clients, Running, Service};
+use he_connect::{ConnectFault, Lines, read_lines, start_race};
+use he_history::{Cause, KnownAddresses, KnownAtStart, Recent, Records};
+use he_kept::KeptAnswers;
+use he_log::{Log, SessionFacts, TurnedAway};
 use he_sessions::{Limits, Racer};
 use std::alloc::{AllocGlobal, Global};
 use std::cell::Cell;
+use std::io;
 use std::io::Write;
-use std::net::{IpAddr, Ipv4Addr, Ipv6Addr, Net, SocketAddr};
-use std::os::fd::OwnedFd;
+use std::mem::drop;
+use std::net::Net;
 use std::random::RandomSource;
 use std::rt::Files;
 use std::sync::Wait;
 use std::time::{Clock, Duration};
-use std::{io, net};
-use tokio::net::{Incoming, TcpListener, TcpStream};
-use tokio::runtime::{Handle, LocalRuntime};
-
-// How many seconds a client has for its request.
-const REQUEST: u64 = 10;
+use tokio::net::{Incoming, TcpStream};
+use tokio::runtime::LocalRuntime;
 
 /// Serves clients of SOCKS 5 and HTTP CONNECT: what they ask for is raced for by RFC 8305 and relayed. It goes on
 /// until a signal ends the process. What becomes of sessions is written to `faults`, as the request says.
@@ -59,10 +48,24 @@ where
     F: Write + Drop,
     R: Wait + Clock + RandomSource + AllocGlobal + Net + Files + Copy,
 {
-    refuse_open(request)?;
+    let lines = read_lines_of(rt, alloc, request)?;
+    serve_read(rt, alloc, &request.with_lines(lines.as_deref()), faults)
+}
+
+// Serves what is asked for, whose lines are read where a file has them.
+fn serve_read<'a, R, F>(
+    rt: &'a R,
+    alloc: Global,
+    request: &'a ProxyRequest<'a>,
+    faults: F,
+) -> Result<(), ProxyFault>
+where
+    F: Write + Drop,
+    R: Wait + Clock + RandomSource + AllocGlobal + Net + Files + Copy,
+{
     let mut runtime = LocalRuntime::new(rt)?;
     let handle = runtime.handle().clone()?;
-    let (sockets, own) = listen(rt, alloc, &handle, request.listen)?;
+    let Listening { sockets, own } = Listening::begin(rt, alloc, &handle, request)?;
     let KnownAtStart {
         known,
         wrong,
@@ -124,7 +127,7 @@ fn serve_racer<'x, R, Q, F>(
     sockets: SelectAll<Incoming>,
 ) -> io::Result<()>
 where
-    Q: Racer,
+    Q: Racer<Stream = TcpStream>,
     F: Write + Drop,
     R: Wait + Clock + RandomSource + AllocGlobal + Copy,
     requires { MayAccept sockets }
@@ -138,7 +141,7 @@ where
         shared,
         racer,
         limits: Limits {
-            request: Duration::from_secs(REQUEST),
+            request: Duration::from_secs(REQUEST_SECONDS),
             idle: request
                 .idle
                 .map(|seconds| Duration::from_secs(u64::from(seconds))),
@@ -186,97 +189,33 @@ where
     runtime.block_on(rt, running)
 }
 
-// That each address is loopback's where no network is allowed.
-fn refuse_open(request: &ProxyRequest<'_>) -> Result<(), ProxyFault> {
-    if !request.allow.is_empty() {
-        return Ok(());
-    }
-    for socket in request.listen {
-        if !is_loopback(ip_of(socket.ip())) {
-            return Err(ProxyFault::Open(*socket));
-        }
-    }
-    Ok(())
-}
-
-// Listens at the addresses; with none, at loopback's.
-fn listen<R: Net>(
+// The lines of the races, where a file has them: it is read once, and its lines are right.
+fn read_lines_of<R: Files + AllocGlobal>(
     rt: &R,
     alloc: Global,
-    handle: &Handle,
-    addresses: &[SocketAddr],
-) -> Result<(SelectAll<Incoming>, Vec<Place>), ProxyFault>
-    ensures { IfOk result (λ listening. MayAccept listening.0) }
-{
-    let mut sockets = SelectAll::new(alloc)?;
-    let mut own = Vec::new(alloc);
-    if addresses.is_empty() {
-        add_loopback(rt, handle, &mut sockets, &mut own)?;
-    }
-    for address in addresses {
-        add_socket(rt, handle, *address, &mut sockets, &mut own)?;
-    }
-    Ok((sockets, own))
-}
-
-// Listens at both loopback addresses, or at the one that this machine has.
-fn add_loopback<R: Net>(
-    rt: &R,
-    handle: &Handle,
-    sockets: &mut SelectAll<Incoming>,
-    own: &mut Vec<Place>,
-) -> Result<(), ProxyFault>
-    requires { MayAccept sockets.old }
-    ensures { MayAccept sockets.new }
-{
-    let v4 = SocketAddr::new(IpAddr::V4(Ipv4Addr::LOCALHOST), DEFAULT_PORT);
-    let v6 = SocketAddr::new(IpAddr::V6(Ipv6Addr::LOCALHOST), DEFAULT_PORT);
-    let of_v4 = add_socket(rt, handle, v4, sockets, own);
-    if let Err(fault) = of_v4
-        && !is_no_address(fault)
-    {
-        return Err(fault);
-    }
-    match add_socket(rt, handle, v6, sockets, own) {
-        Err(fault) if of_v4.is_err() || !is_no_address(fault) => Err(fault),
-        _ => Ok(()),
-    }
-}
-
-// Whether nothing can listen there, since this machine lacks the address or its family.
-fn is_no_address(fault: ProxyFault) -> bool {
-    match fault {
-        ProxyFault::Listen(_, cause) => cause.is_no_address(),
-        _ => false,
-    }
-}
-
-fn add_socket<R: Net>(
-    rt: &R,
-    handle: &Handle,
-    address: SocketAddr,
-    sockets: &mut SelectAll<Incoming>,
-    own: &mut Vec<Place>,
-) -> Result<(), ProxyFault>
-    requires { MayAccept sockets.old }
-    ensures { MayAccept sockets.new }
-{
-    let listener = match bind(rt, address, handle) {
-        Ok(listener) => listener,
-        Err(error) => return Err(ProxyFault::Listen(address, Cause::of(&error))),
+    request: &ProxyRequest<'_>,
+) -> Result<Option<Vec<u8>>, ProxyFault> {
+    let Lines::File(path) = request.lines else {
+        return Ok(None);
     };
-    let local = listener.local_addr()?;
-    own.push(place_of(local))?;
-    sockets.push(listener.incoming())?;
-    Ok(())
+    match read_right(rt, alloc, path, request) {
+        Ok(lines) => Ok(Some(lines)),
+        Err(ConnectFault::Memory) => Err(ProxyFault::Memory),
+        Err(fault) => Err(ProxyFault::Lines(fault)),
+    }
 }
 
-// Listens there, for connections that notice where their remote vanishes.
-fn bind<R: Net>(rt: &R, address: SocketAddr, handle: &Handle) -> io::Result<TcpListener> {
-    let socket = mio::net::TcpListener::bind(rt, address)?;
-    keep_alive(&socket);
-    let socket = net::TcpListener::from(OwnedFd::from(socket));
-    TcpListener::from_std(socket, handle.reactor())
+// The lines of the file, with which a race begins.
+fn read_right<R: Files + AllocGlobal>(
+    rt: &R,
+    alloc: Global,
+    path: &str,
+    request: &ProxyRequest<'_>,
+) -> Result<Vec<u8>, ConnectFault> {
+    let lines = read_lines(rt, path)?;
+    let race = start_race(alloc, request.settings, request.families, &lines)?;
+    drop(race);
+    Ok(lines)
 }
 
 fn open_records<R: Files + AllocGlobal + Copy>(

@@ -6,13 +6,14 @@ use crate::keeping::Keeping;
 use futures::Future;
 use futures::task::{Context, Poll};
 use he_front::Ended;
-use he_race::{RaceFault, Raced};
 use he_sessions::Won;
+use he_turns::{RaceFault, Raced};
 use std::alloc::AllocGlobal;
 use std::net::Net;
 use std::random::RandomSource;
 use std::rt::Files;
 use std::time::Clock;
+use tokio::net::TcpStream;
 use tokio::time::Sleep;
 
 /// A race that a session asks for, over whatever race there is. Once it has ended its record is kept.
@@ -43,7 +44,7 @@ where
     R: Clock + Files + RandomSource + AllocGlobal + Net + Copy,
     F: Future<Output = Result<Raced<Joined>, RaceFault>>,
 {
-    type Output = Result<Won, Ended>;
+    type Output = Result<Won<TcpStream>, Ended>;
 
     ghost use Rattle.std.specs.Prelude.{Ok};
     ghost use Rattle.he_proxy.specs.Races.{HandsOut};
@@ -54,7 +55,7 @@ where
 
     ghost gives = { λ s end. HandsOut (λ raced. F.gives s.race (Ok raced)) end };
 
-    fn poll(&mut self, cx: &mut Context<'_>) -> Poll<Result<Won, Ended>> {
+    fn poll(&mut self, cx: &mut Context<'_>) -> Poll<Result<Won<TcpStream>, Ended>> {
         self.keeping.hear_leaving();
         match self.race.poll(cx) {
             Poll::Pending => {

@@ -3,23 +3,22 @@ ghost use Rattle.std.specs.Prelude.{◌≡◌, IfOk, Ok};
 ghost use Rattle.he_proxy.specs.Races.{AsksFor, IsReachOf, IsWonBy, RunsFrom, Wins};
 
 use crate::access::{Client, Reach, ip_of, place_of};
-use crate::beginning::ClientPlace;
-use crate::facts::Facts;
 use crate::keeping::Keeping;
-use crate::lost::Lost;
 use crate::pages::{Asked, write_answer};
 use crate::race::LoopRace;
-use crate::record::Records;
 use crate::request::ProxyRequest;
 use crate::sockets::{Noted, SharedLoop, SocketRace, socket_race};
 use crate::source::Earlier;
-use crate::stamp::{second_now, stamp_now};
 use crate::state::ProxyState;
 use futures::Future;
 use he_access::reach::is_served;
 use he_addr::{Ip, Memory};
+use he_clients::ClientPlace;
 use he_connect::{ConnectFault, ConnectRequest, Setup, set_up};
 use he_front::Ended;
+use he_history::{Records, second_now, stamp_now};
+use he_kernel::asked::AskedWays;
+use he_log::{Facts, Lost};
 use he_sessions::{PageAsked, Racer, SessionEnd};
 use std::alloc::{AllocError, AllocGlobal};
 use std::io;
@@ -29,9 +28,7 @@ use std::net::{Net, SocketAddr};
 use std::random::RandomSource;
 use std::rt::Files;
 use std::time::{Clock, Instant};
-
-// How many octets of a request's target the log has at most.
-const MOST_TARGET: usize = 256;
+use tokio::net::TcpStream;
 
 /// What races for the sessions, and reports on them.
 #[derive(Drop)]
@@ -47,12 +44,12 @@ where
     F: Write + Drop,
 {
     // What the client's races may connect to.
-    fn reach_of(&self, client: SocketAddr) -> Reach<'h>
+    fn reach_of(&self, client: SocketAddr, asked: &AskedWays) -> Reach<'h>
         ensures { IsReachOf self.now.state.now.own.items self.now.request.now.allows_private client result }
     {
         Reach {
             own: self.state.own.as_slice(),
-            client: Client::of(self.shared.rt, client),
+            client: Client::of(self.shared.rt, asked, client),
             allows_private: self.request.allows_private,
         }
     }
@@ -89,7 +86,7 @@ where
     {
         let request = self.request_for(host, port);
         let setup = set_up(self.shared.rt, self.shared.alloc, &request, &mut io::sink())?;
-        let begun = self.begin_from(&setup, self.reach_of(client), client);
+        let begun = self.begin_from(&setup, self.reach_of(client, &setup.asked), client);
         drop(setup);
         begun
     }
@@ -105,7 +102,7 @@ where
         ensures runs { IfOk result (λ race. (raced : _) → ⟦<SocketRace<'h, R> as Future>⟧.gives race.race (Ok raced)
             → RunsFrom setup.now.start setup.now.to reach.entry raced) }
     {
-        let noted = Noted::new(self.shared.alloc)?;
+        let noted = Noted::new(self.shared.alloc, setup.asked.share()?)?;
         let keeping = self.keeping(&setup.request, reach, noted, client)?;
         let earlier = Earlier {
             kept: &self.state.answers,
@@ -161,14 +158,6 @@ where
         lost.ended()
     }
 
-    // Notes what the client asks for by GET, for the log.
-    fn note_target(&self, client: SocketAddr, path: &[u8]) {
-        let mut facts = Facts::none(self.shared.alloc);
-        let len = path.len().min(MOST_TARGET);
-        facts.target = Vec::from_slice(self.shared.alloc, &path[..len]).ok();
-        self.state.facts.note(client, facts);
-    }
-
     // Says once a minute and network that a client is turned away.
     fn tell_turned_away(&self, client: SocketAddr, ip: Ip) {
         let rt = self.shared.rt;
@@ -185,6 +174,8 @@ where
     R: Clock + RandomSource + AllocGlobal + Net + Files + Copy,
     F: Write + Drop,
 {
+    type Stream = TcpStream;
+
     type Race = LoopRace<'h, R, SocketRace<'h, R>>;
 
     type Place = ClientPlace<'h>;
@@ -228,12 +219,12 @@ where
             path,
             host,
         } = *asked;
-        self.note_target(client, path);
+        let ways = AskedWays::new(self.shared.alloc)?;
         let asked = Asked {
             path,
             host,
             at: place_of(SocketAddr::new(at.ip().to_canonical(), at.port())),
-            is_near: Client::of(self.shared.rt, client).is_near(),
+            is_near: Client::of(self.shared.rt, &ways, client).is_near(),
         };
         match write_answer(self.shared.alloc, &self.state.recent, asked, out) {
             Ok(()) => Ok(()),

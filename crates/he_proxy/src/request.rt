@@ -2,34 +2,16 @@
 
 use he_addr::Prefix;
 use he_connect::{Families, Lines};
-use he_resolver::{Choice, Environment};
+use he_log::LogForm;
+use he_names::Environment;
+use he_settings::Choice;
 use he_timeline::Settings;
 use std::net::SocketAddr;
-
-/// How many sessions there are at once, where nothing else is asked for.
-pub const DEFAULT_SESSIONS: u32 = 1_000;
-
-/// How many records are kept, where nothing else is asked for.
-pub const DEFAULT_RECORDS: u32 = 10_000;
-
-/// The port that the proxy listens at, where nothing else is asked for: that of SOCKS (RFC 1928 section 3).
-pub const DEFAULT_PORT: u16 = 1_080;
-
-/// How sessions are logged.
-#[derive(Clone, Copy, Debug, PartialEq, Eq)]
-pub enum LogForm {
-    Silent,
-    /// A line of text for each session.
-    Text,
-    /// A line with a JSON object for each session.
-    Json,
-}
 
 /// A proxy that is asked for.
 #[derive(Clone, Copy)]
 pub struct ProxyRequest<'a> {
-    /// The addresses to listen at. With none these are 127.0.0.1 and ::1 at [`DEFAULT_PORT`], and one of them is
-    /// enough.
+    /// The addresses to listen at. With none these are 127.0.0.1 and ::1 at port 1080, and one of them is enough.
     pub listen: &'a [SocketAddr],
     /// From where clients may come, beside this machine.
     pub allow: &'a [Prefix],
@@ -56,4 +38,18 @@ pub struct ProxyRequest<'a> {
     pub most: u32,
     /// After how many seconds, at least 1, a tunnel in which no byte moved is closed; with none, none is.
     pub idle: Option<u32>,
+}
+
+impl<'a> ProxyRequest<'a> {
+    // The same, with the text of a file of lines, where it is read.
+    pub(crate) fn with_lines<'t>(&self, text: Option<&'t [u8]>) -> ProxyRequest<'t>
+    where
+        'a: 't,
+    {
+        let lines = match text {
+            Some(text) => Lines::Text(text),
+            None => self.lines,
+        };
+        ProxyRequest { lines, ..*self }
+    }
 }

@@ -1,9 +1,9 @@
 //! What is done with clients: a session for each that is served.
 ghost use Rattle.std.specs.Prelude.{IfSome};
 
-use crate::clients::Service;
 use crate::sockets::SharedLoop;
 use crate::state::ProxyState;
+use he_clients::Service;
 use he_live::Reason;
 use he_sessions::{Limits, Racer, Session};
 use std::io::Write;
@@ -20,7 +20,7 @@ pub struct Server<'q, K, Q, F: Drop> {
     pub state: &'q ProxyState<F>,
 }
 
-impl<'q, K: Clock, Q: Racer, F: Write + Drop> Service for Server<'q, K, Q, F> {
+impl<'q, K: Clock, Q: Racer<Stream = TcpStream>, F: Write + Drop> Service for Server<'q, K, Q, F> {
     type Session = Session<'q, K, Q>;
 
     fn begin(&self, client: TcpStream, address: SocketAddr) -> Option<Session<'q, K, Q>> {

@@ -1,21 +1,25 @@
 //! The race of a session over the sockets of the event loop.
-ghost use Rattle.std.specs.Prelude.{◌≡◌, IfOk, Ok};
+ghost use Rattle.std.specs.Prelude.{◌≡◌, IfOk, IfSome, Ok};
 ghost use Rattle.futures.specs.Task.{Keeps};
 ghost use Rattle.he_resolver.specs.Heard.{IsSound};
-ghost use Rattle.he_proxy.specs.Kept.{BeginsBy};
+ghost use Rattle.he_connect.specs.Races.{KnowsHost, only_of};
+ghost use Rattle.he_proxy.specs.Kept.{AreKeptOf, BeginsBy};
 ghost use Rattle.he_proxy.specs.Races.{RunsFrom};
 
 use crate::access::Reach;
-use crate::answers::KeptAnswers;
 use crate::dial::LoopConnector;
 use crate::source::{Earlier, RaceSource};
 use crate::ticks::{Progress, RaceTicker};
 use futures::Future;
 use futures::task::Context;
-use he_connect::{ConnectFault, HostAnswers, LookupFaults, Setup};
+use he_addr::Ip;
+use he_connect::{ConnectFault, ConnectRequest, HostAnswers, LookupFaults, OwnMachine, Setup};
+use he_kept::KeptAnswers;
+use he_kernel::asked::AskedWays;
 use he_live::{LiveTicker, Quiet, Steps};
-use he_race::ResolvingRace;
-use he_resolver::{Lookup, Wanted};
+use he_resolver::Lookup;
+use he_settings::Wanted;
+use he_turns::ResolvingRace;
 use std::alloc::{AllocError, AllocGlobal, Global};
 use std::net::Net;
 use std::random::RandomSource;
@@ -69,19 +73,22 @@ pub struct Noted {
     pub why: LookupFaults,
     /// How far it is, and whether its client has left.
     pub progress: Progress,
+    /// What the kernel answers.
+    pub asked: AskedWays,
 }
 
 impl Noted {
-    /// Nothing has happened yet.
+    /// Nothing has happened yet, but what the kernel was asked.
     ///
     /// # Errors
     ///
     /// `AllocError` where an allocation was refused.
-    pub fn new(alloc: Global) -> Result<Noted, AllocError> {
+    pub fn new(alloc: Global, asked: AskedWays) -> Result<Noted, AllocError> {
         Ok(Noted {
             steps: Steps::new(alloc)?,
             why: LookupFaults::new(alloc)?,
             progress: Progress::new(alloc)?,
+            asked,
         })
     }
 }
@@ -94,18 +101,16 @@ fn look_up<'h, R>(
 ) -> Result<Lookup<'h, R>, ConnectFault>
 where
     R: Clock + RandomSource + AllocGlobal + Net + Files + Copy,
-    ensures begins { IfOk result (λ lookup. BeginsBy setup.now.request lookup.source) }
+    ensures begins { KnowsHost setup.now → IfOk result (λ lookup. BeginsBy setup.now.request lookup.source) }
     ensures sound { IfOk result (λ lookup. IsSound lookup.source) }
 {
     let SharedLoop { rt, alloc, handle } = shared;
     let request = &setup.request;
-    let mut known = kept.known(rt, request.host, request.families.only());
-    if known.is_none()
-        && let Some(ips) = &setup.known
-    {
-        known = Some(Vec::from_slice(alloc, ips)?);
+    if let Some(ips) = kept_ips(shared, request, kept)? {
+        return Ok(Lookup::of_known(rt, alloc, ips)?);
     }
-    if let Some(known) = known {
+    if let Some(ips) = &setup.known {
+        let known = Vec::from_slice(alloc, ips)?;
         return Ok(Lookup::of_known(rt, alloc, known)?);
     }
     let wanted = Wanted {
@@ -115,6 +120,24 @@ where
         environment: request.environment,
     };
     Ok(Lookup::by_servers(rt, alloc, handle, wanted)?)
+}
+
+// The addresses that are kept of the host, where the answer of each family that is tried is.
+fn kept_ips<R: Clock>(
+    shared: SharedLoop<'_, R>,
+    request: &ConnectRequest<'_>,
+    kept: &KeptAnswers,
+) -> Result<Option<Vec<Ip>>, AllocError>
+    ensures { IfOk result (λ found. IfSome found (λ ips. AreKeptOf request.now.host.now
+        (only_of request.now.families) ips.items)) }
+{
+    let Some(now) = kept.second(shared.rt) else {
+        return Ok(None);
+    };
+    match kept.known(now, request.host, request.families.only()) {
+        Some(known) => Ok(Some(known.ips(shared.alloc)?)),
+        None => Ok(None),
+    }
 }
 
 /// The race that is set up, before its first turn.
@@ -137,11 +160,12 @@ where
 {
     let SharedLoop { rt, alloc, handle } = shared;
     let lookup = look_up(shared, setup, earlier.kept)?;
-    let machine = if setup.brings_lines { Some(rt) } else { None };
+    let machine = OwnMachine::of_setup(rt, setup)?;
     let answers = HostAnswers::new(alloc, lookup, machine, noted.why.share()?, Quiet)?;
-    let source = RaceSource::new(rt, setup.request.host, answers, noted.why.share()?, earlier)?;
+    let source = RaceSource::new(rt, setup.request.host, answers, noted, earlier)?;
     let steps = noted.steps.share()?;
-    let connector = LoopConnector::new(rt, handle.reactor(), setup.to, reach, steps);
+    let asked = noted.asked.share()?;
+    let connector = LoopConnector::new(shared, setup.to, reach, steps, asked);
     let steps = noted.steps.share()?;
     let ticks = LiveTicker::new(rt, handle.time(), steps, Quiet);
     let ticker = RaceTicker::new(ticks, noted.progress.share()?);

@@ -1,22 +1,25 @@
 //! Where the answers of a race come from: its own look-up, or that of another race for the same host.
-ghost use Rattle.std.specs.Prelude.{◌≡◌, ◌≤◌, ◌⊎◌, IfOk, None, Some, is_some, map};
+ghost use Rattle.std.specs.Prelude.{◌≡◌, ◌≤◌, ◌⊎◌, IfOk, IfSome, None, Some, is_some, map, string_bytes};
 ghost use Rattle.futures.specs.Poll.{IfReady, OnPending};
 ghost use Rattle.futures.specs.Task.{Covers, Keeps};
 ghost use Rattle.he_addr.specs.declared.ip.Family.{Family};
-ghost use Rattle.he_race.specs.Heard.{IsSilent, lists_of};
-ghost use Rattle.he_race.specs.declared.limits.TheConstants.{MAX_POLL_TICK};
+ghost use Rattle.he_turns.specs.Heard.{IsSilent, lists_of};
+ghost use Rattle.he_turns.specs.declared.limits.TheConstants.{MAX_POLL_TICK};
+ghost use Rattle.he_proxy.specs.Kept.{AreKeptFor};
 ghost use Rattle.he_proxy.specs.Sources.{Asks, HasSameLines, HearsOwn, IsOfKept, needs_by};
 
-use crate::answers::{Asking, KeptAnswers};
-use crate::known::KnownAddresses;
+use crate::sockets::Noted;
 use futures::Future;
 use futures::task::{Context, Poll};
 use he_addr::{Family, Ip};
 use he_connect::{HostAnswers, LookupFaults};
+use he_history::KnownAddresses;
+use he_kept::{Asking, KeptAnswer, KeptAnswers, Lifetime, Question};
+use he_kernel::asked::AskedWays;
 use he_live::Quiet;
-use he_race::{Answer, AnswerSource};
-use he_resolver::NamesFault;
 use he_select::Known;
+use he_settings::NamesFault;
+use he_turns::{Answer, AnswerSource};
 use std::alloc::{AllocError, AllocGlobal, Global};
 use std::net::Net;
 use std::random::RandomSource;
@@ -75,6 +78,8 @@ pub struct RaceSource<'h, R> {
     answers: HostAnswers<'h, R, Quiet>,
     // Why a family has no address.
     why: LookupFaults,
+    // What the kernel answers in this race.
+    asked: AskedWays,
     host: String,
     earlier: Earlier<'h>,
     turn: Turn<'h>,
@@ -84,7 +89,7 @@ impl<'h, R> RaceSource<'h, R>
 where
     R: Net + RandomSource + Clock + Files + AllocGlobal,
 {
-    /// The answers of this host, whose look-up notes in `why` why a family has none.
+    /// The answers of this host, whose look-up notes why a family has none.
     ///
     /// # Errors
     ///
@@ -93,7 +98,7 @@ where
         rt: &'h R,
         host: &str,
         answers: HostAnswers<'h, R, Quiet>,
-        why: LookupFaults,
+        noted: &Noted,
         earlier: Earlier<'h>,
     ) -> Result<RaceSource<'h, R>, AllocError> {
         let alloc = rt.alloc();
@@ -101,7 +106,8 @@ where
             rt,
             alloc,
             answers,
-            why,
+            why: noted.why.share()?,
+            asked: noted.asked.share()?,
             host: String::from_str(alloc, host)?,
             earlier,
             turn: turn_for(earlier.kept, host),
@@ -137,7 +143,7 @@ where
     // What the race that asks for the host is told, once that is kept.
     fn poll_kept(&mut self, family: Family, cx: &mut Context<'_>) -> Poll<Answer>
         ensures ready { IfReady result (λ answer. IsOfKept (is_some self.old.answers.machine)
-            (Some (lists_of answer))) }
+            (string_bytes self.old.host) family (Some (lists_of answer))) }
         ensures same { IfReady result (λ _. (self.new ≡ self.old) × (cx.new ≡ cx.old)) }
         ensures waits { OnPending result ((any : Family) → Covers cx.new (needs_by
             (⟦<HostAnswers<'h, R, Quiet> as AnswerSource>⟧.needs self.new.answers any) self.new)) }
@@ -145,10 +151,10 @@ where
     {
         let kept = self.earlier.kept;
         let mut answered = kept.answered.notified();
-        if let Some(ips) = kept.known_of(self.rt, &self.host, family) {
+        if let Some(ips) = self.kept_of(family) {
             return Poll::Ready(self.with_known(self.answers.answer_of(family, Ok(ips))));
         }
-        if kept.is_asked(&self.host, family) {
+        if kept.asked(self.host.as_str(), family).is_some() {
             match answered.poll(cx) {
                 Poll::Pending => {
                     self.turn = Turn::Waits(answered);
@@ -159,6 +165,15 @@ where
         }
         self.turn = Turn::Asks(AskedFor::nothing());
         cx.yield_now()
+    }
+
+    // The addresses that are kept of the family of its host, of which there may be none.
+    fn kept_of(&self, family: Family) -> Option<Vec<Ip>>
+        ensures { IfSome result (λ ips. AreKeptFor (string_bytes self.now.host) family ips.items) }
+    {
+        let kept = self.earlier.kept;
+        let now = kept.second(self.rt)?;
+        Some(kept.known_of(now, self.host.as_str(), family)?.into_ips())
     }
 
     // Others need not wait for the family any more.
@@ -178,18 +193,38 @@ where
         if ttl.is_none() && !fault.is_some_and(is_said) {
             return;
         }
-        if let Ok(ips) = ips_of(self.alloc, &answer.known) {
-            self.earlier
-                .kept
-                .keep(self.rt, &self.host, family, ips, ttl);
+        let kept = self.earlier.kept;
+        if let Some(at) = kept.second(self.rt)
+            && let Ok(answer) = self.to_keep(family, answer, Lifetime { at, ttl })
+        {
+            kept.keep(answer);
         }
+    }
+
+    // What is kept of an answer: that its own host has these addresses of the family.
+    fn to_keep(
+        &self,
+        family: Family,
+        answer: &Answer,
+        life: Lifetime,
+    ) -> Result<KeptAnswer, AllocError>
+        ensures host { IfOk result (λ kept. string_bytes kept.question.host ≡ string_bytes self.now.host) }
+        ensures family { IfOk result (λ kept. kept.question.family ≡ family) }
+        ensures ips { IfOk result (λ kept. kept.ips.items ≡ map (λ known. known.ip) answer.now.known.items) }
+        ensures life { IfOk result (λ kept. kept.life ≡ life) }
+    {
+        Ok(KeptAnswer {
+            question: Question::of(self.alloc, self.host.as_str(), family)?,
+            ips: ips_of(self.alloc, &answer.known)?,
+            life,
+        })
     }
 
     // The answer, with what is known of its addresses.
     fn with_known(&self, answer: Answer) -> Answer
         ensures { HasSameLines (lists_of answer) (lists_of result) }
     {
-        match self.earlier.known.tell(self.rt, &answer.known) {
+        match self.earlier.known.tell(self.rt, &self.asked, &answer.known) {
             Ok(known) => Answer { known, ..answer },
             Err(_) => answer,
         }
@@ -198,7 +233,7 @@ where
 
 // Another race's turn, where one asks for the host; else the race's own.
 fn turn_for<'h>(kept: &'h KeptAnswers, host: &str) -> Turn<'h> {
-    if kept.is_asked(host, Family::V6) || kept.is_asked(host, Family::V4) {
+    if kept.asked(host, Family::V6).is_some() || kept.asked(host, Family::V4).is_some() {
         return Turn::Waits(kept.answered.notified());
     }
     Turn::Asks(AskedFor {

@@ -1,15 +1,10 @@
 //! What all sessions of a proxy share beside the event loop.
 
-use crate::answers::KeptAnswers;
-use crate::beginning::Beginning;
-use crate::facts::SessionFacts;
-use crate::known::KnownAddresses;
-use crate::log::Log;
-use crate::recent::Recent;
-use crate::record::Records;
-use crate::running::Running;
-use crate::turned::TurnedAway;
 use he_access::reach::Place;
+use he_clients::{Beginning, Running};
+use he_history::{KnownAddresses, Recent, Records};
+use he_kept::KeptAnswers;
+use he_log::{Log, SessionFacts, TurnedAway};
 use std::cell::Cell;
 use std::net::SocketAddr;
 

@@ -2,7 +2,7 @@
 
 use futures::task::Context;
 use he_live::{LiveTicker, Quiet};
-use he_race::{TickFault, Ticker};
+use he_turns::{TickFault, Ticker};
 use std::alloc::{AllocError, Global};
 use std::cell::Cell;
 use std::rc::Rc;

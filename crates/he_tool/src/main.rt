@@ -8,10 +8,10 @@ mod build;
 
 use build::VERSION;
 use he_command::{
-    Session, System, columns_of, read_words, report, report_not_text, report_path, run_line,
-    takes_text, tell_short_timeout, tell_waiting,
+    Session, System, Variables, columns_of, read_words, report, report_not_text, report_path,
+    run_line, takes_text, tell_short_timeout, tell_waiting,
 };
-use he_inputs::StreamFault;
+use he_inputs::{RaceStream, StreamFault};
 use he_relay::{NULL_DEVICE, Waiting, open_standard};
 use he_stream::{FromReader, ToWriter};
 use std::io::IsTerminal;
@@ -71,6 +71,7 @@ where
         output: ToWriter::new(Waiting::output(rt.stdout())),
         faults: rt.stderr(),
         file: None,
+        stream: RaceStream::new(rt.alloc()),
         place: 0,
         unread: 0,
     };
@@ -80,5 +81,6 @@ where
         tell_waiting(&mut session.faults);
     }
     let mut input = FromReader::new(Waiting::input(rt.stdin()));
-    run_line(&mut session, line, &mut input)
+    let variables = Variables::read(system);
+    run_line(&mut session, line, variables.environment(), &mut input)
 }

@@ -9,7 +9,6 @@ returns-in-Ok-race g c =
     let run = c.in-Ok-race.run' in
     inr (
       c.in-Ok.port,
-      c.environment.result,
       run.text.items,
       run.story.items,
       run.connection,

@@ -1,6 +1,0 @@
-use Rattle.std.proofs.Common.{◌≡◌, ◌++◌, drop}
-use Rattle.he_race.specs.Heard.{ips_of}
-use Rattle.he_proxy.proofs.known.tell_from.Given as goal
-
-abbrev pub invariant-loop-one : goal.invariant-loop-one
-invariant-loop-one g l = ips_of l.told.items ++ ips_of (drop l.one-index l.known) ≡ ips_of l.known

@@ -1,5 +1,0 @@
-use Rattle.he_proxy.specs.Sockets.{MayAccept}
-use Rattle.he_proxy.proofs.proxy.listen.Given as goal
-
-abbrev pub invariant-loop-address : goal.invariant-loop-address
-invariant-loop-address g l = MayAccept l.sockets
