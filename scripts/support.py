@@ -219,6 +219,7 @@ def replayed(record, command="replay"):
 # A line of a trace before the program's own work begins: a library is opened and its first bytes are read, or a
 # checked build looks at its process.
 STARTING = re.compile(r'\.so[".]|\\177ELF|"/proc/self/')
+MEMORY = "mmap,munmap,mremap,mprotect,madvise,brk"  # the calls that get memory
 
 
 class Run:
@@ -460,8 +461,9 @@ def must_log_in(proxy_command):
 # Messages of the domain name system, and a server
 
 
-A, CNAME, AAAA = 1, 5, 28
+A, CNAME, AAAA, OPT = 1, 5, 28, 41
 NOERROR, FORMERR, SERVFAIL, NXDOMAIN, NOTIMP, REFUSED = range(6)
+BADVERS = 16
 OWN_NAME = b"\xc0\x0c"  # of the question, by a pointer
 
 
@@ -478,6 +480,11 @@ def addresses(kind, *given, ttl=60):
     return [record(OWN_NAME, kind, data_of(ip), ttl) for ip in given if (":" in ip) == (kind == AAAA)]
 
 
+def opt(code=NOERROR, owner=b"\0"):
+    """An OPT record (RFC 6891), with the upper 8 bits of a response's code."""
+    return owner + struct.pack("!HHIH", OPT, 1_232, code >> 4 << 24, 0)
+
+
 def question_of(query):
     return query[12:query.index(b"\0", 12) + 5]
 
@@ -490,12 +497,15 @@ def labels_of(query):
     return [label.decode() for label in re.findall(rb"[\w-]+", question_of(query)[:-5])]
 
 
-def message(query, records=(), code=NOERROR, truncated=False, count=None, question=None, ident=None, flags=0x8180):
-    """A response to the query: its header, its question, and so many records as it says, or as there are."""
+def message(query, records=(), code=NOERROR, truncated=False, count=None, question=None, ident=None, flags=0x8180,
+            more=()):
+    """A response to the query: its header, its question, so many records as it says, or as there are, and more in the
+    additional section, where a code above 15 has its upper bits."""
     question = question_of(query) if question is None else question
-    head = struct.pack("!HHHHH", flags | code | (0x200 if truncated else 0), bool(question),
-                       len(records) if count is None else count, 0, 0)
-    return (ident or query[:2]) + head + question + b"".join(records)
+    more = [*more, *([opt(code)] if code > 15 else [])]
+    head = struct.pack("!HHHHH", flags | code & 15 | (0x200 if truncated else 0), bool(question),
+                       len(records) if count is None else count, 0, len(more))
+    return (ident or query[:2]) + head + question + b"".join([*records, *more])
 
 
 class NameServer:

@@ -89,10 +89,11 @@ def check_ports():
     """A port is a number, or a service over TCP of the file of services; any other word is a wrong line."""
     if not os.path.exists("/etc/services"):
         raise NotTried("no /etc/services")
-    words = dict.fromkeys(["0", "65536", "07007", "7007/tcp", "he_test", "he--test", "test-", "a-sixteen-letter", ""],
-                          "he: invalid value for PORT: .*")
+    words = dict.fromkeys(["0", "00", "65536", "065536", "+", "++7007", "7007/tcp", "he_test", "he--test", "test-",
+                           "a-sixteen-letter", ""], "he: invalid value for PORT: .*")
     words |= {word: f"he: no such service: {word}\n" for word in ("datagrams", "htps", "HE-TEST")}
-    words |= dict.fromkeys([str(SERVICE_PORT), "he-test", "second-name-too", "other"], "")
+    words |= dict.fromkeys([str(SERVICE_PORT), f"0{SERVICE_PORT}", f"+{SERVICE_PORT}", "he-test", "second-name-too",
+                            "other"], "")
     with serving(greet, port=SERVICE_PORT):
         for word, told in words.items():
             run = Run("-z", FOUR, word, replays=not told)
@@ -178,7 +179,6 @@ nft add rule inet he out ip6 daddr {SIX} tcp dport 1-65535 reject
 MOST_REJECTED = 0.050  # seconds that an address may cost which is rejected, and of processor time
 MOST_WAITING = 0.020  # seconds of processor time of a race that waits for two seconds
 MOST_CALLS, MOST_INSTRUCTIONS = 60, 700_000  # of a connection to an address of this machine
-MEMORY = "mmap,munmap,mremap,mprotect,madvise,brk"
 MOST_QUICK = 0.03  # seconds from the start of the program to the end of a connection that waits for nothing
 
 
@@ -397,7 +397,7 @@ def check_few_calls():
     """A connection to an address takes few system calls, but for those that get memory, after the program's start. Few
     sockets are made before it: no length of a network is looked for."""
     with serving(greet) as port:
-        calls, status, told = traced("-z", FOUR, port, only=f"-e trace=!{MEMORY}")
+        calls, status, told = traced("-z", FOUR, port, only=f"-e trace=!{support.MEMORY}")
     lines = calls.splitlines()
     begins = max(place for place, line in enumerate(lines) if support.STARTING.search(line)) + 1
     own = re.findall(r"(?m)^\d+ +(\w+)\(", "\n".join(lines[begins:]))

@@ -13,8 +13,9 @@ import sys
 import time
 
 import support
-from support import (A, AAAA, CNAME, FORMERR, NOTIMP, NXDOMAIN, OPTIONS, OWN_NAME, REFUSED, SERVFAIL, NotTried,
-                     addresses, data_of, kind_of, labels_of, message, must, question_of, record, tell, wire)
+from support import (A, AAAA, BADVERS, CNAME, FORMERR, NOTIMP, NXDOMAIN, OPT, OPTIONS, OWN_NAME, REFUSED, SERVFAIL,
+                     NotTried, addresses, data_of, kind_of, labels_of, message, must, opt, question_of, record, tell,
+                     wire)
 
 SETUP, ANYWHERE = "ip link set lo up", True
 SERVER, OTHER, DOWN = "127.0.0.77", "127.0.0.78", "127.0.0.79"
@@ -49,6 +50,14 @@ def replies(what, query, stream):
         "formerr": message(query, code=FORMERR, question=b""),
         "old": good if is_plain else message(query, code=FORMERR, question=b""),
         "older": good if is_plain else message(query, code=NOTIMP),
+        "oldest": good if is_plain else message(query, code=BADVERS),
+        "oldest-bare": good if is_plain else message(query, code=BADVERS, question=b""),
+        "badvers": message(query, code=BADVERS), "code-19": message(query, code=16 + NXDOMAIN),
+        "code-2048": message(query, found, code=0x800), "opt": message(query, found, more=[opt()]),
+        "opt-behind": message(query, found, more=[*found, opt()]),
+        "two-opts": message(query, found, more=[opt(), opt()]), "cut-opt": message(query, found, more=[opt()])[:-1],
+        "owned-opt": message(query, found, more=[opt(owner=wire("opt.test"))]),
+        "absent-cut-opt": message(query, code=NXDOMAIN, more=[opt()])[:-1],
         "garbage": good[:-1], "short": message(query)[:11], "counts": message(query, found, count=40_000),
         "loop": message(query, [record(itself, kind, ip)]),
         "long": message(query, [record((b"\x3f" + b"x" * 63) * 4 + b"\x2b" + b"x" * 43 + b"\0", kind, b"\0" * 4)]),
@@ -258,7 +267,8 @@ def base_message(draw, query):
     given = [f"2001:db8::{n:x}" if kind == AAAA else f"192.0.2.{n}" for n in numbers]
     records += [record(last, kind, data_of(ip)) for ip in given]
     draw.shuffle(records)
-    return message(query, records, flags=draw.choice((0x8180, 0x8180, 0x8180, 0x8580, 0x8100)))
+    more = [opt(draw.choice((0, 0, 0, 16, 19))) for _ in range(draw.choice((0, 0, 0, 1, 1, 1, 2)))]
+    return message(query, records, flags=draw.choice((0x8180, 0x8180, 0x8180, 0x8580, 0x8100)), more=more)
 
 
 def mutated(draw, whole):
@@ -272,7 +282,7 @@ def mutated(draw, whole):
         elif change == 1 and data:
             data[at] = draw.choice((0, 1, 12, 63, 64, 192, 255))
         elif change == 2 and len(data) > 8:
-            word = draw.choice((2, 2, 4, 6, 6))
+            word = draw.choice((2, 2, 4, 6, 6, 8, 10))
             value = draw.choice((0, 1, 2, 3, 0x8180, 0x8182, 0x8183, 0x8185, 0x8380, 0x8181, 0x100))
             data[word:word + 2] = struct.pack("!H", value)
         elif change == 3:
@@ -286,29 +296,49 @@ def mutated(draw, whole):
     return bytes(data)
 
 
+def code_of(told, low, counts):
+    """The code of a response whose sections, of so many records each, come next, by the lower bits in its header and
+    the upper ones in an OPT record; None where there is no telling."""
+    opts = []
+    try:
+        for section, count in enumerate(counts):
+            for _ in range(count):
+                owner = told.get_name()
+                kind, _, ttl, size = told.get_struct("!HHIH")
+                told.get_bytes(size)
+                if section == 2 and kind == OPT:
+                    opts.append((len(owner), ttl >> 24))
+    except Exception:
+        return None if low in (0, NXDOMAIN) else low
+    if len(opts) > 1 or any(labels > 1 for labels, _ in opts):
+        return None if low in (0, NXDOMAIN) else low
+    return low + 16 * sum(upper for _, upper in opts)
+
+
 def read_plainly(parser, data, query):
     """What a message says to the query, read without the program: a word, and the addresses. (The parser is that of
     dnspython.)"""
     if len(data) < 12:
         return "passed over", []
     told, asking = parser(data), parser(query, 12)
-    ident, flags, questions, count, _, _ = told.get_struct("!2s5H")
-    code, wanted, kind_and_class = flags & 15, asking.get_name(), asking.get_bytes(4)
+    ident, flags, questions, *counts = told.get_struct("!2s5H")
+    wanted, kind_and_class = asking.get_name(), asking.get_bytes(4)
     if ident != query[:2] or flags >> 11 != 16:
         return "passed over", []
     if questions == 0:
-        return "passed over" if code in (0, NXDOMAIN) else "fails", []
+        return "passed over" if code_of(told, flags & 15, counts) in (None, 0, NXDOMAIN) else "fails", []
     try:
         asked = told.get_name(), told.get_bytes(4)
     except Exception:
         return "passed over", []
     if questions != 1 or asked != (wanted, kind_and_class):
         return "passed over", []
-    if flags & 0x200 or code:
+    code = code_of(parser(data, told.current), flags & 15, counts)
+    if flags & 0x200 or code != 0:
         return "cut off" if flags & 0x200 else "no such name" if code == NXDOMAIN else "fails", []
     aliases, found = {}, []
     try:
-        for _ in range(count):
+        for _ in range(counts[0]):
             owner = told.get_name()
             kind, of_class, _, size = told.get_struct("!HHIH")
             with told.restrict_to(size):  # which must be all that is read

@@ -14,6 +14,7 @@ import time
 import support
 from parts.names import (AGAIN, DENIED, NOISE, SLOW, V4, V6, Server, answers_of, finds, lacks, look_up,
                          look_up_with_fault)
+from parts.proxy import Proxy
 from support import A, AAAA, OPTIONS, file_of_etc, kind_of, must, run, tell, timed
 
 HOSTS_FILE = (f"# a comment\n{V4} one.example One-Alias # two.example\n::5\ttwo.example\n192.0.2.2 two.example\n"
@@ -28,7 +29,7 @@ ALONE = 250  # milliseconds: a server is waited for alone
 # Of the loop that looks for a lost wake-up: the look-ups, and the milliseconds that one may take.
 LOOKUPS, LONGEST = (20_000, 50) if OPTIONS.full else (500, ALONE - 50)
 SEARCH = "domain no.example\nsearch other.x test\n"
-MOST_SECONDS = 0.5  # for a look-up in a file of hosts of 150,000 lines, on a machine that does other work too
+MOST_SECONDS = 0.12  # for a look-up in a file of hosts of 150,000 lines: what getent takes
 
 # What people write for a host: the addresses that are found or the line that is told, and the names of which a name
 # server is asked, with `search a.test`. The names are worked out by hand, of the RFCs that forbid to ask.
@@ -60,9 +61,9 @@ HOSTS = (
 # order.
 SERVERS = {
     (0, 0): ["good", "down good", "lame good", "servfail good", "refused good", "bare good", "notimp good",
-             "formerr good", "garbage good", "servfail refused good", "old", "older", "cut-off", "cut-off-strange",
-             "strange"],
-    (ALONE, 320 - NOISE): ["dead good"],
+             "formerr good", "garbage good", "servfail refused good", "old", "older", "oldest", "oldest-bare",
+             "cut-off", "cut-off-strange", "strange", "opt", "opt-behind", "code-19 good", "absent-cut-opt good"],
+    (ALONE, 270 - NOISE): ["dead good"],
     (ALONE, ALONE): ["slow good", "servfail dead good", "other-id good"],
     (2 * ALONE, 2 * ALONE): ["dead dead good"],
     (1_000 * SLOW, 1_000 * SLOW): ["slow dead", "slow dead dead"],
@@ -75,6 +76,10 @@ FAILURES = (
     ("servfail", "name server AT: SERVFAIL", 0), ("refused servfail", "name server AT: REFUSED", 0),
     ("bare", "name server AT: REFUSED", 0), ("notimp", "name server AT: NOTIMP", 0),
     ("formerr", "name server AT: FORMERR", 0), ("lame", "name server AT: knows no more than other servers", 0),
+    ("badvers", "name server AT: BADVERS", 0), ("code-19", "name server AT: response code 19", 0),
+    ("code-2048", "name server AT: response code 2048", 0),
+    *((kind, "name server AT: answered what can't be read", 0)
+      for kind in ("two-opts", "owned-opt", "cut-opt", "absent-cut-opt")),
     ("garbage", "name server AT: answered what can't be read", 0), ("down", "name server AT: cannot be reached", 0),
     ("dead", "no name server answers", 1_000), ("other-id", "no name server answers", 1_000),
     ("dead dead", "no name server answers", 1_000 + ALONE), ("dead servfail", "name server AT2: SERVFAIL", 1_000),
@@ -293,6 +298,30 @@ def check_zone():
         finds("both.test", [V6], [V4], what=f"at fe80::77%{zone} ")
     SETTINGS.write_text("nameserver fe80::77%none\nnameserver fe80::77%here\n")
     finds("both.test", [V6], [V4], what="after an interface that is not there ")
+
+
+def check_zone_of_resolver():
+    """The name server that the command line names may be on the link of an interface."""
+    server, number = server_at("fe80::77%here", "good"), socket.if_nametoindex("here")
+    SETTINGS.write_text("nameserver 127.0.0.3\n")  # which is down
+    for zone in ("here", number):
+        finds("both.test", [V6], [V4], "--resolver", f"fe80::77%{zone}")
+    server.seen.clear()
+    done = run(OPTIONS.program, "connect", "-z", "-v", "both.test", "9", "--resolver", "fe80::77%here",
+               "--timeout", "300ms", timeout=support.TIMEOUT)
+    tell(f"1 address from fe80::77%{number}\n" in done.stderr and server.seen, "he connect asks it", done.stderr)
+    server.seen.clear()
+    with Proxy("--resolver", "fe80::77%here", "--timeout", "300ms", at="127.0.0.1") as proxy:
+        proxy.ask("both.test.", 9, seconds=5)
+        tell(kind_of(server.seen[0][1]) in (A, AAAA) if server.seen else False, "he proxy asks it", proxy.said())
+    done = look_up("both.test", "--resolver", "fe80::77%none")
+    wanted = "he: this machine has no interface as after '%' of the name server: `ip link` lists them\n"
+    tell(done.returncode == 1 and done.stderr == wanted, "an interface that is not there", done.stderr)
+    told = "he: invalid value for '--resolver <RESOLVER>': "
+    for text, why in (("2001:db8::1%here", "2001:db8::1 is not link-local and has no interface: write it without '%'"),
+                      ("fe80::77%", "not an interface after '%'"), ("fe80::77%a/b", "not an interface after '%'"),
+                      ("192.0.2.1%here", "neither an address, alone or with a port or an interface, nor `system`")):
+        lacks("both.test", f"{re.escape(told + why)}\n.*", "--resolver", text, status=2)
 
 
 def serve(row, kinds, options=""):

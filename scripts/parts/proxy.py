@@ -33,10 +33,11 @@ LINE = re.compile(rf"time={INSTANT} client=\S+ host=\S* port=\d+ .*end=.+")
 
 
 class Proxy:
-    """A proxy that runs: its port, the folder of its records, and what it told."""
+    """A proxy that runs: its port, the folder of its records if it keeps any, and what it told."""
 
-    def __init__(self, *words, at=FOUR, limits=None, earlier=()):
+    def __init__(self, *words, at=FOUR, limits=None, earlier=(), keeps=True):
         self.words, self.at, self.port, self.limits, self.earlier = words, at, unused_port(at), limits, earlier
+        self.keeps = keeps
 
     def __enter__(self):
         self.folder = tempfile.TemporaryDirectory()
@@ -45,7 +46,8 @@ class Proxy:
             path = self.records / name
             path.parent.mkdir(parents=True, exist_ok=True)
             path.write_text("race 1\nend\n")
-        words = [HE, "proxy", "--listen", f"{self.at}:{self.port}", "--record", self.records, *self.words]
+        kept = ["--record", self.records] if self.keeps else []
+        words = [HE, "proxy", "--listen", f"{self.at}:{self.port}", *kept, *self.words]
         with open(self.told, "wb") as told:
             self.running = subprocess.Popen([str(word) for word in words], stdin=subprocess.DEVNULL,
                                             stdout=subprocess.DEVNULL, stderr=told, preexec_fn=self.limits)
@@ -193,6 +195,25 @@ def check_takes():
                 transcript = support.replayed(record.read_text())
                 is_right = support.attempts_of(transcript)[-1][1:] == (wanted, "won") and "\nwon " in transcript
                 must(is_right, what, transcript)
+
+
+def check_lines_once():
+    """A file of lines is read once, at the start: each race has these lines, whatever becomes of the file. One that is
+    missing, or that has a wrong line, is told then."""
+    path, lines = OPTIONS.folder / "lines", f"source {FOUR}/8 7\nroute 127.0.0.0/8 7"
+    path.write_text(lines)
+    with Proxy("--host", path) as proxy, serving(greet) as port:
+        path.unlink()
+        got = proxy.ask(FOUR, port, 6)
+        must(got == (0, b"hello\n"), got, repr(proxy.said()))
+        must(comes(lambda: len(proxy.files()) == 1, SOON), "records", proxy.files())
+        record = proxy.files()[0].read_text()
+    must(f"{lines}\n" in record, repr(record))
+    for text in (None, "source here 1\n", "race 1\nend\n"):
+        if text:
+            path.write_text(text)
+        done = support.run(HE, "proxy", "--listen", f"{FOUR}:{unused_port()}", "--host", path, timeout=TIMEOUT)
+        must((done.returncode, done.stderr.count("\n")) == (1, 1) and "--host" in done.stderr, text, done)
 
 
 # Is 15 ms late after each attempt begins, as a busy machine may be; port 9 is that of no attempt.

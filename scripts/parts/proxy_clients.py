@@ -24,6 +24,7 @@ AT_ONCE = 1.0  # seconds within which a client is answered beside others that sa
 SILENT = 1_000  # clients that say nothing
 OTHERS = ("127.0.0.2", "127.0.0.3")  # addresses of this machine from which clients come
 QUARTER = 100  # clients of one address that have asked for nothing
+SETTLES = 2  # seconds within which those that came last have their places
 MOST_HEAD = 8_192  # bytes of a request's head
 MOST_IDLE = 20  # kB of memory of a tunnel on which nothing moves
 SIOCOUTQ = 0x5411
@@ -139,6 +140,18 @@ def check_quarter():
         must(first.recv(1) == b"" and comes(lambda: "end=displaced" in proxy.said(), SOON), proxy.said()[-300:])
         slow.sendall(b"\1\0")
         must(get(slow, 2) == b"\5\0", "the slow client of another address was sent away")
+
+
+@timed
+def check_places():
+    """Of the clients of one address that have asked for nothing a hundred keep their places."""
+    with Proxy("-q") as proxy, contextlib.ExitStack() as held:
+        before = proxy.descriptors()
+        for _ in range(QUARTER + 20):
+            held.enter_context(opened(proxy, OTHERS[0]))
+        comes(lambda: proxy.descriptors() - before >= QUARTER, SOON)
+        time.sleep(SETTLES)
+        must(proxy.descriptors() - before == QUARTER, proxy.descriptors() - before)
 
 
 @timed

@@ -1,21 +1,27 @@
 """Connects through a built program's `he proxy` beside busy streams, with transfers, many sessions at once and under
 faults, and looks at each byte, at how long a reply takes, and at what it leaves open.
 
-With --full these are 10,000 sessions under faults, 1,000 at once, and a day's races.
+needs: curl, microsocks and strace, for single checks. With --full these are 10,000 sessions under faults, 1,000 at
+once, and a day's races.
 """
+import collections
 import contextlib
 import os
+import pathlib
 import random
+import re
 import socket
 import statistics
+import subprocess
 import sys
+import tempfile
 import threading
 import time
 from concurrent.futures import ThreadPoolExecutor
 
 import support
 from parts.proxy import HE, SOON, Proxy, all_of, destination, get, must_close, socks, tunnel
-from support import (FOUR, OPTIONS, NotTried, Zone, comes, digest_of, greet, must, needs, read_all, serving,
+from support import (FOUR, OPTIONS, TIMEOUT, NotTried, Zone, comes, digest_of, greet, must, needs, read_all, serving,
                      set_to_reset, timed, unused_port)
 
 IS_FULL, SETUP = OPTIONS.full, support.NETWORK
@@ -113,6 +119,93 @@ def check_busy():
             middle, told = statistics.median(times), f"beside {streams} streams that curl fetches"
             print(f"    {told}: refused {middle:.0f} ms in the middle, {max(times):.0f} at most")
             must(10 <= min(times) and middle < 10 + slack, told, times)
+
+
+# The processor time of a connection, in that of microsocks. It is 1.2 on a machine of its own, and 1.7 in a sandbox that
+# makes each system call dear; a count of the calls depends on no machine, and bounds them closely.
+MOST_OF_MICROSOCKS = 2.5
+MOST_CALLS = 36  # system calls of the proxy for a connection, of those that are counted; there are 34
+WAITING = {"epoll_wait", "epoll_pwait", "poll", "ppoll", "futex"}
+BATCHES, ROUNDS, EACH = 5, 10, 50  # of connections by one proxy and by the other in turn
+
+
+def processor_seconds(pid):
+    """The processor time of a program, that of its threads which have ended too."""
+    return time.clock_gettime(~pid << 3 | 2)  # (the clock that clock_getcpuclockid(3) gives)
+
+
+@contextlib.contextmanager
+def beside_microsocks():
+    """A proxy and microsocks, each by its process, and what makes many connections by it to an address."""
+    needs("microsocks")
+    other = unused_port()
+    with Proxy("-q", keeps=False) as proxy, serving(greet) as port, \
+            support.server_at(other, "microsocks", "-i", FOUR, "-p", other) as microsocks:
+        def connect_by(at):
+            for _ in range(EACH):
+                with socket.create_connection((FOUR, at), timeout=TIMEOUT) as client:
+                    got = socks(client, FOUR, port), get(client, 6)
+                must(got == (0, b"hello\n"), at, got)
+
+        yield [(proxy.running.pid, lambda: connect_by(proxy.port)), (microsocks.pid, lambda: connect_by(other))]
+
+
+@timed
+def check_processor():
+    """A new connection to an address takes little more of the processor than by microsocks, which does not race."""
+    with beside_microsocks() as programs:
+        def used(pid, connect):
+            before = processor_seconds(pid)
+            connect()
+            return processor_seconds(pid) - before
+
+        def batch():
+            pairs = [[used(*program) for program in programs] for _ in range(ROUNDS)]
+            return [1e6 * sum(seconds) / (ROUNDS * EACH) for seconds in zip(*pairs)]
+
+        # (other programs add to one or the other: the best of the batches counts)
+        own, others = min((batch() for _ in range(BATCHES)), key=lambda times: times[0] / times[1])
+    told = f"{own:.0f} us of the processor a connection, by microsocks {others:.0f}"
+    print(f"    {told}")
+    must(own <= MOST_OF_MICROSOCKS * others, told)
+
+
+def calls_of(pid, connect):
+    """The system calls of a program for each of the connections, but for those that get memory, that wait, and that
+    find nothing."""
+    def held():
+        return len(os.listdir(f"/proc/{pid}/fd"))
+
+    def whole():
+        connect()
+        must(comes(lambda: held() <= before, SOON), f"{held()} descriptors are open, before {before}")
+
+    before = held()
+    whole()  # (what it does but once is over)
+    with tempfile.NamedTemporaryFile("r") as calls:
+        words = ["strace", "-f", "-qq", "-o", calls.name, "-e", f"trace=!{support.MEMORY}", "-p", str(pid)]
+        with subprocess.Popen(words, stderr=subprocess.DEVNULL) as tracing:
+            status = pathlib.Path(f"/proc/{pid}/status")
+            if not comes(lambda: tracing.poll() is not None or "TracerPid:\t0\n" not in status.read_text(), SOON) \
+                    or tracing.poll() is not None:
+                raise NotTried("strace may not trace here")
+            try:
+                whole()
+            finally:
+                tracing.terminate()
+        lines = [line for line in calls.read().splitlines() if not line.endswith("(Resource temporarily unavailable)")]
+    names = re.findall(r"(?m)^\d+ +(\w+)\(", "\n".join(lines))
+    return collections.Counter(name for name in names if name not in WAITING)
+
+
+def check_few_calls():
+    """It takes few system calls, on any machine as many."""
+    needs("strace")
+    with beside_microsocks() as programs:
+        own, others = (calls_of(*program) for program in programs)
+    told = f"{own.total() / EACH:.1f} system calls a connection, by microsocks {others.total() / EACH:.1f}"
+    print(f"    {told}")
+    must(own.total() <= MOST_CALLS * EACH, told, own)
 
 
 def check_transfers():

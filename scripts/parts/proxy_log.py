@@ -14,7 +14,7 @@ import unittest.mock
 from concurrent.futures import ThreadPoolExecutor
 
 import support
-from parts.proxy import ALL, RECORD, SOON, Proxy, all_of, socks
+from parts.proxy import ALL, RECORD, SOON, Proxy, all_of, echo, socks
 from support import DEAD_FOUR, DEAD_SIX, FOUR, OPTIONS, Zone, comes, greet, must, needs, run, serving, silent, timed, unused_port
 
 HE = OPTIONS.program
@@ -26,6 +26,11 @@ MOST_REMOVED = 4  # records that one connection removes at most
 def facts(line):
     """What a line of text says, of whose values none has a space."""
     return dict(word.split("=", 1) for word in line.split(" "))
+
+
+def log_lines(proxy):
+    """The lines of its log, as text or as JSON; not what it says of itself."""
+    return [line for line in proxy.said().splitlines() if not line.startswith("he: ")]
 
 
 def said_of(proxy, host, port):
@@ -81,6 +86,19 @@ def check_facts():
             must(said["record"].startswith(f"{stamp}-{host}-{port}"), said)
 
 
+@timed
+def check_own_facts():
+    """Of two sessions at once each has the facts of its own race in its line, whichever ends first."""
+    with Proxy() as proxy, serving(echo) as port, proxy.connect() as first, proxy.connect() as second:
+        for client, host in ((first, "four.test"), (second, "dead6.test")):
+            must(socks(client, host, port) == 0, host, proxy.said())
+        for number, client, host in ((1, second, "dead6.test"), (2, first, "four.test")):
+            client.close()
+            must(comes(lambda: len(proxy.lines()) == number, SOON), number, proxy.said())
+            said = facts(proxy.lines()[-1])
+            must(said["host"] == host and f"-{host}-{port}" in said["record"], host, said)
+
+
 FAULTS = [  # what is asked for, the reply of SOCKS, and the word for it
     ("a..b", 4, "not-a-name"), ("refused.test", 5, "all-failed"),
     ("dead.test", 4, "timed-out"), ("203.0.113.9", 3, "no-network"), ("itself", 2, "forbidden"),
@@ -132,10 +150,8 @@ def check_strange_names():
                 with proxy.connect(SOON) as client:
                     client.sendall(b"\5\1\0\5\1\0\3" + bytes([len(name)]) + name + struct.pack(">H", 80))
                     all_of(client)
-            def told():
-                return [line for line in proxy.said().splitlines() if not line.startswith("he: ")]
-            comes(lambda: len(told()) >= len(NAMES), SOON)
-            lines = told()
+            comes(lambda: len(log_lines(proxy)) >= len(NAMES), SOON)
+            lines = log_lines(proxy)
             must(len(lines) == len(NAMES), words, lines)
             for line, name in zip(lines, NAMES):
                 if words:
@@ -145,15 +161,34 @@ def check_strange_names():
                     must(re.fullmatch(r'(\w+=("([^"\\]|\\.)*"|[^\s"\\]*) ?)+', line), line)
 
 
+# A request, its status, and the method, the target and the end that its line has in the log.
+REQUESTS = (
+    (b"GET /proxy.pac?x=1 HTTP/1.1", b"200", "GET", "/proxy.pac?x=1", "page"),
+    (b"HEAD /proxy.pac HTTP/1.1", b"200", "HEAD", "/proxy.pac", "page"),
+    (b"GET /no/page HTTP/1.1", b"501", "GET", "/no/page", "page"),
+    (b"GET http://example.org/ HTTP/1.1", b"501", "GET", "http://example.org/", "page"),
+    (b"POST / HTTP/1.1", b"501", "POST", "/", "refused"),
+    (b"BREW /%s HTTP/1.1" % (b"x" * 300), b"501", "BREW", "/" + "x" * 255, "refused"),
+    (b'GET /a"b\\c HTTP/1.1', b"501", "GET", '/a"b\\c', "page"),
+    (b"GET /\xff HTTP/1.1", b"400", "GET", "/\ufffd", "refused"),
+)
+
+
 def check_target():
-    """A page that is asked for, and one that there is not, has its line with the method and the target."""
-    with Proxy() as proxy:
-        for target, status in (("/proxy.pac?x=1", b"200"), ("/no/page", b"501")):
-            got = proxy.answer(f"GET {target} HTTP/1.1\r\nHost: {FOUR}:{proxy.port}\r\n\r\n".encode())
-            must(got.split(b" ", 2)[1] == status, target, got[:80])
-        must(comes(lambda: len(proxy.lines()) == 2, SOON), proxy.said())
-        for line, target in zip(proxy.lines(), ("/proxy.pac?x=1", "/no/page")):
-            must(f" method=GET target={target} " in line and line.endswith(" end=page"), line)
+    """A page that is asked for, and a request that is refused, has its line with the method and the target."""
+    for words in ((), ("--log-json",)):
+        with Proxy(*words) as proxy:
+            for line, status, *_ in REQUESTS:
+                got = proxy.answer(line + b"\r\nHost: %s:%d\r\n\r\n" % (FOUR.encode(), proxy.port))
+                must(got.split(b" ", 2)[1] == status, line, got[:80])
+            must(comes(lambda: len(log_lines(proxy)) == len(REQUESTS), SOON), proxy.said())
+            for line, (_, _, method, target, end) in zip(log_lines(proxy), REQUESTS):
+                if words:
+                    read = json.loads(line)
+                    must((read["method"], read["target"], read["end"]) == (method, target, end), line)
+                else:
+                    plain = json.dumps(target) if re.search(r'["\\]', target) else target
+                    must(f" method={method} target={plain} " in line and line.endswith(f" end={end}"), line)
 
 
 # The records
@@ -258,9 +293,8 @@ def check_spoiled_again():
     for text, aside in (("one\n", "again.not-history"), ("two\n", "again.not-history-2")):
         path.write_text(text)
         with Proxy("--history", path) as proxy:
-            must(comes(lambda: (OPTIONS.folder / aside).exists(), SOON), proxy.said())
-            must((OPTIONS.folder / aside).read_text() == text and f" {OPTIONS.folder / aside}\n" in proxy.said(),
-                 aside, proxy.said())
+            must(comes(lambda: f" {OPTIONS.folder / aside}\n" in proxy.said(), SOON), aside, proxy.said())
+            must((OPTIONS.folder / aside).read_text() == text, aside)
     must((OPTIONS.folder / "again.not-history").read_text() == "one\n", "the first one is replaced")
 
 
