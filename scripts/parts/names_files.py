@@ -145,6 +145,8 @@ def check_silent_once():
     dead, good = server_at("127.140.0.1", "dead"), server_at("127.140.0.2")
     SETTINGS.write_text("nameserver 127.140.0.1\nnameserver 127.140.0.2\nsearch a.x b.x c.x test\n")
     finds("both", [V6], [V4], ticks=lambda v6, v4: ALONE <= min(v6, v4) and max(v6, v4) < 2 * ALONE)
+    # (the silent server may still have the last query to read when the program ends)
+    support.comes(lambda: len(dead.asked()) == 4, 2)
     tell(len(dead.asked()) == 4 and dead.asked() == good.asked(), "each is asked", dead.asked(), good.asked())
 
 
