@@ -1,4 +1,2 @@
-mod Asked
-mod InRows
+mod Drawn
 mod Named
-mod Showing

@@ -1,18 +1,17 @@
 -- What the line of a proxy asks for, by what clap found of its words.
-use Rattle.std.specs.Prelude.{◌≡◌, ◌⊎◌, ◌<◌, ◌+◌, ◌-◌, ◌/◌, Bool, true, false, List, [], ◌∷◌, ℕ, Option, Result, codes, option_map}
+use Rattle.std.specs.Prelude.{◌≡◌, ◌⊎◌, ◌<◌, ◌+◌, ◌-◌, ◌/◌, Bool, true, false, List, [], ◌∷◌, ℕ, Result, codes, option_map}
 use Rattle.std.specs.Net.Grammar.{IsSocketText}
 use Rattle.std.specs.Net.Socket.{socket_port}
 use Rattle.std.specs.declared.net.socket_addr.SocketAddr.{SocketAddr}
 use Rattle.clap.specs.Matches.{first_value}
 use Rattle.clap.specs.declared.parser.matches.Found.{Found}
 use Rattle.he_addr.specs.Text.{SpellsPrefix}
-use Rattle.he_addr.specs.Prefix.{PrefixBits}
 use Rattle.he_timeline.specs.Changes.{ChangeValues}
 use Rattle.he_request.specs.Requests.{AsksFamily}
-use Rattle.he_request.specs.Resolvers.{AsksResolver}
-use Rattle.he_request.specs.Times.{time_of}
-use Rattle.he_request.specs.Words.{AsksChanges, HasFlag, HasNumber, connect_settings, values_of}
-use Rattle.he_request.specs.declared.limits.TheConstants.{SECOND}
+use Rattle.he_options.specs.Resolvers.{AsksResolver}
+use Rattle.he_options.specs.Times.{time_of}
+use Rattle.he_options.specs.Words.{AsksChanges, HasFlag, HasNumber, connect_settings, values_of}
+use Rattle.he_options.specs.declared.limits.TheConstants.{SECOND}
 use Rattle.he_request.specs.declared.proxy.Proxy.{Proxy}
 use Rattle.he_request.specs.declared.proxy.SessionLog.{SessionLog}
 use Rattle.he_request.specs.declared.proxy.SessionLog.TheVariants as logs

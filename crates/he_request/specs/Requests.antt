@@ -1,70 +1,36 @@
 -- What a line asks for, by what clap found of its words.
-use Rattle.std.specs.Prelude.{◌≡◌, ◌≤◌, ◌||◌, ℕ, Bool, true, false, List, [], Option, Some, None, Result, codes, if◌then◌else◌, is_some, length, map, max, min, option_map, string_bytes}
+use Rattle.std.specs.Prelude.{◌≡◌, ℕ, Bool, true, false, List, [], Option, Some, None, Result, codes, if◌then◌else◌, is_some, map, max, min, option_map, string_bytes}
 use Rattle.std.specs.Option.{unwrap_or}
 use Rattle.std.specs.Str.{bytes_eq}
 use Rattle.clap.specs.Matches.{first_value}
-use Rattle.clap.specs.declared.error.Error.{Error}
-use Rattle.clap.specs.declared.error.kind.ErrorKind.{ErrorKind}
-use Rattle.clap.specs.declared.error.kind.ErrorKind.TheVariants as kinds
 use Rattle.clap.specs.declared.parser.matches.Found.{Found}
 use Rattle.he_addr.specs.declared.ip.Family.{Family}
 use Rattle.he_addr.specs.declared.ip.Family.TheVariants as families
 use Rattle.he_timeline.specs.Changes.{ChangeValues}
-use Rattle.he_request.specs.Ports.{IsPort, NamesPort}
-use Rattle.he_request.specs.Resolvers.{AsksResolver}
-use Rattle.he_request.specs.Rows.{AreRows, labels_of}
-use Rattle.he_request.specs.Words.{AsksChanges, HasFlag, HasNumber, connect_settings, values_of}
+use Rattle.he_options.specs.Ports.{IsPort, NamesPort}
+use Rattle.he_options.specs.Resolvers.{AsksResolver}
+use Rattle.he_options.specs.Rows.{AreRows, labels_of}
+use Rattle.he_options.specs.Texts.{AsksTexts, IsTexts}
+use Rattle.he_options.specs.Words.{AsksChanges, HasFlag, HasNumber, connect_settings, values_of}
 use Rattle.he_request.specs.declared.connect.Connection.{Connection}
-use Rattle.he_request.specs.declared.limits.TheConstants.{DEFAULT_WORKERS, LEAST_WORKERS, MOST_FILES, MOST_WORKERS}
+use Rattle.he_options.specs.declared.limits.TheConstants.{DEFAULT_WORKERS}
 use Rattle.he_request.specs.declared.live.Live.{Live}
-use Rattle.he_request.specs.declared.refusal.Refusal.{Refusal}
-use Rattle.he_request.specs.declared.refusal.Refusal.TheVariants as refusals
 use Rattle.he_request.specs.declared.request.Request.{Request}
 use Rattle.he_request.specs.declared.request.Request.TheVariants as requests
-use Rattle.he_request.specs.declared.texts.By.{By}
-use Rattle.he_request.specs.declared.texts.By.TheVariants as by
-use Rattle.he_request.specs.declared.texts.Content.{Content}
-use Rattle.he_request.specs.declared.texts.Content.TheVariants as contents
-use Rattle.he_request.specs.declared.texts.Task.{Task}
-use Rattle.he_request.specs.declared.texts.Task.TheVariants.{Write, Compare, Check, Group, Summarize}
-use Rattle.he_request.specs.declared.texts.Texts.{Texts}
-
--- the number of workers, where there are any, is in its range
-abbrev pub HasTaskWorkers : Task → Type 0
-HasTaskWorkers (Write content workers) = (LEAST_WORKERS ≤ workers) × (workers ≤ MOST_WORKERS)
-HasTaskWorkers _ = Unit {0}
+use Rattle.he_options.specs.declared.texts.By.{By}
+use Rattle.he_options.specs.declared.texts.By.TheVariants as by
+use Rattle.he_options.specs.declared.texts.Content.{Content}
+use Rattle.he_options.specs.declared.texts.Content.TheVariants as contents
+use Rattle.he_options.specs.declared.texts.Task.{Task}
+use Rattle.he_options.specs.declared.texts.Task.TheVariants.{Write, Compare, Check, Group, Summarize}
+use Rattle.he_options.specs.declared.texts.Texts.{Texts}
 
 -- the numbers of a request are in their ranges
-abbrev pub IsTexts : Texts → Type 0
-IsTexts texts = HasTaskWorkers texts.task × (length texts.files.items ≤ MOST_FILES)
-
 abbrev pub IsRequest : Request → Type 0
 IsRequest (requests.Texts texts) = IsTexts texts
 IsRequest (requests.Live live) = IsPort live.port
 IsRequest (requests.Connect connection) = IsPort connection.port
 IsRequest _ = Unit {0}
-
--- what is said of a line that clap does not take
-abbrev pub refusal_by : ErrorKind → Error → Refusal
-refusal_by kinds.OutOfMemory error = refusals.Memory
-refusal_by kinds.DisplayHelp error = refusals.Help error
-refusal_by kinds.DisplayVersion error = refusals.Help error
-refusal_by kind error = refusals.Words error
-
--- whether a task tells each fault of a text, and so goes on after one
-abbrev pub tells_faults : Task → Bool
-tells_faults (Check is_all json) = is_all
-tells_faults _ = false
-
--- the files of the line, with its settings, of which each race has those in place of its own, and the file of a page
-pub record AsksTexts (found : Found) (task : Task) (page : Option (List ℕ)) (texts : Texts) : Type 0 where
-  pub task_is : texts.task ≡ task
-  pub changes : AsksChanges found texts.changes
-  pub files : map (λ file. file.now) texts.files.items ≡ values_of found (codes "file")
-  pub page_is : option_map (λ path. path.now) texts.page ≡ page
-  pub keep_going : Bool
-  pub keeps : HasFlag found (codes "keep-going") keep_going
-  pub goes : texts.goes_on ≡ (keep_going || tells_faults task)
 
 -- a transcript, as JSON or not, by so many workers
 abbrev pub AsksReplay : {E : Type 0} → (List ℕ → Result ℕ E → Type 0) → Found → Task → Type 0

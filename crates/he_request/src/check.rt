@@ -2,10 +2,11 @@
 ghost use Rattle.clap.specs.Matches.{found_of};
 ghost use Rattle.he_request.specs.Requests.{AsksCheck};
 
-use crate::arguments::{FILES_HELP, files, flag, flag_of, plain};
-use crate::texts::Task;
 use clap::{ArgMatches, Command};
-use std::alloc::{AllocError, Global};
+use he_addr::Memory;
+use he_options::Task;
+use he_options::arguments::{FILES_HELP, files, flag, flag_of, plain};
+use std::alloc::Global;
 
 const ABOUT: &str = "Check timelines, and explain their faults";
 
@@ -25,9 +26,9 @@ meant, such as a race without an `aaaa` line, which cannot be exhausted.
 Otherwise standard output has nothing, and standard error has the first fault:
 its line number and text, a mark below what is wrong, and what was expected.
 Nothing after it is read. With --all it goes on at the next line `race 1` or
-`race 2`, explains the first 1000 faults of a file, counts the others, and goes
-on with the next file. With --json standard output has all of that instead: the
-races, lines and warnings of a file, or its faults.
+`race 2` or record line, explains the first 1000 faults of a file, counts the
+others, and goes on with the next file. With --json standard output has all of
+that instead: the races, lines and warnings of a file, or its faults.
 
 Example input:
 
@@ -42,7 +43,7 @@ Standard error for it:
                 ^
   the attempt delay is 10 to 2000 milliseconds";
 
-pub(crate) fn command<'a>(alloc: Global) -> Result<Command<'a>, AllocError> {
+pub(crate) fn command<'a>(alloc: Global) -> Result<Command<'a>, Memory> {
     let args = vec![in alloc;
         files(alloc, FILES_HELP),
         flag(alloc, "all", ALL_HELP),

@@ -1,15 +1,16 @@
 //! `he compare`.
 ghost use Rattle.std.specs.Prelude.{◌≡◌, IfOk};
 ghost use Rattle.clap.specs.Matches.{found_of};
-ghost use Rattle.he_request.specs.Requests.{AsksComparison, IsTexts};
+ghost use Rattle.he_request.specs.Requests.{AsksComparison};
+ghost use Rattle.he_options.specs.Texts.{IsTexts};
 
-use crate::arguments::{FILES_HELP, files, files_of, flag, flag_of, plain, value, verbose};
-use crate::refusal::Refusal;
-use crate::rows::rows_of;
-use crate::texts::{Task, Texts};
 use clap::{ArgAction, ArgMatches, Command};
+use he_addr::Memory;
+use he_options::arguments::{FILES_HELP, files, files_of, flag, flag_of, plain, value, verbose};
+use he_options::rows::rows_of;
+use he_options::{Refusal, Task, Texts};
 use he_timeline::Changes;
-use std::alloc::{AllocError, Global};
+use std::alloc::Global;
 
 const ABOUT: &str = "Write what other settings would do to races";
 
@@ -42,7 +43,7 @@ For the example of `he draw --help`, --set floor=10,200 gives:
 A floor above the attempt delay of a race changes nothing: the delay ends first.
 An address without a connect line is silent with other settings too.";
 
-pub(crate) fn command<'a>(alloc: Global) -> Result<Command<'a>, AllocError> {
+pub(crate) fn command<'a>(alloc: Global) -> Result<Command<'a>, Memory> {
     let set = value(alloc, "set", "NAME=N,..", SET_HELP)
         .action(ArgAction::Append)
         .required(true);

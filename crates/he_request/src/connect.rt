@@ -2,19 +2,19 @@
 ghost use Rattle.std.specs.Prelude.{◌≡◌, [], IfOk, codes, option_map};
 ghost use Rattle.std.specs.Option.{unwrap_or};
 ghost use Rattle.clap.specs.Matches.{first_value, found_of};
-ghost use Rattle.he_request.specs.Ports.{IsPort};
+ghost use Rattle.he_options.specs.Ports.{IsPort};
 ghost use Rattle.he_request.specs.Requests.{AsksConnection, AsksFamily};
 
-use crate::arguments::{STANDARD, flag, flag_of, letter, plain, value, word};
-use crate::limits::MOST_WAIT;
-use crate::port::{Port, port_of};
-use crate::refusal::OptionFault;
-use crate::resolver::{Resolver, resolver_argument, resolver_of};
-use crate::settings::{changes_of, set, settings_of, timeout};
 use clap::{ArgMatches, Command, value_parser};
-use he_addr::Family;
+use he_addr::{Family, Memory};
+use he_options::arguments::{flag, flag_of, letter, plain, value, word};
+use he_options::limits::MOST_WAIT;
+use he_options::port::port_of;
+use he_options::resolver::{resolver_argument, resolver_of};
+use he_options::settings::{changes_of, set, settings_of, timeout};
+use he_options::{OptionFault, Port, Resolver, STANDARD};
 use he_timeline::Settings;
-use std::alloc::{AllocError, Global};
+use std::alloc::Global;
 use std::str::FromStr;
 
 const ABOUT: &str = "Connect to a host, and relay standard input and output";
@@ -70,7 +70,7 @@ that is not a service.";
 
 // Its arguments, in the order in which help has them. They are made in one list: a chain of `arg`, each of which may
 // be refused memory, takes minutes to prove.
-pub(crate) fn command<'a>(alloc: Global) -> Result<Command<'a>, AllocError> {
+pub(crate) fn command<'a>(alloc: Global) -> Result<Command<'a>, Memory> {
     let six = letter(alloc, "six", '6', "Try IPv6 addresses alone").conflicts_with("four")?;
     let wait = value(alloc, "wait", "MS", WAIT_HELP);
     let args = vec![in alloc;

@@ -1,17 +1,19 @@
 //! `he draw`.
 ghost use Rattle.std.specs.Prelude.{◌≡◌, IfOk, option_map};
 ghost use Rattle.clap.specs.Matches.{found_of};
-ghost use Rattle.he_request.specs.Requests.{AsksDrawing, IsDrawn, IsTexts, page_of};
+ghost use Rattle.he_request.specs.Requests.{AsksDrawing, IsDrawn, page_of};
+ghost use Rattle.he_options.specs.Texts.{IsTexts};
 
-use crate::arguments::{
-    HEADED_FILES_HELP, STANDARD, files, flag, flag_of, number_of, plain, value, verbose,
-};
-use crate::limits::{LEAST_WIDTH, MOST_WIDTH};
-use crate::refusal::{OptionFault, Refusal};
-use crate::settings::set;
-use crate::texts::{Content, Texts, alone, texts_of};
 use clap::{Arg, ArgMatches, Command, value_parser};
-use std::alloc::{AllocError, Global};
+use he_addr::Memory;
+use he_options::arguments::{
+    HEADED_FILES_HELP, files, flag, flag_of, number_of, plain, value, verbose,
+};
+use he_options::limits::{LEAST_WIDTH, MOST_WIDTH};
+use he_options::settings::set;
+use he_options::texts::{alone, texts_of};
+use he_options::{Content, OptionFault, Refusal, STANDARD, Texts};
+use std::alloc::Global;
 use std::str::FromStr;
 
 const ABOUT: &str = "Draw a picture of each race, or a page of all races";
@@ -52,7 +54,7 @@ Output of `he draw --ascii --width 72`:
   198.51.100.1  |                                   ====*| 270-300 ms won
                  0                                 300 ms";
 
-pub(crate) fn command<'a>(alloc: Global) -> Result<Command<'a>, AllocError> {
+pub(crate) fn command<'a>(alloc: Global) -> Result<Command<'a>, Memory> {
     let range = i64::from(LEAST_WIDTH)..=i64::from(MOST_WIDTH);
     let width = value(alloc, "width", "N", WIDTH_HELP).value_parser(value_parser!(u16).range(
         range,
@@ -74,7 +76,7 @@ pub(crate) fn command<'a>(alloc: Global) -> Result<Command<'a>, AllocError> {
 }
 
 // An option that no option of pictures in lines stands beside.
-fn alone_of(option: Arg<'_>) -> Result<Arg<'_>, AllocError> {
+fn alone_of(option: Arg<'_>) -> Result<Arg<'_>, Memory> {
     option.conflicts_with("ascii")?.conflicts_with("width")
 }
 

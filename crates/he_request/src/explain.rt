@@ -2,11 +2,13 @@
 ghost use Rattle.clap.specs.Matches.{found_of};
 ghost use Rattle.he_request.specs.Requests.{AsksExplain};
 
-use crate::arguments::{HEADED_FILES_HELP, files, flag_of, json, plain, verbose};
-use crate::settings::set;
-use crate::texts::{Content, Task, alone};
 use clap::{ArgMatches, Command};
-use std::alloc::{AllocError, Global};
+use he_addr::Memory;
+use he_options::arguments::{HEADED_FILES_HELP, files, flag_of, json, plain, verbose};
+use he_options::settings::set;
+use he_options::texts::alone;
+use he_options::{Content, Task};
+use std::alloc::Global;
 
 const ABOUT: &str = "Explain why races went as they did";
 
@@ -34,7 +36,7 @@ For the example of `he replay --help` it writes:
     55 ms  attempt 1 connected after 35 ms
   no address of the A answer was tried";
 
-pub(crate) fn command<'a>(alloc: Global) -> Result<Command<'a>, AllocError> {
+pub(crate) fn command<'a>(alloc: Global) -> Result<Command<'a>, Memory> {
     let args = vec![in alloc;
         files(alloc, HEADED_FILES_HELP),
         set(alloc),

@@ -1,10 +1,10 @@
 //! `he host`.
 
-use crate::arguments::{flag, flag_of, plain, value};
-use crate::refusal::{OptionFault, Refusal};
 use clap::{ArgAction, ArgMatches, Command};
-use he_addr::{Ip, read_ip};
-use std::alloc::{AllocError, Global};
+use he_addr::{Ip, Memory, read_ip};
+use he_options::arguments::{flag, flag_of, plain, value};
+use he_options::{OptionFault, Refusal};
+use std::alloc::Global;
 
 const ABOUT: &str = "Write the addresses and routes of this machine as lines of a race";
 
@@ -53,7 +53,7 @@ To make a race of it, and to run that:
     > race.timeline
   he live --port 8080 < race.timeline";
 
-pub(crate) fn command<'a>(alloc: Global) -> Result<Command<'a>, AllocError> {
+pub(crate) fn command<'a>(alloc: Global) -> Result<Command<'a>, Memory> {
     let destinations = value(alloc, "for", "ADDRESS", FOR_HELP)
         .num_args(1..)
         .action(ArgAction::Append);

@@ -1,17 +1,18 @@
 //! `he live`.
 ghost use Rattle.std.specs.Prelude.{IfOk};
 ghost use Rattle.clap.specs.Matches.{found_of};
-ghost use Rattle.he_request.specs.Ports.{IsPort};
+ghost use Rattle.he_options.specs.Ports.{IsPort};
 ghost use Rattle.he_request.specs.Requests.{AsksLive};
 
-use crate::arguments::{STANDARD, flag, flag_of, plain, value, word};
 use crate::connect::record_of;
-use crate::port::{Port, port_of};
-use crate::refusal::OptionFault;
-use crate::settings::{changes_of, set, timeout};
 use clap::{ArgMatches, Command};
+use he_addr::Memory;
+use he_options::arguments::{flag, flag_of, plain, value, word};
+use he_options::port::port_of;
+use he_options::settings::{changes_of, set, timeout};
+use he_options::{OptionFault, Port, STANDARD};
 use he_timeline::Changes;
-use std::alloc::{AllocError, Global};
+use std::alloc::Global;
 
 const ABOUT: &str = "Run one race on real sockets, and write what happened";
 
@@ -65,7 +66,7 @@ An attempt that this machine could not begin is reported without -v too:
 Exit status: 0 whether or not a connection was made, but 3 with --must-connect
 if none was; 1 after a fault; 2 for a line that is refused.";
 
-pub(crate) fn command<'a>(alloc: Global) -> Result<Command<'a>, AllocError> {
+pub(crate) fn command<'a>(alloc: Global) -> Result<Command<'a>, Memory> {
     let args = vec![in alloc;
         word(alloc, "file", "FILE", FILE_HELP),
         value(alloc, "port", "PORT", PORT_HELP).required(true),

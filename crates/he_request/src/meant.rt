@@ -1,7 +1,7 @@
 //! What a line of `he connect` means, where HOST and PORT are not two words of it.
 
-use crate::port::read_port;
-use crate::refusal::Refusal;
+use he_options::Refusal;
+use he_options::port::read_port;
 use std::alloc::Global;
 
 // The options of `he connect` that a value follows.

@@ -1,10 +1,11 @@
 //! `he names`.
 
-use crate::arguments::{flag, flag_of, plain, word};
-use crate::refusal::OptionFault;
-use crate::resolver::{Resolver, resolver_argument, resolver_of};
 use clap::{ArgMatches, Command};
-use std::alloc::{AllocError, Global};
+use he_addr::Memory;
+use he_options::arguments::{flag, flag_of, plain, word};
+use he_options::resolver::{resolver_argument, resolver_of};
+use he_options::{OptionFault, Resolver};
+use std::alloc::Global;
 
 const ABOUT: &str = "Find the addresses of a host, as the answers of a race";
 
@@ -39,7 +40,7 @@ millisecond: which server answered, failed, or did not answer in time.
 Exit status: 0 if an address was found and no look-up failed; 1 after a fault,
 such as a name that does not exist; 2 for a command line that is refused.";
 
-pub(crate) fn command<'a>(alloc: Global) -> Result<Command<'a>, AllocError> {
+pub(crate) fn command<'a>(alloc: Global) -> Result<Command<'a>, Memory> {
     let host = word(alloc, "host", "HOST", HOST_HELP).required(true);
     let verbose = flag(alloc, "verbose", "Report what happens in the look-up").short('v');
     let json = flag(

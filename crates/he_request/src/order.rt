@@ -2,10 +2,12 @@
 ghost use Rattle.clap.specs.Matches.{found_of};
 ghost use Rattle.he_request.specs.Requests.{AsksOrder};
 
-use crate::arguments::{FILES_HELP, files, flag_of, json, plain, verbose};
-use crate::texts::{Content, Task, alone};
 use clap::{ArgMatches, Command};
-use std::alloc::{AllocError, Global};
+use he_addr::Memory;
+use he_options::arguments::{FILES_HELP, files, flag_of, json, plain, verbose};
+use he_options::texts::alone;
+use he_options::{Content, Task};
+use std::alloc::Global;
 
 const ABOUT: &str = "Write the addresses of each race in their order of preference";
 
@@ -30,7 +32,7 @@ Its output:
   1 2001:db8:1::1 from none
   end";
 
-pub(crate) fn command<'a>(alloc: Global) -> Result<Command<'a>, AllocError> {
+pub(crate) fn command<'a>(alloc: Global) -> Result<Command<'a>, Memory> {
     let args = vec![in alloc; files(alloc, FILES_HELP), json(alloc), verbose(alloc)]?;
     plain(alloc, "order", ABOUT, EXAMPLE, args)
 }

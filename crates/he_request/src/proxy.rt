@@ -4,20 +4,20 @@ ghost use Rattle.clap.specs.Matches.{first_value, found_of};
 ghost use Rattle.he_addr.specs.Text.{SpellsPrefix};
 ghost use Rattle.he_request.specs.Proxies.{AreNamed, AsksProxy, NamesAddress, NamesNoAddress, log_of};
 ghost use Rattle.he_request.specs.Proxies.{whole_seconds};
-ghost use Rattle.he_request.specs.Times.{time_of};
-ghost use Rattle.he_request.specs.declared.limits.TheConstants.{MOST_IDLE, SECOND};
+ghost use Rattle.he_options.specs.Times.{time_of};
+ghost use Rattle.he_options.specs.declared.limits.TheConstants.{MOST_IDLE, SECOND};
 
-use crate::arguments::{flag, flag_of, letter, plain, value, values_of};
 use crate::connect::{LINES_HELP, family_of, record_of};
-use crate::limits::{MOST_IDLE, MOST_RECORDS, MOST_SESSIONS, SECOND};
-use crate::refusal::{OptionFault, Refusal};
-use crate::resolver::{Resolver, resolver_of};
-use crate::settings::{changes_of, set, settings_of, timeout};
-use crate::time::time_of;
 use clap::{ArgAction, ArgMatches, Command, value_parser};
-use he_addr::{Family, Prefix, read_prefix};
+use he_addr::{Family, Memory, Prefix, read_prefix};
+use he_options::arguments::{flag, flag_of, letter, plain, value, values_of};
+use he_options::limits::{MOST_IDLE, MOST_RECORDS, MOST_SESSIONS, SECOND};
+use he_options::resolver::resolver_of;
+use he_options::settings::{changes_of, set, settings_of, timeout};
+use he_options::time::time_of;
+use he_options::{OptionFault, Refusal, Resolver};
 use he_timeline::Settings;
-use std::alloc::{AllocError, Global};
+use std::alloc::Global;
 use std::net::SocketAddr;
 use std::str::FromStr;
 
@@ -89,7 +89,7 @@ Exit status: 1 after a fault, as where an address is taken; 2 for a line that is
 refused. It goes on until a signal ends it.";
 
 // Its arguments, in the order in which help has them.
-pub(crate) fn command<'a>(alloc: Global) -> Result<Command<'a>, AllocError> {
+pub(crate) fn command<'a>(alloc: Global) -> Result<Command<'a>, Memory> {
     let six = letter(alloc, "six", '6', "Try IPv6 addresses alone").conflicts_with("four")?;
     let quiet = flag(alloc, "quiet", "Write no line for a session")
         .short('q')

@@ -1,13 +1,15 @@
 //! `he replay`.
 ghost use Rattle.clap.specs.Matches.{found_of};
-ghost use Rattle.he_request.specs.Requests.{AsksReplay, HasTaskWorkers};
+ghost use Rattle.he_request.specs.Requests.{AsksReplay};
+ghost use Rattle.he_options.specs.Texts.{HasTaskWorkers};
 
-use crate::arguments::{FILES_HELP, files, flag_of, json, number_of, plain, value, verbose};
-use crate::limits::{DEFAULT_WORKERS, DEFAULT_WORKERS_TEXT, LEAST_WORKERS, MOST_WORKERS};
-use crate::settings::set;
-use crate::texts::{Content, Task};
 use clap::{ArgMatches, Command, value_parser};
-use std::alloc::{AllocError, Global};
+use he_addr::Memory;
+use he_options::arguments::{FILES_HELP, files, flag_of, json, number_of, plain, value, verbose};
+use he_options::limits::{DEFAULT_WORKERS, DEFAULT_WORKERS_TEXT, LEAST_WORKERS, MOST_WORKERS};
+use he_options::settings::set;
+use he_options::{Content, Task};
+use std::alloc::Global;
 use std::str::FromStr;
 
 const ABOUT: &str = "Replay the races of timelines, and write what happens in them";
@@ -39,7 +41,7 @@ Its output:
   attempt 0 20 2001:db8:1::1 won 55
   won 0 55";
 
-pub(crate) fn command<'a>(alloc: Global) -> Result<Command<'a>, AllocError> {
+pub(crate) fn command<'a>(alloc: Global) -> Result<Command<'a>, Memory> {
     let workers = value(alloc, "workers", "N", WORKERS_HELP)
         .value_parser(value_parser!(u16).range(i64::from(LEAST_WORKERS)..=i64::from(MOST_WORKERS)))
         .default_value(DEFAULT_WORKERS_TEXT);

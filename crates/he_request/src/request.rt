@@ -1,6 +1,7 @@
 //! What a command line asks for.
 ghost use Rattle.std.specs.Prelude.{IfOk};
-ghost use Rattle.he_request.specs.Requests.{HasTaskWorkers, IsRequest};
+ghost use Rattle.he_options.specs.Texts.{HasTaskWorkers};
+ghost use Rattle.he_request.specs.Requests.{IsRequest};
 
 use crate::connect::Connection;
 use crate::host::Host;
@@ -8,13 +9,14 @@ use crate::live::Live;
 use crate::meant::or_meant;
 use crate::names::Names;
 use crate::proxy::Proxy;
-use crate::refusal::Refusal;
-use crate::texts::{Task, Texts, texts_of};
 use crate::{
     check, compare, connect, draw, explain, host, live, names, order, proxy, replay, summary,
 };
 use clap::{ArgMatches, Command, Error};
-use std::alloc::{AllocError, Global};
+use he_addr::Memory;
+use he_options::texts::texts_of;
+use he_options::{Refusal, Task, Texts};
+use std::alloc::Global;
 
 /// What a command line asks for.
 #[derive(Drop)]
@@ -46,7 +48,7 @@ fn command<'a>(
     alloc: Global,
     version: &'a str,
     commands: Vec<Command<'a>>,
-) -> Result<Command<'a>, AllocError> {
+) -> Result<Command<'a>, Memory> {
     Command::new(alloc, "he")
         .bin_name("he")?
         .version(version)
@@ -64,7 +66,7 @@ const COMMANDS: [&str; 12] = [
 
 // The commands that a line needs: the one that its first word names, none for the version, and else all, which help
 // and a refusal tell of.
-fn commands_for<'a>(alloc: Global, first: &str) -> Result<Vec<Command<'a>>, AllocError> {
+fn commands_for<'a>(alloc: Global, first: &str) -> Result<Vec<Command<'a>>, Memory> {
     let mut commands = Vec::new(alloc);
     if let "--version" | "-V" = first {
         return Ok(commands);
@@ -82,7 +84,7 @@ fn commands_for<'a>(alloc: Global, first: &str) -> Result<Vec<Command<'a>>, Allo
 }
 
 // The command of this name.
-fn command_of<'a>(alloc: Global, name: &str) -> Result<Option<Command<'a>>, AllocError> {
+fn command_of<'a>(alloc: Global, name: &str) -> Result<Option<Command<'a>>, Memory> {
     let command = match name {
         "connect" => connect::command(alloc)?,
         "proxy" => proxy::command(alloc)?,

@@ -3,11 +3,12 @@ ghost use Rattle.std.specs.Prelude.{◌≡◌};
 ghost use Rattle.clap.specs.Matches.{found_of};
 ghost use Rattle.he_request.specs.Requests.{AsksSummary, named_by};
 
-use crate::arguments::{FILES_HELP, files, flag, flag_of, number_of, plain, value, verbose};
-use crate::settings::set;
-use crate::texts::{By, Task};
 use clap::{ArgMatches, Command, value_parser};
-use std::alloc::{AllocError, Global};
+use he_addr::Memory;
+use he_options::arguments::{FILES_HELP, files, flag, flag_of, number_of, plain, value, verbose};
+use he_options::settings::set;
+use he_options::{By, Task};
+use std::alloc::Global;
 use std::str::FromStr;
 
 const ABOUT: &str = "Sum up how races went";
@@ -52,7 +53,7 @@ For the example of `he draw --help` it writes (lines are broken here):
   failed or silent most often:
     1 failed, 0 silent of 1 attempt to 2001:db8:1::1";
 
-pub(crate) fn command<'a>(alloc: Global) -> Result<Command<'a>, AllocError> {
+pub(crate) fn command<'a>(alloc: Global) -> Result<Command<'a>, Memory> {
     let metrics = flag(alloc, "openmetrics", METRICS_HELP)
         .conflicts_with("json")?
         .conflicts_with("slowest")?;

@@ -1,4 +1,4 @@
-use Rattle.he_request.proofs.Asked.{all_drawn}
+use Rattle.he_request.proofs.Drawn.{all_drawn}
 use Rattle.he_request.proofs.draw.drawing_of.Goals as goal
 
 pub returns-clause-asks : goal.returns-clause-asks

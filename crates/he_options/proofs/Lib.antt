@@ -1,0 +1,3 @@
+mod Asked
+mod InRows
+mod Showing
