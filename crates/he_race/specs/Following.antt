@@ -1,5 +1,5 @@
--- Mirrors the code: what holds in the loop of `race_one`, which runs a race by a script over a ticker that jumps from
--- tick to tick: its record so far is the script's, and nothing is passed over.
+-- Mirrors the code: the invariant of the loop of `race_one`, which runs a scripted race over a ticker that jumps from
+-- tick to tick: the race's record so far is the script's, and nothing is skipped.
 use Rattle.std.specs.Prelude.{ℕ, ◌≡◌, ◌+◌, ◌<◌, ◌≤◌, ◌||◌, Bool, List, [], Option, Some, Result, Ok, Err, IfSome, IsTrue}
 use Rattle.std.specs.List.{All, Contains, list_all, list_any}
 use Rattle.he_addr.specs.Ip.{InRange, same_ip}
@@ -28,13 +28,13 @@ use Rattle.he_race.specs.Scripted.{script_of}
 use Rattle.he_race.specs.Wheel.{Wheel}
 use Rattle.he_turns.specs.Winner.{MayPoll}
 
--- a script: a race within its ranges, as each timeline is
+-- a script: a race within its ranges, as every timeline is
 pub record IsScript (script : Race) : Type 0 where
   pub valid : IsRace script
   pub six : All InRange (addresses_of script.aaaa)
   pub four : All InRange (addresses_of script.a)
 
--- an outcome that is recorded is the script's, and ends where the script's end is seen
+-- a recorded outcome is the script's, and ends where the script's end is seen
 abbrev pub EndsAs : Race → ℕ → Outcome → Outcome → Type 0
 EndsAs script start (outcomes.Ok after) (outcomes.Ok duration) = start + after ≡ seen script (start + duration)
 EndsAs script start (outcomes.Ok after) (outcomes.Fail duration) = ⊥
@@ -57,7 +57,7 @@ EndsFrom script now x = IfSome (outcome_of script x.ip) (λ outcome. now ≤ see
 abbrev pub SeesAs : Race → Race → ℕ → Option Reply → Type 0
 SeesAs script race before reply = IfSome reply (λ r. r.tick < before → seen race r.tick ≡ seen script r.tick)
 
--- an attempt that connects as the script says, before a poll at the tick
+-- an attempt in progress, with the script's outcome, before a poll at the tick
 pub record IsConnecting {C : Type 0} (script : Race) (xs : List Attempt) (now : ℕ)
     (o : Unfinished C (Unit {0}) ScriptedTrial) : Type 0 where
   pub made : Contains xs o.attempt
@@ -70,7 +70,7 @@ pub record IsConnecting {C : Type 0} (script : Race) (xs : List Attempt) (now : 
 abbrev pub is_held : {C : Type 0} → List (Unfinished C (Unit {0}) ScriptedTrial) → Race → Attempt → Bool
 is_held os race x = list_any (λ o. same_ip o.attempt.ip x.ip) os || has_outcome x.ip race.outcomes
 
--- a race, which is to be polled at a tick, as the script has it so far
+-- a race that is next polled at a tick, with a record that matches the script so far
 pub record Follows {C : Type 0} (script : Race) (live : Live C (Unit {0}) ScriptedTrial) (at : ℕ) : Type 0 where
   pub alike : AreAlike script live.recorder.recorded
   pub free : (t : ℕ) → IsFree script t → IsFree live.recorder.recorded t
@@ -84,7 +84,7 @@ pub record Follows {C : Type 0} (script : Race) (live : Live C (Unit {0}) Script
   pub awake : IsFree script at
   pub due : (t : ℕ) → live.recorder.due ≤ t → IsFree script t → at ≤ t
 
--- a future of such a race, after some turns, at the tick at which its ticker stands
+-- a future of such a race, after `turns` turns, at its ticker's current tick
 pub record IsUnderWay {C : Type 0} (connector : ConnectorOf C (Unit {0}) ScriptedTrial) (turns : ℕ)
     (race : RaceFuture C Wheel (Unit {0}) ScriptedTrial) : Type 0 where
   pub script : IsScript race.ticker.race
@@ -96,7 +96,7 @@ pub record IsUnderWay {C : Type 0} (connector : ConnectorOf C (Unit {0}) Scripte
   pub asked : race.ticker.asked ≡ []
   pub turns_by : turns ≤ first_after live.recorder.turn
 
--- what such a race gives: the script's transcript, unless memory is refused
+-- the result of such a race: the script's transcript, or `Memory` if an allocation fails
 abbrev pub GivesScripts : Race → Result (Raced (Unit {0})) RaceFault → Type 0
 GivesScripts script (Ok raced) = IsTranscript script raced.transcript
 GivesScripts script (Err fault) = fault ≡ faults.Memory

@@ -11,13 +11,13 @@ use Rattle.he_race.specs.declared.scripted.ScriptedTrial.{ScriptedTrial}
 use Rattle.he_turns.specs.declared.trial.Trial.{Ghosts as TrialOf}
 use Rattle.he_race.specs.Scripted.{ScriptPolls, script_of, tick_of}
 
--- the connector begins the trials of this race, and nothing else
+-- the connector begins only the trials of this race
 pub record IsScripted {C : Type 0} (connector : ConnectorOf C (Unit {0}) ScriptedTrial) (race : Race)
     (c : C) : Type 0 where
   pub begins : (place : ℕ) (ip : Ip) (now : ℕ) (answer : Result ScriptedTrial AttemptFault) (left : C)
       → connector.begins c place ip now answer left → (answer ≡ Ok (script_of race ip now)) × (left ≡ c)
 
--- what a scripted trial does
+-- the contract of a scripted trial
 abbrev pub scripted_trial : TrialOf ScriptedTrial (Unit {0})
 scripted_trial = record {
   can_poll = λ _. ⊤;

@@ -1,4 +1,4 @@
--- What a recorded race's trials do.
+-- The trials of a recorded race.
 use Rattle.std.specs.Prelude.{ℕ, ◌≡◌, ◌+◌, Option, Some, None, Result, Ok, Err, if◌then◌else◌, nat_lt}
 use Rattle.futures.specs.declared.task.Poll.{Poll}
 use Rattle.futures.specs.declared.task.Poll.TheVariants.{Ready, Pending}
@@ -21,18 +21,18 @@ script (Some (outcomes.Fail duration)) start = Fails (start + duration)
 abbrev pub script_of : Race → Ip → ℕ → ScriptedTrial
 script_of race ip start = script (outcome_of race ip) start
 
--- what it answers at `now`
+-- the trial's answer at `now`
 abbrev pub answer_of : ScriptedTrial → ℕ → Poll (Result (Unit {0}) AttemptFault)
 answer_of (Succeeds tick) now = if nat_lt now tick then Pending else Ready (Ok tt)
 answer_of (Fails tick) now = if nat_lt now tick then Pending else Ready (Err Failed)
 answer_of Silent now = Pending
 
--- from which tick on it answers
+-- the tick from which the trial answers
 abbrev pub tick_of : ScriptedTrial → Option ℕ
 tick_of (Succeeds tick) = Some tick
 tick_of (Fails tick) = Some tick
 tick_of Silent = None
 
--- a poll at `now`: its answer, and the trial as it was
+-- a poll at `now`: its answer; the trial is unchanged
 abbrev pub ScriptPolls : ScriptedTrial → ℕ → Poll (Result (Unit {0}) AttemptFault) → ScriptedTrial → Type 0
 ScriptPolls trial now answer left = (answer ≡ answer_of trial now) × (left ≡ trial)

@@ -1,10 +1,10 @@
-// An executor's one task on the calling thread, with no handle.
+// An executor with a single task, on the calling thread and without a handle.
 
 use std::alloc::{Alloc, Global};
 use std::io;
 use std::random::RandomSource;
 
-// What an executor is made from: an allocator, and no random bytes, since nothing is hashed here.
+// The executor's needs: an allocator, and no random bytes, since nothing is hashed.
 #[derive(Drop)]
 pub(crate) struct Alone {
     pub(crate) alloc: Global,

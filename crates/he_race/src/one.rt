@@ -22,9 +22,9 @@ use he_turns::{Connector, RaceFault, RaceFuture, Raced, Ticker};
 use std::alloc::{Allocator, Global};
 use std::mem::drop;
 
-/// The transcript of the timeline, by running its race (RFC 8305 sections 3 to 5): a `RaceFuture` over `Scripted` and
-/// `WheelTicker`, polled on the calling thread at each tick that it asks for, moved by the timeline's pauses. It takes
-/// at most one turn for each tick up to the limit. `Memory` where an allocation is refused.
+/// Runs the timeline's race (RFC 8305 sections 3 to 5) and returns its transcript: a `RaceFuture` over `Scripted` and
+/// `WheelTicker`, polled on the calling thread at each tick that it requests, moved by the timeline's pauses. It
+/// takes at most one turn for each tick up to the limit. `Memory` if an allocation fails.
 pub fn race_one<A: Allocator>(alloc: Global, timeline: &Timeline<A>) -> Result<Transcript, Memory>
     ensures { IfOk result (IsTranscript timeline.now) }
 {
@@ -34,7 +34,7 @@ pub fn race_one<A: Allocator>(alloc: Global, timeline: &Timeline<A>) -> Result<T
     transcript
 }
 
-// The same, as the only task of this executor.
+// Runs the race as the only task of this executor.
 fn run_race<A: Allocator>(
     alloc: Global,
     solo: &Solo,
@@ -51,7 +51,7 @@ fn run_race<A: Allocator>(
     transcript_in(given)
 }
 
-// The transcript of what a race by a script has given.
+// The transcript of a scripted race, from its result.
 fn transcript_in(given: Result<Raced<()>, RaceFault>) -> Result<Transcript, Memory>
     requires { (script : Race) × GivesScripts script given }
     ensures { (script : Race) → GivesScripts script given → IfOk result (IsTranscript script) }
@@ -72,7 +72,7 @@ fn transcript_in(given: Result<Raced<()>, RaceFault>) -> Result<Transcript, Memo
     }
 }
 
-// What the race gives, polled at each tick to which its ticker jumps.
+// The result of the race, polled at each tick to which its ticker jumps.
 fn drive<C: Connector<Conn = (), Run = ScriptedTrial>, A: Allocator>(
     solo: &Solo,
     limit: u64,
@@ -91,8 +91,8 @@ fn drive<C: Connector<Conn = (), Run = ScriptedTrial>, A: Allocator>(
     unreachable!()
 }
 
-// What the race gives at a poll where its ticker stands. Where it is pending, the ticker goes on to the tick that it
-// was asked for.
+// The result of a poll at the ticker's current tick. If the race is pending, the ticker jumps to the next requested
+// tick.
 fn advance<C: Connector<Conn = (), Run = ScriptedTrial>, A: Allocator>(
     solo: &Solo,
     race: &mut RaceFuture<C, WheelTicker<'_, Global, A>>,
@@ -112,7 +112,7 @@ fn advance<C: Connector<Conn = (), Run = ScriptedTrial>, A: Allocator>(
     }
 }
 
-// One poll, as the only task of an executor.
+// Polls once, as the only task of an executor.
 fn poll_once<C: Connector, T: Ticker>(
     solo: &Solo,
     race: &mut RaceFuture<C, T>,

@@ -17,8 +17,8 @@ use he_turns::limits::MAX_POLL_TICK;
 use he_turns::{AttemptFuture, Connector, Finish};
 use std::alloc::{Allocator, Global};
 
-/// What becomes of the plan's attempt of this place, by polling it at its start and then at each tick at which it is
-/// due, moved by the timeline's pauses, until it finishes or the limit has passed.
+/// The fate of the plan's attempt at this place: polls it at its start and then at each tick at which it is due,
+/// moved by the timeline's pauses, until it finishes or the limit has passed.
 pub fn run_attempt<A: Allocator, B: Allocator>(
     alloc: Global,
     timeline: &Timeline<A>,
@@ -33,7 +33,7 @@ pub fn run_attempt<A: Allocator, B: Allocator>(
     Ok(run(&solo, timeline, attempt, Scripted::new(timeline)))
 }
 
-// The attempt is polled at its start, where it begins, one tick later, and where its trial is due.
+// Polls the attempt at its start, where it begins, one tick later, and when its trial is due.
 fn run<A: Allocator, C: Connector<Conn = (), Run = ScriptedTrial>>(
     solo: &Solo,
     timeline: &Timeline<A>,
@@ -61,7 +61,7 @@ fn run<A: Allocator, C: Connector<Conn = (), Run = ScriptedTrial>>(
     unreachable!()
 }
 
-// One poll, as the only task of an executor.
+// Polls once, as the only task of an executor.
 fn poll_at<C: Connector>(
     solo: &Solo,
     future: &mut AttemptFuture<C>,

@@ -1,4 +1,4 @@
-// The connector of a recorded race: each address does what the timeline says.
+// The connector of a recorded race: each address has its outcome of the timeline.
 
 ghost use Rattle.std.specs.Prelude.{◌≡◌};
 
@@ -8,8 +8,8 @@ use he_timeline::{Outcome, Timeline};
 use he_turns::{AttemptFault, Connector, Trial};
 use std::alloc::{Allocator, Global};
 
-/// The connector that gives a timeline's outcomes: a trial that begins at a tick answers its address's outcome once
-/// the outcome's duration is over. Its connections are nothing, `()`. It looks at no pause: who polls it does.
+/// The connector that gives a timeline's outcomes: a trial returns its address's outcome once the outcome's duration
+/// has passed since its start. Its connections are `()`. It ignores pauses: the caller that polls it observes them.
 #[derive(Drop)]
 pub struct Scripted<'a, A: Allocator = Global> {
     timeline: &'a Timeline<A>,

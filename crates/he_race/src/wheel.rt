@@ -1,4 +1,4 @@
-// A ticker that goes from one tick that was asked for to the next.
+// A ticker that jumps from one requested tick to the next.
 
 ghost use Rattle.std.specs.Prelude.{◌≡◌, ◌<◌, ◌≤◌, IfOk, IsOk, [], Result};
 ghost use Rattle.futures.specs.Task.{IsArmed, Keeps};
@@ -13,8 +13,8 @@ use std::alloc::{Allocator, Global};
 use std::collections::BTreeSet;
 use std::marker::Model;
 
-/// A timer wheel's part in a recorded race: it stands at a tick, keeps the ticks that it was asked for, and `jump`
-/// goes on to the least of them. The timeline's pauses move it: it never stands at a tick that a pause covers.
+/// The timer wheel of a recorded race: it is at a tick, keeps the requested ticks, and `jump` moves to the least of
+/// them. It is never at a tick that a pause of the timeline covers.
 #[derive(Drop)]
 pub struct WheelTicker<'a, A: Allocator = Global, B: Allocator = Global> {
     timeline: &'a Timeline<B>,
@@ -33,7 +33,7 @@ impl<'a, A: Allocator, B: Allocator> Model for WheelTicker<'a, A, B> {
 }
 
 impl<'a, A: Allocator, B: Allocator> WheelTicker<'a, A, B> {
-    /// The ticker that stands at the first tick that no pause covers, with no tick asked for. It takes no memory.
+    /// A ticker at the first tick that no pause covers, without requests. It allocates nothing.
     pub fn new(alloc: A, timeline: &'a Timeline<B>) -> Result<WheelTicker<'a, A, B>, Memory>
         ensures never_fails { IsOk result }
         ensures start { IfOk result (λ w. w ≡ record { race = timeline.now; at = seen timeline.now 0; asked = [] }) }
@@ -45,8 +45,8 @@ impl<'a, A: Allocator, B: Allocator> WheelTicker<'a, A, B> {
         })
     }
 
-    /// Goes on to the least tick asked for, or to the end of the pause that covers it, and drops the requests up to
-    /// there; where none is asked for, answers false. It takes no memory.
+    /// Moves to the least requested tick, or to the end of the pause that covers it, and drops the requests up to
+    /// there. Returns false if there is no request. It allocates nothing.
     pub fn jump(&mut self) -> Result<bool, Memory>
         ensures never_fails { IsOk result }
         ensures goes { IfOk result (λ went. Jumps self.old went self.new) }

@@ -1,4 +1,4 @@
-// Races whose answers come while they run, over a source that tells them from a tick on and a ticker that visits
+// Races whose answers come while they run, over a source that gives them from a tick on and a ticker with fixed
 // ticks.
 
 use crate::homes::{PlannedRace, V4_A, V6_A, V6_B, race, unanswered};
@@ -15,7 +15,7 @@ use std::alloc::Global;
 use std::mem::drop;
 use std::test::Fail;
 
-// What a source tells of a family.
+// The answer that a source gives for a family.
 #[derive(Clone, Copy)]
 enum SourceAnswer {
     Nothing,
@@ -44,7 +44,7 @@ fn many(alloc: Global) -> Result<Vec<Known>, Memory> {
     Ok(known)
 }
 
-// Tells of each family from a tick on, at each poll, or never.
+// Gives the answer of each family from a tick on, at each poll, or never.
 #[derive(Clone, Copy, Drop)]
 struct Telling {
     alloc: Global,
@@ -73,7 +73,7 @@ impl AnswerSource for Telling {
     }
 }
 
-// Tells these ticks, one after the other, and then the last again.
+// Gives these ticks, one at each call, and then the last one again.
 #[derive(Drop)]
 struct Visiting {
     ticks: [u64; 6],
@@ -98,8 +98,8 @@ impl Ticker for Visiting {
     }
 }
 
-// A race in short: its result, its last attempt, and of its record the ticks and lengths of the answers and the
-// pauses.
+// A race in short: its result, its last attempt, and the ticks and lengths of the answers and the pauses in its
+// record.
 #[derive(Clone, Copy, Debug, PartialEq, Eq)]
 struct Short {
     result: Outcome3,
@@ -133,7 +133,7 @@ fn short_in(given: &Option<Result<Raced<()>, RaceFault>>) -> Option<Short> {
     }
 }
 
-// What a source tells, and the ticks at which the race is polled.
+// The answers of a source, and the ticks at which the race is polled.
 #[derive(Clone, Copy)]
 struct Case {
     six: Option<(u64, SourceAnswer)>,
@@ -266,7 +266,7 @@ fn late_answer_takes_its_turn(rt: HostRuntime) -> Result<(), Fail> {
     Ok(())
 }
 
-// A client that slept over both answers has them at the tick at which it woke, and it slept over nothing that was due.
+// A client that slept over both answers gets them at the tick at which it woke; it slept over nothing that was due.
 #[test]
 fn answers_count_from_their_turn(rt: HostRuntime) -> Result<(), Fail> {
     let solo = Solo::new(&rt, Doorbell::spinning())?;
@@ -288,7 +288,7 @@ fn answers_count_from_their_turn(rt: HostRuntime) -> Result<(), Fail> {
     Ok(())
 }
 
-// An answer at the limit is recorded, one past it isn't; with no answer at all the race runs to its limit.
+// An answer at the limit is recorded, one past it isn't; without answers the race runs to its limit.
 #[test]
 fn answers_at_the_limit(rt: HostRuntime) -> Result<(), Fail> {
     let solo = Solo::new(&rt, Doorbell::spinning())?;
@@ -320,8 +320,8 @@ fn answers_at_the_limit(rt: HostRuntime) -> Result<(), Fail> {
     Ok(())
 }
 
-// What is told is cleaned: an empty answer counts as come, addresses of the other family and repeated ones are left
-// out, and of 300 addresses 256 are taken.
+// Answers are cleaned: an empty answer counts as come, addresses of the other family and repeated ones are left out,
+// and of 300 addresses 256 are taken.
 #[test]
 fn told_addresses_are_cleaned(rt: HostRuntime) -> Result<(), Fail> {
     let solo = Solo::new(&rt, Doorbell::spinning())?;

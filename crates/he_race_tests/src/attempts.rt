@@ -1,4 +1,4 @@
-// One attempt at a time: what it comes to by the rules of a race.
+// Single attempts, and their fates by the rules of a race.
 
 use crate::homes::{PlannedRace, race};
 use he_plan::{Fate, Plan, plan};
@@ -8,7 +8,7 @@ use std::alloc::Global;
 use std::mem::drop;
 use std::test::Fail;
 
-/// A race, the place of an attempt, and what becomes of it.
+/// A race, the place of an attempt, and its fate.
 #[derive(Clone, Copy)]
 struct Case {
     given: PlannedRace,

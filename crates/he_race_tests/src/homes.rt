@@ -63,8 +63,8 @@ fn host(alloc: Global) -> Result<Host, Fail> {
     Ok(Host::new(alloc, &sources, &routes)?)
 }
 
-/// A race whose answers come at these ticks, with these outcomes of its two addresses, and maybe with a floor and with
-/// a second IPv6 address, which is silent.
+/// A race whose answers come at these ticks, with these outcomes of its two addresses, and maybe with a floor and
+/// with a second IPv6 address, which is silent.
 #[derive(Clone, Copy)]
 pub struct PlannedRace {
     pub limit: u64,
@@ -76,8 +76,8 @@ pub struct PlannedRace {
     pub pause: Option<(u64, u64)>,
 }
 
-/// A race of both IPv6 addresses and the IPv4 address, answered at 20, with what the client knows of them, in which
-/// one address succeeds after 10.
+/// A race of both IPv6 addresses and the IPv4 address, answered at 20, with the client's knowledge of them; one
+/// address succeeds after 10.
 #[derive(Clone, Copy)]
 pub struct Known {
     pub rtts: &'static [(Ip, u64)],
@@ -148,12 +148,12 @@ pub fn race(alloc: Global, given: &PlannedRace) -> Result<Timeline, Fail> {
     finished(builder, filled)
 }
 
-/// The same race with neither answers nor outcomes.
+/// The race without answers and outcomes.
 pub fn unanswered(alloc: Global, given: &PlannedRace) -> Result<Timeline, Fail> {
     Ok(empty(alloc, settings(given)?, host(alloc)?)?.finish())
 }
 
-/// A race of three IPv6 and two IPv4 addresses, answered at 20, with two of the first family first.
+/// A race of three IPv6 and two IPv4 addresses, answered at 20, with two of the first family in the lead.
 pub fn many_race(alloc: Global) -> Result<Timeline, Fail> {
     let mut builder = empty(alloc, Settings::new(50, 250, 2, 30_000)?, host(alloc)?)?;
     let filled = fill_many(&mut builder);
@@ -172,13 +172,14 @@ pub fn known_race(alloc: Global, known: &Known) -> Result<Timeline, Fail> {
     finished(builder, filled)
 }
 
-/// A race on a host of which no line is known, without answers.
+/// A race on a host without sources and routes, without answers.
 pub fn bare_race(alloc: Global) -> Result<Timeline, Fail> {
     let host = Host::new(alloc, &[], &[])?;
     Ok(empty(alloc, Settings::new(50, 250, 1, 30_000)?, host)?.finish())
 }
 
-/// A race whose IPv4 address has come, was used before and answers within 40; the IPv6 addresses have not.
+/// A race whose IPv4 answer has come: its address was used before and has a round trip time of 40. The IPv6 answer
+/// has not.
 pub fn half_known_race(alloc: Global) -> Result<Timeline, Fail> {
     let mut builder = empty(alloc, Settings::new(50, 250, 1, 30_000)?, host(alloc)?)?;
     let filled = fill_half(&mut builder);
@@ -192,7 +193,7 @@ fn fill_half(builder: &mut TimelineBuilder) -> Result<(), Fail> {
     Ok(())
 }
 
-/// The first race: its IPv6 address succeeds after 35, and the IPv4 address does what is given.
+/// The first race: its IPv6 address succeeds after 35, and the IPv4 address has the given outcome.
 pub fn first_race(v4: Option<Outcome>) -> PlannedRace {
     PlannedRace {
         limit: 30_000,

@@ -1,4 +1,4 @@
-// Races of which the client knows round trip times and earlier uses: by these it chooses, and its record has them.
+// Races with known round trip times and earlier uses: they decide the order, and the record has them.
 
 use crate::homes::{Known, V4_A, V6_A, V6_B, known_race};
 use crate::races::{Stepping, drive};
@@ -10,7 +10,7 @@ use std::alloc::Global;
 use std::mem::drop;
 use std::test::Fail;
 
-// The race is won at 30 by its first attempt, which is of the address that succeeds, and its record is the timeline.
+// The race is won at 30 by its first attempt, at the address that succeeds, and its record is the timeline.
 fn is_won_by_first(raced: &Raced<()>, known: &Known, timeline: &Timeline) -> bool {
     let won = Line {
         place: 0,
@@ -51,7 +51,7 @@ fn by_known(alloc: Global, solo: &Solo, known: &Known) -> Result<bool, Fail> {
     is_right
 }
 
-// The address of the lower round trip time comes first, and a used one after one whose round trip time is known.
+// The address of the lower round trip time comes first; a used one comes after one whose round trip time is known.
 #[test]
 fn known_addresses_come_first(rt: HostRuntime) -> Result<(), Fail> {
     let solo = Solo::new(&rt, Doorbell::spinning())?;

@@ -1,24 +1,23 @@
-// Races whose answers come with what the client knows of their addresses: by this it chooses among them, and its
-// record has it.
+// Races whose answers bring round trip times and earlier uses: they decide the order, and the record has them.
 
 use crate::homes::{
     Known as KnownRace, V4_A, V6_A, V6_B, first_race, half_known_race, known_race, unanswered,
 };
 use crate::races::{Stepping, drive};
 use futures::task::{Context, Doorbell, Poll, Solo};
-use he_addr::{Family, Ip};
+use he_addr::{Family, Ip, Memory};
 use he_race::{
     Answer, AnswerSource, Known, RaceFault, Raced, ResolvingRace, Scripted, WheelTicker, race_one,
 };
 use he_timeline::Timeline;
-use std::alloc::{AllocError, Global};
+use std::alloc::Global;
 use std::mem::drop;
 use std::test::Fail;
 
-// An address, the round trip time that is known of it in milliseconds, and whether it was used before.
+// An address, its known round trip time in milliseconds, and whether it was used before.
 type Told = (Ip, Option<u64>, bool);
 
-fn known_of(alloc: Global, told: &[Told]) -> Result<Vec<Known>, AllocError> {
+fn known_of(alloc: Global, told: &[Told]) -> Result<Vec<Known>, Memory> {
     let mut known = Vec::new(alloc);
     for (ip, rtt, used) in told {
         known.push(Known {
@@ -30,7 +29,7 @@ fn known_of(alloc: Global, told: &[Told]) -> Result<Vec<Known>, AllocError> {
     Ok(known)
 }
 
-// Tells this of each family at its first poll.
+// Gives this answer of each family at its first poll.
 #[derive(Clone, Copy, Drop)]
 struct Remembering {
     alloc: Global,
@@ -55,7 +54,7 @@ impl AnswerSource for Remembering {
     }
 }
 
-// What is told, and what comes of it: the addresses that are tried, and what the record knows.
+// The answers, and their effects: the addresses that are tried, and the record's round trip times and earlier uses.
 #[derive(Clone, Copy)]
 struct Learnt {
     six: &'static [Told],
@@ -93,7 +92,7 @@ fn is_given(
     }
 }
 
-// The race from this start, in which the address that succeeds does so after 10.
+// Runs the race from this start; the address that succeeds does so after 10.
 fn run(
     alloc: Global,
     solo: &Solo,
@@ -133,7 +132,7 @@ fn run_from(
     is_right
 }
 
-// The same, where nothing is known at the start.
+// Runs it with nothing known at the start.
 fn run_new(alloc: Global, solo: &Solo, succeeds: Ip, wanted: &Learnt) -> Result<bool, Fail> {
     let start = unanswered(alloc, &first_race(None))?;
     let is_right = run_from(alloc, solo, succeeds, &start, wanted);
@@ -141,7 +140,7 @@ fn run_new(alloc: Global, solo: &Solo, succeeds: Ip, wanted: &Learnt) -> Result<
     is_right
 }
 
-// The same, where the IPv4 address is known at the start.
+// Runs it with the IPv4 address known at the start.
 fn run_half(alloc: Global, solo: &Solo, succeeds: Ip, wanted: &Learnt) -> Result<bool, Fail> {
     let start = half_known_race(alloc)?;
     let is_right = run_from(alloc, solo, succeeds, &start, wanted);
@@ -149,7 +148,7 @@ fn run_half(alloc: Global, solo: &Solo, succeeds: Ip, wanted: &Learnt) -> Result
     is_right
 }
 
-// Nothing is known: the first that was told comes first.
+// Nothing is known: the first address of an answer comes first.
 const NOTHING: Learnt = Learnt {
     six: &[(V6_A, None, false), (V6_B, None, false)],
     four: &[(V4_A, None, false)],
@@ -194,8 +193,8 @@ const LATER: Learnt = Learnt {
     used: &[V4_A, V6_B],
 };
 
-// The address of which a round trip time is known comes first, and so does the one that was used before; where nothing
-// is known, the first that was told.
+// The address with a known round trip time comes first, and so does the one that was used before; if nothing is
+// known, the first one of the answer.
 #[test]
 fn chooses_by_what_is_told(rt: HostRuntime) -> Result<(), Fail> {
     let solo = Solo::new(&rt, Doorbell::spinning())?;
@@ -206,8 +205,8 @@ fn chooses_by_what_is_told(rt: HostRuntime) -> Result<(), Fail> {
     Ok(())
 }
 
-// Of an address that is told twice the first counts, one of the other family is left out with what is known of it, and
-// round trip times are recorded within 1 ms and an hour.
+// Of a repeated address the first entry counts; an address of the other family is left out with its round trip time
+// and use; and round trip times are recorded within 1 ms and an hour.
 #[test]
 fn what_is_told_is_cleaned(rt: HostRuntime) -> Result<(), Fail> {
     let solo = Solo::new(&rt, Doorbell::spinning())?;
@@ -216,7 +215,7 @@ fn what_is_told_is_cleaned(rt: HostRuntime) -> Result<(), Fail> {
     Ok(())
 }
 
-// What was known at the start stands first, and of a family whose answer was given nothing is told.
+// Knowledge from the start comes first; a family whose answer is known gets no second one.
 #[test]
 fn what_was_known_stands_first(rt: HostRuntime) -> Result<(), Fail> {
     let solo = Solo::new(&rt, Doorbell::spinning())?;

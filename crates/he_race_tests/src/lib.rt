@@ -1,7 +1,6 @@
-//! Tests of `he_race`: what one attempt comes to, a ticker that jumps, a race over tickers that misbehave, a race
-//! whose answers come while it runs, with what is known of their addresses and lines of the machine, connectors of a
-//! user's own, and where the winner goes. Recorded races from their first turn to their end are run by the crate
-//! `cases`.
+//! Tests of `he_race`: the fates of single attempts, a ticker that jumps, a race over tickers that misbehave, a race
+//! whose answers come while it runs, with knowledge of their addresses and lines of the machine, connectors of a
+//! user's own, and the winner's connection. The crate `cases` runs recorded races from their first turn to their end.
 #![tactic(auto)]
 
 #[cfg(test)]

@@ -1,4 +1,4 @@
-// A race whose answers bring lines of the machine: its host has them, and by them it chooses.
+// A race whose answers bring lines of the machine: its host gets them, and they decide the order.
 
 use crate::homes::{Known, V4_A, V6_A, V6_B, bare_race, known_race, route_on, source_on};
 use crate::races::{Stepping, drive};
@@ -42,7 +42,7 @@ fn six(alloc: Global) -> Result<Answer, Memory> {
     })
 }
 
-// The IPv4 answer has lines that no race takes of it: those of IPv6, one without an interface, and repeated ones.
+// The IPv4 answer has lines that a race drops: those of IPv6, one without an interface, and repeated ones.
 fn four(alloc: Global) -> Result<Answer, Memory> {
     let known = nothing_known(alloc, &[V4_A])?;
     let sources = [
@@ -61,7 +61,7 @@ fn four(alloc: Global) -> Result<Answer, Memory> {
     })
 }
 
-// Tells the IPv6 answer at its first poll, and the IPv4 answer after tick 0.
+// Gives the IPv6 answer at its first poll, and the IPv4 answer after tick 0.
 #[derive(Clone, Copy, Drop)]
 struct Lined {
     alloc: Global,
@@ -89,7 +89,7 @@ impl AnswerSource for Lined {
     }
 }
 
-// The lines that the record's host has in the end.
+// The sources of the record's host at the end.
 const SOURCES: [Source; 2] = [
     Source {
         ip: SOURCE_6,

@@ -1,4 +1,4 @@
-// A connector whose connections are the addresses that they go to, over a recorded race.
+// A connector whose connections are their addresses, over a recorded race.
 
 use crate::homes::{PlannedRace, V4_A, V6_A, first_race, race};
 use crate::races::{Stepping, drive};
@@ -66,7 +66,7 @@ impl<'a> Connector for Named<'a> {
     }
 }
 
-// How the race ends, and where its winner goes.
+// The race's result, and the address of the winner's connection.
 fn winner(
     alloc: Global,
     solo: &Solo,
@@ -99,8 +99,8 @@ fn ended(
     }
 }
 
-// The first attempt, at 20, and the second, at 270, connect at the same tick: the first place wins. Then the second
-// alone does.
+// The first attempt, at 20, and the second, at 270, connect at an equal tick: the first place wins. Then only the
+// second one connects.
 #[test]
 fn the_winner_goes_to_its_line(rt: HostRuntime) -> Result<(), Fail> {
     let solo = Solo::new(&rt, Doorbell::spinning())?;

@@ -56,7 +56,8 @@ impl Connector for OneAddress {
     }
 }
 
-// The tick and the answer of the attempt's finish, polled at every tick from 1 to 9, or none. It starts at 4.
+// The tick and the answer of the attempt's finish, polled at every tick from 1 to 9, or none. The attempt starts at
+// 4.
 fn finish<C: Connector>(
     solo: &Solo,
     mut connector: C,

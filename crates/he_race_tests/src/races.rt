@@ -1,5 +1,5 @@
-// Races as futures, over tickers that stand still, go back, jump or are lost, a connector that cannot begin, and with
-// floors.
+// Races as futures, over tickers that don't advance, go back, jump or fail, with a connector that cannot begin, and
+// with floors.
 
 ghost use Rattle.std.specs.Prelude.{◌≡◌, ◌≤◌, IfSome, None};
 ghost use Rattle.futures.specs.Poll.{IfReady, OnPending};
@@ -19,8 +19,8 @@ use std::alloc::Global;
 use std::mem::drop;
 use std::test::Fail;
 
-// Tells these ticks, one at each poll, and then the last again. It is lost where it isn't asked for these, one after
-// the other, or has no memory.
+// Gives these ticks, one at each poll, and then the last one again. It fails if it isn't asked for these in order, or
+// if it has no memory.
 #[derive(Drop)]
 struct Moments {
     ticks: [u64; 4],
@@ -62,7 +62,7 @@ impl Ticker for Moments {
     }
 }
 
-/// Goes on to the next tick asked for whenever it is asked the tick.
+/// Advances to the next requested tick whenever it is asked for the tick.
 #[derive(Drop)]
 pub struct Stepping<'a> {
     pub wheel: WheelTicker<'a>,
@@ -85,7 +85,7 @@ impl<'a> Ticker for Stepping<'a> {
     }
 }
 
-// Connects as the script says, but cannot begin at the first `faulty` places.
+// Connects as the script does, but cannot begin at the first `faulty` places.
 #[derive(Drop)]
 struct FailsFirst<'a> {
     script: Scripted<'a>,
@@ -109,7 +109,7 @@ impl<'a> Connector for FailsFirst<'a> {
     }
 }
 
-/// What the future gives within this many polls. It is dropped then.
+/// The future's output within this number of polls; it is dropped then.
 pub fn drive<F: Future>(solo: &Solo, mut future: F, polls: u8) -> Option<F::Output>
     requires { F.can_poll future }
 {
@@ -150,7 +150,7 @@ fn summary(raced: &Raced<()>) -> Short {
     }
 }
 
-// What is seen of a race. It goes on where it answers once more after its result, and not that it is over.
+// The observed end of a race. `GoesOn` if a poll after the result does not answer that the race is over.
 #[derive(Clone, Copy, Debug, PartialEq, Eq)]
 enum Seen {
     Pending,
@@ -176,7 +176,7 @@ fn poll_once<C: Connector, T: Ticker>(
     polled
 }
 
-// What is seen of the race within so many polls, and of one more poll after its result.
+// The observed end of the race within `MOST_POLLS` polls, with one more poll after its result.
 fn seen_of<C: Connector<Conn = ()>, T: Ticker>(solo: &Solo, mut future: RaceFuture<C, T>) -> Seen
     requires { IfSome future.live (MayPoll C.Connector C.Run.Trial future.connector) }
 {
@@ -246,7 +246,7 @@ fn won_at(tick: u64, duration: u64, pause: (u64, u64)) -> Seen {
     })
 }
 
-// A ticker that jumps past the finish or past the limit: what the race slept is recorded.
+// A ticker that jumps past the finish or past the limit: the time that the race slept is recorded.
 #[test]
 fn jumps_are_recorded_as_pauses(rt: HostRuntime) -> Result<(), Fail> {
     let solo = Solo::new(&rt, Doorbell::spinning())?;
@@ -267,8 +267,7 @@ fn jumps_are_recorded_as_pauses(rt: HostRuntime) -> Result<(), Fail> {
     Ok(())
 }
 
-// A ticker that goes back or stands still is asked for the tick after the last turn; one that is lost, or has no
-// memory.
+// A ticker that goes back or doesn't advance is asked for the tick after the last turn; one fails, or has no memory.
 #[test]
 fn tickers_that_misbehave(rt: HostRuntime) -> Result<(), Fail> {
     let solo = Solo::new(&rt, Doorbell::spinning())?;
@@ -330,7 +329,7 @@ fn none_can_begin(rt: HostRuntime) -> Result<(), Fail> {
     Ok(())
 }
 
-// The first attempt cannot begin, and the second wins; all cannot.
+// The first attempt cannot begin, and the second wins; then none can begin.
 #[test]
 fn attempts_that_cannot_begin_fail(rt: HostRuntime) -> Result<(), Fail> {
     let solo = Solo::new(&rt, Doorbell::spinning())?;
@@ -356,7 +355,7 @@ fn attempts_that_cannot_begin_fail(rt: HostRuntime) -> Result<(), Fail> {
     Ok(())
 }
 
-// A pause over the start: of it the record has what the race slept of it.
+// A pause over the start: the record has the part that the race slept.
 #[test]
 fn pause_over_the_start_is_recorded(rt: HostRuntime) -> Result<(), Fail> {
     let solo = Solo::new(&rt, Doorbell::spinning())?;
@@ -383,8 +382,8 @@ fn pause_over_the_start_is_recorded(rt: HostRuntime) -> Result<(), Fail> {
     Ok(())
 }
 
-// A race with this floor, both answers at 20 and these failures, and what is seen of it: the second attempt starts at
-// a tick and fails 5 ticks later, where the race ends unless it is told otherwise.
+// A race with this floor, both answers at 20 and these failures, and its observed end: the second attempt starts at
+// this tick and fails 5 ticks later, which ends the race unless overridden.
 fn by_floor(floor: u64, v6: u64, start: u64) -> (PlannedRace, Short)
     requires { start ≤ 270 }
 {
@@ -410,7 +409,7 @@ fn by_floor(floor: u64, v6: u64, start: u64) -> (PlannedRace, Short)
 }
 
 // With a floor a start waits for it, for the first attempt's failure at 25, 30, 80 or 320, and for no more than the
-// attempt delay; a pause moves it; and the first attempt may run, so that only the attempt delay counts.
+// attempt delay; a pause moves the start; and if the first attempt keeps running, only the attempt delay counts.
 fn floors() -> [(PlannedRace, Short); 6] {
     let (plain, seen) = by_floor(100, 5, 120);
     let (late, exhausted) = by_floor(10, 300, 270);

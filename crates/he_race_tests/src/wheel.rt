@@ -11,7 +11,7 @@ use std::test::Fail;
 
 static ASKED: [u8; 4] = [60, 10, 5, 60];
 
-// Asks for 60, 10, 5 and 60 again at tick 0, and for 3 once it stands at 10.
+// Asks for 60, 10, 5 and 60 again at tick 0, and for 3 once it is at 10.
 fn visited(solo: &Solo, alloc: Global, timeline: &Timeline) -> Result<[u64; 4], Fail> {
     let mut ticker = WheelTicker::new(alloc, timeline)?;
     let visited = ticks(solo, &mut ticker);
@@ -43,7 +43,7 @@ fn ticks(solo: &Solo, ticker: &mut WheelTicker<'_>) -> Result<[u64; 4], Fail> {
     Ok([first, second, third, last])
 }
 
-// A ticker over a heap of the test's own: asked for 60, and where that was granted it goes there, else it stays.
+// A ticker over a heap of the test's own, asked for 60: if memory was granted it goes there, else it doesn't move.
 fn is_asked<'a, 'h>(
     solo: &Solo,
     heap: &'h Refusing<Global>,

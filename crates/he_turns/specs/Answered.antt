@@ -1,4 +1,4 @@
--- Mirror: what private functions answer about the answers of a race that is being run.
+-- Mirrors the code: the results of private functions on the answers of a running race.
 use Rattle.std.specs.Prelude.{ℕ, ◌&&◌, Bool, false, not, if◌then◌else◌, List, min, Option, Some, None, nat_le}
 use Rattle.he_plan.specs.declared.attempts.Attempt.{Attempt}
 use Rattle.he_timeline.specs.Race.{Reply}

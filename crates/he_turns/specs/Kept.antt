@@ -1,5 +1,5 @@
--- Mirrors the code: what holds of a race that is being run between two turns and in one: of what is recorded of it, of
--- the attempts that were made, and of those that are unfinished. Each poll keeps it.
+-- Mirrors the code: the invariants of a running race between turns and within one, on its record, on the attempts
+-- made and on the unfinished ones. Each poll keeps them.
 use Rattle.std.specs.Prelude.{ℕ, ◌≡◌, ◌+◌, ◌<◌, ◌≤◌, ◌&&◌, ◌⊎◌, length, not, Bool, true, false, IsTrue, List, [], ◌∷◌, Option, Some, None, if◌then◌else◌, IfSome}
 use Rattle.std.specs.List.{All, Contains, list_any, list_all}
 use Rattle.he_addr.specs.declared.ip.Ip.{Ip}
@@ -33,13 +33,13 @@ abbrev pub FailedBelow : Race → ℕ → Attempt → Outcome → Type 0
 FailedBelow race below x (outcomes.Ok duration) = ⊥
 FailedBelow race below x (outcomes.Fail duration) = IsFree race (x.tick + duration) × (x.tick + duration < below)
 
--- the attempts are those of the record so far: each is next in turn, and an address has an outcome only where it was
+-- the attempts are those of the record so far: each is next in turn, and an address has an outcome only if it was
 -- tried
 pub record AreMade (race : Race) (xs : List Attempt) : Type 0 where
   pub in_turn : AreNextInTurn race xs
   pub tried : IsTrue (list_all (λ p. is_tried xs p.0) race.outcomes)
 
--- how many answers the turn, or one before it, has taken
+-- the number of answers that the turn, or one before it, has taken
 abbrev pub taken_of : Option ℕ → Option Reply → ℕ
 taken_of turn None = 0
 taken_of turn (Some reply) = if is_taken turn reply.tick then 1 else 0
@@ -58,8 +58,8 @@ pub record Rests (race : Race) (turn : Option ℕ) (xs : List Attempt) : Type 0 
   pub after : IsAfterTurn race turn xs
   pub few : length race.pauses ≤ taken turn race + length xs
 
--- in a turn, with an attempt that succeeded in it or none; there is one pause more than answers taken and attempts
--- made only where an attempt may start at once
+-- in a turn, with or without an attempt that succeeded in it; there is one pause more than answers taken and attempts
+-- made only if an attempt may start at once
 pub record InTurn (race : Race) (now : ℕ) (xs : List Attempt) (won : Bool) : Type 0 where
   pub valid : IsRace race
   pub made : AreMade race xs
@@ -77,7 +77,7 @@ pub record Begins (race : Race) (now : ℕ) (xs : List Attempt) : Type 0 where
   pub in_turn : InTurn race now xs false
   pub failed : All (λ x. IfSome (outcome_of race x.ip) (FailedBelow race now x)) xs
 
--- what is kept of a race between two turns
+-- the invariant of a race between two turns
 pub record IsRecorder (c : Recorder) : Type 0 where
   pub rests : Rests c.recorded c.turn c.underway.attempts
   pub due : IsDueTick c.recorded c.turn c.underway.attempts c.due
@@ -92,7 +92,7 @@ pub record IsEnded (race : Race) (xs : List Attempt) (won : Bool) : Type 0 where
 abbrev pub MakesOne : Race → List Attempt → List Attempt → ℕ → Type 0
 MakesOne race xs all now = (all ≡ xs) ⊎ MakesNext race xs all now
 
--- no address of these attempts has an outcome, and none stands twice
+-- no address of these attempts has an outcome, and none occurs twice
 abbrev pub are_untold : {C Conn Run : Type 0} → List (Ip × Outcome) → List (Unfinished C Conn Run) → Bool
 are_untold told [] = true
 are_untold told (o ∷ os) =
@@ -105,7 +105,7 @@ module _ {C Conn Run : Type 0} (connector : ConnectorOf C Conn Run) (trial : Tri
     pub made : Contains xs o.attempt
     pub can : CanPoll connector trial o.future
 
-  -- what is kept between two polls
+  -- the invariant between two polls
   pub record IsLive (live : Live C Conn Run) : Type 0 where
     pub recorder : IsRecorder live.recorder
     pub unfinished : All (IsUnfinished live.recorder.underway.attempts) live.unfinished.items

@@ -1,6 +1,6 @@
--- Where a race that is pending has registered: in the context of its own poll, for all that its attempts and its
--- source wait for. A poll that takes no turn polls neither, and its ticker wakes the task for the next turn. The
--- public contracts of `RaceFuture` and `ResolvingRace` cite it.
+-- Where a pending race has registered: in the context of its own poll, for all that its attempts and its source wait
+-- for. A poll without a turn polls neither; its ticker wakes the task for the next turn. The public contracts of
+-- `RaceFuture` and `ResolvingRace` cite it.
 use Rattle.std.specs.Prelude.{ℕ, ◌≡◌, ◌⊎◌, List, Option, Some, IfNone, IfSome}
 use Rattle.std.specs.List.{All}
 use Rattle.futures.specs.Task.{Covers}
@@ -21,7 +21,7 @@ use Rattle.he_turns.specs.Recording.{slept}
 use Rattle.he_turns.specs.Waiting.{WaitsForTick}
 
 module _ {C Conn Run : Type 0} (connector : ConnectorOf C Conn Run) (trial : TrialOf Run Conn) where
-  -- the attempt listens: it has registered in this context for all that it needs, or is pending up to the tick at
+  -- the attempt listens: it has registered in this context for all that it needs, or stays pending up to the tick at
   -- which it is due
   abbrev pub Listens : Context → AttemptFuture C Conn Run → Type 0
   Listens cx attempt =
@@ -32,7 +32,7 @@ module _ {C Conn Run : Type 0} (connector : ConnectorOf C Conn Run) (trial : Tri
   abbrev pub AllListen : Context → List (Unfinished C Conn Run) → Type 0
   AllListen cx unfinished = All (λ o. Listens cx o.future) unfinished
 
-  -- a poll of a race that goes on took no turn, or has left each unfinished attempt listening
+  -- the poll of a race that goes on took no turn, or has left each unfinished attempt listening
   abbrev pub TurnListens : Context → Live C Conn Run → Live C Conn Run → Type 0
   TurnListens cx was live = (live.recorder.turn ≡ was.recorder.turn) ⊎ AllListen cx live.unfinished.items
 
@@ -41,25 +41,25 @@ module _ {C Conn Run : Type 0} (connector : ConnectorOf C Conn Run) (trial : Tri
 
 module _ {S : Type 0} (source : SourceOf S) where
   -- the source listens for the family: it has registered in this context for all that it needs to answer for it, or
-  -- tells nothing more of it
+  -- gives no more answers for it
   abbrev pub ListensFor : Context → S → Family → Type 0
   ListensFor cx s family = Covers cx (source.needs s family) ⊎ IsSilent source.hears s family
 
-  -- in a turn at the tick the source is heard, and then listens for each family that still has no answer, in the state
-  -- that is left
+  -- in a turn at the tick the source is polled, and then listens, in the state that is left, for each family that
+  -- still has no answer
   pub record SourceListens (cx : Context) (s : S) (race : Race) (now : ℕ) (s' : S) (heard : Race) : Type 0 where
     pub hears : Hears source.hears s race now s' heard
     pub six : IfNone heard.aaaa (ListensFor cx s' families.V6)
     pub four : IfNone heard.a (ListensFor cx s' families.V4)
 
-  -- and the race that goes on has the answers that were heard
+  -- and the race that goes on has these answers
   pub record HeardListens (cx : Context) (s : S) (race : Race) (now : ℕ) (s' : S) (later : Race) : Type 0 where
     pub heard : Race
     pub listens : SourceListens cx s race now s' heard
     pub alike : AreAlike heard later
 
 module _ {S C Conn Run : Type 0} (source : SourceOf S) where
-  -- a poll of a race that goes on took no turn, or has left its source listening
+  -- the poll of a race that goes on took no turn, or has left its source listening
   abbrev pub TurnHears : Context → S → Live C Conn Run → S → Live C Conn Run → Type 0
   TurnHears cx s was s' live =
       (live.recorder.turn ≡ was.recorder.turn)

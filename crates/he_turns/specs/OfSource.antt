@@ -1,4 +1,4 @@
--- What a race has heard of its source by its end: the public contracts of `ResolvingRace` cite it.
+-- The answers that a race has taken from its source by its end. The public contracts of `ResolvingRace` cite it.
 use Rattle.std.specs.Prelude.{ℕ, ◌≡◌, List, [], ◌∷◌, Option, None, option_map, Result}
 use Rattle.he_addr.specs.declared.ip.Family.{Family}
 use Rattle.he_addr.specs.declared.ip.Ip.{Ip}
@@ -12,22 +12,22 @@ use Rattle.he_turns.specs.Resolving.{ReplaysGiven}
 use Rattle.he_turns.specs.Turns.{GivesBy}
 use Rattle.he_turns.specs.Winner.{EndsAt}
 
--- a poll of a source: for a family, at a tick, and what it told, if anything
+-- a poll of a source: the family, the tick, and the answer, if there was one
 pub record SourcePoll : Type 0 where
   pub family : Family
   pub tick : ℕ
   pub told : Option AnswerLists
 
--- these polls of a source, one after the other, from one of its states to another: each is for a family that has no
--- answer by then, and of what it tells the race has the answer, at that tick, with history and lines
+-- polls of a source, one after the other, from one of its states to another: each is for a family without an answer
+-- by then, and its answer enters the race at that tick, with history, sources and routes
 abbrev pub HearsAll : {S : Type 0} → Tells S → S → Race → List SourcePoll → S → Race → Type 0
 HearsAll hears s race [] s' new = (s' ≡ s) × (new ≡ race)
 HearsAll {S} hears s race (p ∷ polls) s' new =
     (between : S) × (reply_of race p.family ≡ None) × hears s p.family p.tick p.told between
     × HearsAll hears between (with_told race p.family p.tick p.told) polls s' new
 
--- the second race is the first with what the source told, from this state of it on; but for how attempts ended and
--- when the client slept it has nothing else
+-- the second race is the first with the source's answers from this state on; otherwise it differs only in the
+-- outcomes of attempts and the client's pauses
 pub record IsOfSource {S : Type 0} (hears : Tells S) (s : S) (given recorded : Race) : Type 0 where
   pub polls : List SourcePoll
   pub last : S
@@ -35,13 +35,13 @@ pub record IsOfSource {S : Type 0} (hears : Tells S) (s : S) (given recorded : R
   pub polled : HearsAll hears s given polls last heard
   pub alike : AreAlike heard recorded
 
--- the record replays, and is that of the given race and of what the source told
+-- the record replays, and consists of the given race and the source's answers
 pub record ReplaysHeard {S Conn : Type 0} (hears : Tells S) (s : S) (race : Race) (raced : Raced Conn) : Type 0 where
   pub replays : ReplaysGiven race raced
   pub source : IsOfSource hears s race raced.recorded
 
--- what a race whose answers come may give, with what is recorded so far and the source as it is: an end that replays,
--- with a winner that goes to the address of the line that won
+-- the results of a race whose answers come while it runs, from its record so far and the source's state: an end that
+-- replays, with a winner that goes to the address of the winning line
 abbrev pub MayGiveFrom : {S Conn : Type 0} → Tells S → S → (Ip → Conn → Type 0) → Option Race
     → Result (Raced Conn) RaceFault → Type 0
 MayGiveFrom {S} {Conn} hears s reaches race result =

@@ -1,4 +1,5 @@
--- Mirrors the code: what private functions answer of a poll: of one attempt, of all of them, and of the end of a turn.
+-- Mirrors the code: the results of private functions for a poll: of one attempt, of all of them, and of the end of a
+-- turn.
 use Rattle.std.specs.Prelude.{ℕ, ◌≡◌, ◌≤◌, ◌++◌, ⊤, false, List, [], ◌∷◌, slice_get, Option, Some, None, Result}
 use Rattle.std.specs.List.{Contains, remove, slice_set}
 use Rattle.futures.specs.declared.task.context.Context.{Context}
@@ -26,7 +27,7 @@ use Rattle.he_turns.specs.Listening.{AllListen, HeardListens, TurnHears, TurnLis
 use Rattle.he_turns.specs.Turns.{BeginsAt, EndsPolled, Goes, Replays, StartsOne, Sweep, asked_tick, told}
 use Rattle.he_turns.specs.declared.live.AfterPoll.TheVariants as after_polls
 
--- at the tick an attempt of the race answered, and how it ended is recorded, after the ticks since its start
+-- an attempt of the race answered at the tick, and its outcome is recorded, with the ticks since its start
 pub record Records {Conn : Type 0} (old : Recorder) (now : ℕ) (answer : Result Conn AttemptFault)
     (new : Recorder) : Type 0 where
   pub x : Attempt
@@ -37,13 +38,13 @@ pub record Records {Conn : Type 0} (old : Recorder) (now : ℕ) (answer : Result
   pub valid : IsRace new.recorded
   pub underway : IsUnderway new.recorded new.underway
 
--- a pending attempt changes nothing of the record
+-- a pending attempt leaves the record unchanged
 abbrev pub Answers : {Conn : Type 0} → Recorder → ℕ → Option (Result Conn AttemptFault) → Recorder → Type 0
 Answers old now None new = new ≡ old
 Answers old now (Some answer) new = Records old now answer new
 
 module _ {C Conn Run : Type 0} (connector : ConnectorOf C Conn Run) (trial : TrialOf Run Conn) where
-  -- the attempt that stands at `i`, the answer of its poll, and what is left of it
+  -- the attempt at `i`, the answer of its poll, and the attempt that is left
   abbrev pub LeftBy : Live C Conn Run → ℕ → ℕ → Unfinished C Conn Run → Poll (Finish Conn) → AttemptFuture C Conn Run
       → Option (Result Conn AttemptFault) → Live C Conn Run → Type 0
   LeftBy old i now o Pending future answer new =
@@ -54,7 +55,7 @@ module _ {C Conn Run : Type 0} (connector : ConnectorOf C Conn Run) (trial : Tri
       × (new.recorder.underway.attempts ≡ old.recorder.underway.attempts)
       × (new.unfinished.items ≡ remove (slice_set old.unfinished.items i (record o { future = future })) i)
 
-  -- the attempt that stands at `i` is polled once
+  -- the attempt at `i` is polled once
   pub record PollsAt (c : C) (old : Live C Conn Run) (i now : ℕ) (answer : Option (Result Conn AttemptFault)) (c' : C)
       (new : Live C Conn Run) : Type 0 where
     pub o : Unfinished C Conn Run
@@ -69,12 +70,12 @@ module _ {C Conn Run : Type 0} (connector : ConnectorOf C Conn Run) (trial : Tri
   BeginsOne c (Some x) os c' new =
       (o : Unfinished C Conn Run) × BeginsAt connector trial c x c' o × (new ≡ os ++ o ∷ [])
 
-  -- the attempt that stands at `made`, if there is one, begins, and stands after the others
+  -- the attempt at `made`, if there is one, begins, and is appended to the others
   abbrev pub BeginsFrom : C → List Attempt → ℕ → List (Unfinished C Conn Run) → C → List (Unfinished C Conn Run)
       → Type 0
   BeginsFrom c all made os c' new = BeginsOne c (slice_get all made) os c' new
 
-  -- the end of a turn that goes on: the attempt that is due begins
+  -- the end of a turn of a race that goes on: an attempt that is due begins
   pub record Continues (c : C) (old : Live C Conn Run) (now : ℕ) (c' : C) (new : Live C Conn Run)
       (tick : ℕ) : Type 0 where
     pub recorded : new.recorder.recorded ≡ old.recorder.recorded
@@ -87,12 +88,12 @@ module _ {C Conn Run : Type 0} (connector : ConnectorOf C Conn Run) (trial : Tri
   GoesOn c old now c' (after_polls.Ended raced) = ⊥
   GoesOn c old now c' (after_polls.Waits new tick) = Continues c old now c' new tick
 
-  -- a turn at or before the limit, once what was slept is recorded
+  -- a turn at or before the limit, once a pause is recorded
   abbrev pub TurnsFrom : Sweep C Conn Run → List (Unfinished C Conn Run) → ℕ → C → AfterPoll C Conn Run → Type 0
   TurnsFrom from os now c' (after_polls.Ended raced) = EndsPolled connector trial from os now c' raced
   TurnsFrom from os now c' (after_polls.Waits new tick) = Goes connector trial from os now c' new tick
 
-  -- after a turn, and after a poll, of a race that goes on its attempts listen
+  -- after a turn, and after a poll, the attempts of a race that goes on listen
   abbrev pub AllListenAfter : Context → AfterPoll C Conn Run → Type 0
   AllListenAfter cx (after_polls.Ended raced) = ⊤
   AllListenAfter cx (after_polls.Waits live tick) = AllListen connector trial cx live.unfinished.items
@@ -102,7 +103,7 @@ module _ {C Conn Run : Type 0} (connector : ConnectorOf C Conn Run) (trial : Tri
   TurnListensAfter cx was (after_polls.Waits live tick) = TurnListens connector trial cx was live
 
 module _ {S C Conn Run : Type 0} (source : SourceOf S) where
-  -- and its source does
+  -- and its source listens
   abbrev pub HeardListensAfter : Context → S → Race → ℕ → S → AfterPoll C Conn Run → Type 0
   HeardListensAfter cx s race now s' (after_polls.Ended raced) = ⊤
   HeardListensAfter cx s race now s' (after_polls.Waits live tick) =
@@ -112,7 +113,7 @@ module _ {S C Conn Run : Type 0} (source : SourceOf S) where
   TurnHearsAfter cx s was s' (after_polls.Ended raced) = ⊤
   TurnHearsAfter cx s was s' (after_polls.Waits live tick) = TurnHears source cx s was s' live
 
--- the tick that is asked for may be
+-- the requested tick is in range
 abbrev pub AsksInTime : {C Conn Run : Type 0} → AfterPoll C Conn Run → Type 0
 AsksInTime (after_polls.Ended raced) = ⊤
 AsksInTime (after_polls.Waits new tick) = tick ≤ MAX_POLL_TICK

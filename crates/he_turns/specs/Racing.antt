@@ -1,4 +1,4 @@
--- A poll of a race: what it tells the ticker and asks of it, and what it answers.
+-- A poll of a race: the tick that it takes from the ticker and the one that it requests, and its result.
 use Rattle.std.specs.Prelude.{ℕ, ◌≡◌, ⊤, Option, Some, None, Result, Ok, Err}
 use Rattle.futures.specs.declared.task.Poll.{Poll}
 use Rattle.futures.specs.declared.task.Poll.TheVariants.{Ready, Pending}
@@ -16,18 +16,18 @@ use Rattle.he_turns.specs.declared.ticker.Ticker.{Ghosts as TickerOf}
 use Rattle.he_turns.specs.declared.trial.Trial.{Ghosts as TrialOf}
 use Rattle.he_turns.specs.Turns.{PolledAt}
 
--- what a fault of the ticker is to the race
+-- the race's fault for a fault of the ticker
 abbrev pub fault_of : TickFault → RaceFault
 fault_of clocks.Memory = faults.Memory
 fault_of clocks.Lost = faults.Clock
 
--- what a poll of the race itself may do at a tick: the connector and the race before, the connector after it, and what
--- it comes to
+-- the steps of the race itself at a tick: the connector and the race before, the connector after, and the outcome of
+-- the poll
 abbrev pub StepOf : Type 0 → Type 0 → Type 0 → Type 1
 StepOf C Conn Run = C → Live C Conn Run → ℕ → C → AfterPoll C Conn Run → Type 0
 
 module _ {C Conn Run T : Type 0} (steps : StepOf C Conn Run) (ticker : TickerOf T) where
-  -- the race goes on, and is to be polled again at a tick, for which the ticker is asked
+  -- the race goes on and is next polled at a tick, which is requested from the ticker
   pub record AsksFor (old : RaceFuture C T Conn Run) (live : Live C Conn Run) (new : RaceFuture C T Conn Run)
       (answer : Result (Unit {0}) TickFault) : Type 0 where
     pub now : ℕ
@@ -50,7 +50,7 @@ module _ {C Conn Run T : Type 0} (steps : StepOf C Conn Run) (ticker : TickerOf 
     pub tells : ticker.tells old.ticker now new.ticker
     pub polled : steps old.connector live now new.connector (after_polls.Ended raced)
 
-  -- a fault: the clock is lost only where the ticker says so
+  -- a fault: the clock is lost only if the ticker reports it
   abbrev pub Fails : RaceFuture C T Conn Run → Live C Conn Run → RaceFuture C T Conn Run → RaceFault → Type 0
   Fails old live new faults.Memory = ⊤
   Fails old live new faults.Clock = AsksFor old live new (Err clocks.Lost)
@@ -63,7 +63,7 @@ module _ {C Conn Run T : Type 0} (steps : StepOf C Conn Run) (ticker : TickerOf 
   LivePolls old live (Ready (Ok raced)) new = Ends old live new raced
   LivePolls old live (Ready (Err fault)) new = Fails old live new fault
 
-  -- a poll: after the race has given its result, it is over
+  -- a poll; after the race has given its result, it is over
   abbrev pub PollsFrom : Option (Live C Conn Run) → RaceFuture C T Conn Run → Poll (Result (Raced Conn) RaceFault)
       → RaceFuture C T Conn Run → Type 0
   PollsFrom None old result new = (result ≡ Ready (Err faults.Over)) × (new ≡ old)

@@ -1,4 +1,4 @@
--- How a race that is being run is recorded, and what holds of its record where it ends.
+-- How a running race is recorded, and what holds of its record at its end.
 use Rattle.std.specs.Prelude.{ℕ, ◌≡◌, ◌+◌, ◌<◌, ◌≤◌, Bool, true, false, List, Some, if◌then◌else◌, IfSome, nat_lt}
 use Rattle.std.specs.List.{All, Contains}
 use Rattle.he_plan.specs.declared.attempts.Attempt.{Attempt}
@@ -12,12 +12,12 @@ use Rattle.he_timeline.specs.Seen.{IsFree}
 use Rattle.he_timeline.specs.declared.outcome.Outcome.TheVariants as outcomes
 use Rattle.he_plan.specs.declared.transcript.Outcome3.TheVariants as results
 
--- how an attempt that started at `start` and finished at `finish` is recorded
+-- the recorded outcome of an attempt that took this duration
 abbrev pub ended_by : Bool → ℕ → Outcome
 ended_by true duration = outcomes.Ok duration
 ended_by false duration = outcomes.Fail duration
 
--- the outcome is a failure by this tick, or, in a race that is won, a success at it
+-- the outcome is a failure at or before this tick, or, in a race that is won, a success at this tick
 abbrev pub EndedBy : Race → ℕ → Bool → Attempt → Outcome → Type 0
 EndedBy race now won x (outcomes.Ok duration) = (won ≡ true) × (x.tick + duration ≡ now)
 EndedBy race now won x (outcomes.Fail duration) = IsFree race (x.tick + duration) × (x.tick + duration ≤ now)
@@ -46,6 +46,6 @@ abbrev pub is_won : Outcome3 → Bool
 is_won (results.Won place tick) = true
 is_won _ = false
 
--- the race with a pause from the due tick on, where the turn comes after it
+-- the race with a pause from the due tick on, if the turn comes after it
 abbrev pub slept : Race → ℕ → ℕ → Race
 slept race due now = if nat_lt due now then with_pause race due now else race

@@ -1,4 +1,4 @@
--- What a turn of a race is whose answers come while it runs, and what its record keeps: the public contracts of
+-- A turn of a race whose answers come while it runs, and what its record keeps. The public contracts of
 -- `ResolvingRace` cite it.
 use Rattle.std.specs.Prelude.{ℕ, ◌≡◌, ◌+◌, ◌++◌, ◌⊎◌, ⊤, min, nat_le, is_some, MatchBool, List, Option, Some, None}
 use Rattle.he_select.specs.Hosts.{HostLists}
@@ -18,7 +18,7 @@ use Rattle.he_turns.specs.Turns.{EndsLate, Sweep, begun}
 
 module _ {S C Conn Run : Type 0} (hears : Tells S) (connector : ConnectorOf C Conn Run)
     (trial : TrialOf Run Conn) where
-  -- the source is polled, what it tells is recorded, and the turn goes on as that of a race that had these answers
+  -- the source is polled, its answers are recorded, and the turn goes on as that of a race with these answers
   pub record HearsAndTurns (s : S) (from : Sweep C Conn Run) (os : List (Unfinished C Conn Run)) (now : ℕ) (s' : S)
       (c' : C) (step : AfterPoll C Conn Run) : Type 0 where
     pub race : Race
@@ -36,8 +36,8 @@ module _ {S C Conn Run : Type 0} (hears : Tells S) (connector : ConnectorOf C Co
       EndsUnheard s (begun c live now) now s' c' step
       ⊎ HearsAndTurns s (begun c live now) live.unfinished.items now s' c' step
 
-  -- a poll takes a turn where none was at the tick or later; else nothing changes, the source isn't polled, and the
-  -- tick after the last turn is asked for
+  -- a poll takes a turn, unless there was one at the tick or later; then nothing changes, the source isn't polled,
+  -- and the tick after the last turn is requested
   abbrev pub HeardFrom : Option ℕ → S → C → Live C Conn Run → ℕ → S → C → AfterPoll C Conn Run → Type 0
   HeardFrom None s c live now s' c' step = HeardTurn s c live now s' c' step
   HeardFrom (Some turn) s c live now s' c' step =
@@ -49,7 +49,7 @@ module _ {S C Conn Run : Type 0} (hears : Tells S) (connector : ConnectorOf C Co
   HeardAt s c live now s' c' step =
       HeardFrom live.recorder.turn s c live (min now (live.recorder.recorded.settings.limit + 1)) s' c' step
 
--- an answer that there is stays
+-- an existing answer is kept
 abbrev pub KeepsAnswer : Option Reply → Option Reply → Type 0
 KeepsAnswer None later = ⊤
 KeepsAnswer (Some reply) later = later ≡ Some reply
@@ -59,18 +59,18 @@ pub record BeginsWith {X : Type 0} (first later : List X) : Type 0 where
   pub more : List X
   pub is : later ≡ first ++ more
 
--- what was known stays, and what is learnt comes after it
+-- the known history is kept, and new knowledge comes after it
 pub record KeepsHistory (history later : History) : Type 0 where
   pub rtts : BeginsWith history.rtts later.rtts
   pub used : BeginsWith history.used later.used
 
--- the host's lines stay, and those that are told come after them
+-- the host's sources and routes are kept, and new ones come after them
 pub record KeepsHost (host later : HostLists) : Type 0 where
   pub sources : BeginsWith host.sources later.sources
   pub routes : BeginsWith host.routes later.routes
 
--- the second race has the first one's settings and policy, its host and its history begin with the first one's, and it
--- has each answer that the first one has
+-- the second race has the first one's settings and policy and each answer that the first one has; its host and its
+-- history begin with the first one's
 pub record KeepsGiven (race later : Race) : Type 0 where
   pub settings : later.settings ≡ race.settings
   pub policy : later.policy ≡ race.policy
@@ -79,8 +79,8 @@ pub record KeepsGiven (race later : Race) : Type 0 where
   pub aaaa : KeepsAnswer race.aaaa later.aaaa
   pub a : KeepsAnswer race.a later.a
 
--- the record replays: it keeps what was given, its transcript is that of the rules, and there is a winner's connection
--- exactly where the race was won
+-- the record replays: it keeps what was given, its transcript is that of the rules, and there is a winner's
+-- connection exactly if the race was won
 pub record ReplaysGiven {Conn : Type 0} (race : Race) (raced : Raced Conn) : Type 0 where
   pub kept : KeepsGiven race raced.recorded
   pub transcript : IsTranscript raced.recorded raced.transcript

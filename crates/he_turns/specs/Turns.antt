@@ -1,5 +1,4 @@
--- What a turn of a race that is being run does, and what the race ends with: the public contracts of `RaceFuture` cite
--- it.
+-- A turn of a running race, and the end of the race. The public contracts of `RaceFuture` cite it.
 use Rattle.std.specs.Prelude.{ℕ, ◌≡◌, ◌+◌, ◌-◌, ◌<◌, ◌==◌, ◌&&◌, ◌||◌, ◌⊎◌, ◌++◌, length, min, nat_le, Bool, true, false, MatchBool, List, [], ◌∷◌, Option, Some, None, is_some, option_map, Result, Ok, Err}
 use Rattle.futures.specs.declared.task.Poll.{Poll}
 use Rattle.futures.specs.declared.task.Poll.TheVariants.{Ready, Pending}
@@ -33,15 +32,15 @@ abbrev pub is_connection : {Conn : Type 0} → Result Conn AttemptFault → Bool
 is_connection (Ok conn) = true
 is_connection (Err fault) = false
 
--- the record replays: its transcript is that of the rules, and there is a winner's connection exactly where the race
--- was won
+-- the record replays: its transcript is that of the rules, and there is a winner's connection exactly if the race was
+-- won
 pub record Replays {Conn : Type 0} (race : Race) (raced : Raced Conn) : Type 0 where
   pub alike : AreAlike race raced.recorded
   pub transcript : IsTranscript raced.recorded raced.transcript
   pub winner : is_some raced.winner ≡ is_won raced.transcript.result
 
--- what a race that is being run may give, with what is recorded so far: an end of which this is said, or a fault;
--- where nothing is left of it, that it is over, and only then
+-- the results of a running race with this record so far: an end for which `said` holds, or a fault; and `Over`
+-- exactly if the race has given its result before
 abbrev pub GivesBy : {Conn : Type 0} → (Race → Raced Conn → Type 0) → Option Race → Result (Raced Conn) RaceFault
     → Type 0
 GivesBy said (Some race) (Ok raced) = said race raced
@@ -50,7 +49,7 @@ GivesBy said (Some race) (Err fault) = Unit {0}
 GivesBy said None (Ok raced) = ⊥
 GivesBy said None (Err fault) = fault ≡ faults.Over
 
--- where all answers were given: an end that replays, with a winner that goes to the address of the line that won
+-- if all answers were given: an end that replays, with a winner that goes to the address of the winning line
 abbrev pub GivesFrom : {Conn : Type 0} → (Ip → Conn → Type 0) → Option Race → Result (Raced Conn) RaceFault → Type 0
 GivesFrom {Conn} reaches race result = GivesBy (EndsAt (Replays {Conn = Conn}) reaches) race result
 
@@ -59,25 +58,25 @@ abbrev pub GivesOf : {C Conn Run : Type 0} → (Ip → Conn → Type 0) → Opti
 GivesOf {C} {Conn} {Run} reaches live result =
     GivesFrom {Conn = Conn} reaches (option_map (λ (x : Live C Conn Run). x.recorder.recorded) live) result
 
--- the race ends at the tick: it is won, or at its limit, or exhausted: no attempt is unfinished, and each usable
--- address of both answers, which have come, was tried
+-- the race ends at the tick: it is won, or at its limit, or exhausted: no attempt is unfinished, both answers have
+-- come, and each of their usable addresses was tried
 abbrev pub is_over : {X : Type 0} → Race → List Attempt → ℕ → List X → Bool → Bool
 is_over race attempts now unfinished won =
     won || (nat_le race.settings.limit now
     || ((length unfinished == 0) && (is_tried_out_by now attempts race.aaaa && is_tried_out_by now attempts race.a)))
 
--- the record with how an attempt ended: after the ticks since its start
+-- the record with the outcome of an attempt, which took the ticks since its start
 abbrev pub told : {Conn : Type 0} → Race → Attempt → ℕ → Result Conn AttemptFault → Race
 told race x now answer = with_outcome race x.ip (ended_by (is_connection answer) (now - x.tick))
 
--- the connection that there is, or else the answer's
+-- the connection so far, or else the answer's
 abbrev pub first_of : {Conn : Type 0} → Option Conn → Result Conn AttemptFault → Option Conn
 first_of (Some conn) answer = Some conn
 first_of None (Ok conn) = Some conn
 first_of None (Err fault) = None
 
--- a turn in which some of the unfinished attempts were polled: the connector, what is recorded, the attempts that were
--- made, those of them that are still pending, and the first connection
+-- a turn in which some of the unfinished attempts were polled: the connector, the record, the attempts made, those of
+-- the polled ones that are still pending, and the first connection
 pub record Sweep (C Conn Run : Type 0) : Type 0 where
   pub connector : C
   pub recorded : Race
@@ -85,28 +84,28 @@ pub record Sweep (C Conn Run : Type 0) : Type 0 where
   pub pending : List (Unfinished C Conn Run)
   pub first : Option Conn
 
--- a turn that begins, in which nothing was polled yet
+-- a turn that begins, in which nothing has been polled yet
 abbrev pub unpolled : {C Conn Run : Type 0} → C → Race → List Attempt → Sweep C Conn Run
 unpolled c race attempts = record { connector = c; recorded = race; attempts = attempts; pending = []; first = None }
 
--- a race before its first turn: nothing is recorded, and no attempt was made
+-- a race before its first turn: nothing is recorded yet, and no attempt was made
 pub record IsNew {C Conn Run : Type 0} (race : Race) (live : Live C Conn Run) : Type 0 where
   pub recorded : live.recorder.recorded ≡ unrecorded race
   pub turn : live.recorder.turn ≡ None
   pub attempts : live.recorder.underway.attempts ≡ []
   pub unfinished : live.unfinished.items ≡ []
 
--- a turn begins: the client slept from the due tick on
+-- a turn begins: a pause from the due tick on is recorded
 abbrev pub begun : {C Conn Run : Type 0} → C → Live C Conn Run → ℕ → Sweep C Conn Run
 begun c live now = unpolled c (slept live.recorder.recorded live.recorder.due now) live.recorder.underway.attempts
 
 module _ {C Conn Run : Type 0} (connector : ConnectorOf C Conn Run) (trial : TrialOf Run Conn) where
-  -- the least of the due tick and the ticks at which an unfinished attempt is due
+  -- the least of the due tick and the ticks at which unfinished attempts are due
   abbrev pub asked_tick : ℕ → List (Unfinished C Conn Run) → ℕ
   asked_tick due [] = due
   asked_tick due (o ∷ unfinished) = asked_tick (earliest due (due_of connector trial o.future)) unfinished
 
-  -- after a poll of an attempt: one that is pending stays, as the poll left it; of one that answers, how it ended is
+  -- after a poll of an attempt: a pending attempt is kept, as the poll left it; the outcome of one that answers is
   -- recorded
   abbrev pub after_poll : Sweep C Conn Run → Unfinished C Conn Run → ℕ → Poll (Finish Conn) → C
       → AttemptFuture C Conn Run → Sweep C Conn Run
@@ -124,12 +123,12 @@ module _ {C Conn Run : Type 0} (connector : ConnectorOf C Conn Run) (trial : Tri
       × AttemptPolls connector trial from.connector o.future now answer c future
       × ArePolled now (after_poll from o now answer c future) os to
 
-  -- an attempt that was made begins at its start
+  -- an attempt begins at its start
   pub record BeginsAt (c : C) (x : Attempt) (c' : C) (o : Unfinished C Conn Run) : Type 0 where
     pub attempt : o.attempt ≡ x
     pub polls : AttemptPolls connector trial c (Sleeping x.place x.ip x.tick) x.tick Pending c' o.future
 
-  -- after the attempts before, one that was made begins at the tick of the turn, and stands after the others
+  -- one more attempt was made; it begins at the tick of the turn, and comes after the others
   pub record BeginsNext (c : C) (now : ℕ) (xs all : List Attempt) (os : List (Unfinished C Conn Run)) (c' : C)
       (new : List (Unfinished C Conn Run)) : Type 0 where
     pub x : Attempt
@@ -139,7 +138,7 @@ module _ {C Conn Run : Type 0} (connector : ConnectorOf C Conn Run) (trial : Tri
     pub begins : BeginsAt c x c' o
     pub next : new ≡ os ++ o ∷ []
 
-  -- no attempt was made, and all stays as it was
+  -- no attempt was made, and nothing changes
   pub record StaysAs (c : C) (xs all : List Attempt) (os : List (Unfinished C Conn Run)) (c' : C)
       (new : List (Unfinished C Conn Run)) : Type 0 where
     pub none : all ≡ xs
@@ -150,7 +149,8 @@ module _ {C Conn Run : Type 0} (connector : ConnectorOf C Conn Run) (trial : Tri
       → List (Unfinished C Conn Run) → Type 0
   StartsOne c now xs all os c' new = StaysAs c xs all os c' new ⊎ BeginsNext c now xs all os c' new
 
-  -- a turn that goes on: each unfinished attempt was polled, the race is not over, and the attempt that is due begins
+  -- a turn of a race that goes on: each unfinished attempt was polled, the race is not over, and the attempt that is
+  -- due begins
   pub record Goes (from : Sweep C Conn Run) (os : List (Unfinished C Conn Run)) (now : ℕ) (c' : C)
       (new : Live C Conn Run) (tick : ℕ) : Type 0 where
     pub swept : Sweep C Conn Run
@@ -164,7 +164,7 @@ module _ {C Conn Run : Type 0} (connector : ConnectorOf C Conn Run) (trial : Tri
     pub turn : new.recorder.turn ≡ Some now
     pub asked : tick ≡ asked_tick new.recorder.due new.unfinished.items
 
-  -- a turn after which the race is over, since each unfinished attempt was polled
+  -- a turn after which the race is over, with each unfinished attempt polled
   pub record EndsPolled (from : Sweep C Conn Run) (os : List (Unfinished C Conn Run)) (now : ℕ) (c' : C)
       (raced : Raced Conn) : Type 0 where
     pub swept : Sweep C Conn Run
@@ -192,8 +192,8 @@ module _ {C Conn Run : Type 0} (connector : ConnectorOf C Conn Run) (trial : Tri
       EndsLate (begun c live now) now c' raced ⊎ EndsPolled (begun c live now) live.unfinished.items now c' raced
   Turned c live now c' (after_polls.Waits new tick) = Goes (begun c live now) live.unfinished.items now c' new tick
 
-  -- a poll takes a turn where none was at the tick or later; else nothing changes, and the tick after the last turn
-  -- is asked for
+  -- a poll takes a turn, unless there was one at the tick or later; then nothing changes, and the tick after the last
+  -- turn is requested
   abbrev pub PolledFrom : Option ℕ → C → Live C Conn Run → ℕ → C → AfterPoll C Conn Run → Type 0
   PolledFrom None c live now c' step = Turned c live now c' step
   PolledFrom (Some turn) c live now c' step =

@@ -1,5 +1,5 @@
--- Where the connections of a race go: each attempt that is being made leads to its own address, so that the winner
--- goes to the address of the line that won. The public contracts of `RaceFuture` and `ResolvingRace` cite it.
+-- Where the connections of a race go: each attempt in progress leads to its own address, so that the winner goes to
+-- the address of the winning line. The public contracts of `RaceFuture` and `ResolvingRace` cite it.
 use Rattle.std.specs.Prelude.{◌<◌, ⊤, List, [], ◌∷◌, IfSome, IsSomeAnd, slice_get}
 use Rattle.std.specs.List.{All}
 use Rattle.he_addr.specs.declared.ip.Ip.{Ip}
@@ -20,11 +20,11 @@ abbrev pub GoesAt : {Conn : Type 0} → (Ip → Conn → Type 0) → List Line �
 GoesAt reaches lines (results.Won place tick) conn = IsSomeAnd (slice_get lines place) (λ line. reaches line.ip conn)
 GoesAt reaches lines result conn = ⊥
 
--- the connection that there is goes to the address of the line that won
+-- the winner's connection, if there is one, goes to the address of the winning line
 abbrev pub WinnerGoes : {Conn : Type 0} → (Ip → Conn → Type 0) → Raced Conn → Type 0
 WinnerGoes reaches raced = IfSome raced.winner (GoesAt reaches raced.transcript.lines raced.transcript.result)
 
--- this is said of the end, and the winner goes to the address of the line that won
+-- `said` holds for the end, and the winner goes to the address of the winning line
 pub record EndsAt {Conn : Type 0} (said : Race → Raced Conn → Type 0) (reaches : Ip → Conn → Type 0) (race : Race)
     (raced : Raced Conn) : Type 0 where
   pub end : said race raced
@@ -34,18 +34,18 @@ pub record EndsAt {Conn : Type 0} (said : Race → Raced Conn → Type 0) (reach
 abbrev pub IsAhead : {C Conn Run : Type 0} → Unfinished C Conn Run → Unfinished C Conn Run → Type 0
 IsAhead o p = o.attempt.place < p.attempt.place
 
--- the attempts stand in order of place
+-- the attempts are in order of place
 abbrev pub AreInOrder : {C Conn Run : Type 0} → List (Unfinished C Conn Run) → Type 0
 AreInOrder [] = ⊤
 AreInOrder (o ∷ os) = All (IsAhead o) os × AreInOrder os
 
 module _ {C Conn Run : Type 0} (connector : ConnectorOf C Conn Run) (trial : TrialOf Run Conn) where
-  -- each unfinished attempt leads to its own address, and they stand in order of place
+  -- each unfinished attempt leads to its own address, and they are in order of place
   pub record IsAimed (c : C) (live : Live C Conn Run) : Type 0 where
     pub leads : All (λ o. LeadsTo connector trial (connector.reaches c) o.attempt.ip o.future) live.unfinished.items
     pub order : AreInOrder live.unfinished.items
 
-  -- what is kept between two polls, with the connector as it is
+  -- the invariant between two polls, with the connector's present state
   pub record MayPoll (c : C) (live : Live C Conn Run) : Type 0 where
     pub kept : IsLive connector trial live
     pub aimed : IsAimed c live

@@ -1,4 +1,4 @@
-// Where the answers of a race come from while it runs.
+// The source of a race's answers while it runs.
 
 ghost use Rattle.std.specs.Prelude.{◌≡◌, ◌≤◌, [], ℕ, Option, None, Some, map, ◌⊎◌, IfOk};
 ghost use Rattle.futures.specs.Poll.{IfReady, OnPending};
@@ -14,20 +14,20 @@ use he_addr::{Family, Ip, Memory};
 use he_select::{Known, Route, Source};
 use std::alloc::Global;
 
-/// What a source answers for a family.
+/// A source's answer for a family.
 #[derive(Drop)]
 pub struct Answer {
-    /// The addresses, of which there may be none, with what the client knows of each from earlier connections (RFC
-    /// 8305 section 4), which may be nothing.
+    /// The addresses, of which there may be none, each with the client's knowledge of it from earlier connections, if
+    /// any (RFC 8305 section 4).
     pub known: Vec<Known>,
-    /// Sources of this machine from which they are reached (RFC 6724 section 5).
+    /// Source addresses of this machine from which the addresses are reached (RFC 6724 section 5).
     pub sources: Vec<Source>,
-    /// Routes to them.
+    /// Routes to the addresses.
     pub routes: Vec<Route>,
 }
 
 impl Answer {
-    /// The answer of these addresses without lines of the machine. It takes no memory.
+    /// An answer with these addresses and without sources and routes of the machine. It allocates nothing.
     pub fn without_lines(known: Vec<Known>) -> Answer
         ensures { lists_of result ≡ record { known = known.items; sources = []; routes = [] } }
     {
@@ -40,31 +40,31 @@ impl Answer {
     }
 }
 
-/// Where the answers of a race come from while it runs, as from a resolver that was asked for AAAA and A at once (RFC
-/// 8305 section 3). Each turn polls it once for each family that has no answer yet, IPv6 first, at the turn's tick.
+/// The source of a race's answers while it runs, such as a resolver that was asked for AAAA and A at once (RFC 8305
+/// section 3). Each turn polls it once for each family without an answer, IPv6 first, at the turn's tick.
 ///
-/// A poll that is pending owes one of two: it has registered in `cx` at each source that it waits for (`needs`), so
-/// that the task is polled again once something happened, and registered or yielded there where it states none; or no
-/// later poll for this family has an answer. A poll for one family leaves the other one registered too, for all that
-/// the source then waits for to answer for it.
+/// A pending poll guarantees one of two: it has registered in `cx` at each source that it waits for (`needs`), so
+/// that the task is polled again once something happens (with no `needs` stated, it has registered or yielded there);
+/// or no later poll for this family returns an answer. A poll for one family keeps the other one registered too, for
+/// all that its answer then waits for.
 pub trait AnswerSource: Drop {
-    // Holds of each source that it waits for, to answer for the family.
+    // Holds for each source that it waits for, to answer for the family.
     ghost needs: { Self → Family → ℕ → Type 0 } = { λ _ _ _. ⊥ };
 
-    // What a poll for a family at a tick may tell, and the state that it leaves.
+    // The answers that a poll for a family at a tick may give, and the state that it leaves.
     ghost hears: { Self → Family → ℕ → Option AnswerLists → Self → Type 0 };
 
-    /// Polls for the family's addresses at the tick `now`, at most `MAX_POLL_TICK`. For a family that it has answered
-    /// it isn't polled again.
+    /// Polls for the family's addresses at the tick `now`, at most `MAX_POLL_TICK`. It isn't polled again for a
+    /// family that it has answered.
     ///
-    /// Of what it answers the race takes the addresses of the family, each once, and the first `MAX_ADDRESSES` of
-    /// them; and of each of these what stands with it first. A round trip time of 0 ms counts as 1, and one
-    /// above 3,600,000 as 3,600,000.
+    /// The race takes the addresses of the family from the answer, each once and at most the first `MAX_ADDRESSES`,
+    /// and for each of these the first entry's knowledge. A round trip time of 0 ms counts as 1, and one above
+    /// 3,600,000 as 3,600,000.
     ///
-    /// The race's host has the answer's lines after its own: the sound sources of the family whose address it doesn't
-    /// have, each address once, and the sound routes that serve the family (those inside `::ffff:0:0/96` IPv4, all
-    /// others IPv6) whose prefix it doesn't have, each prefix once, as many as a host may have. All others are left
-    /// out.
+    /// The answer's sources and routes are added to the race's host, after its own: the sound sources of the family
+    /// whose addresses it doesn't have, each address once, and the sound routes that serve the family (those inside
+    /// `::ffff:0:0/96` IPv4, all others IPv6) whose prefixes it doesn't have, each prefix once, up to the maximum of
+    /// a host. All others are left out.
     fn poll_answer(&mut self, family: Family, now: u64, cx: &mut Context<'_>) -> Poll<Answer>
         requires in_time { now ≤ MAX_POLL_TICK }
         ensures pending { OnPending result (hears self.old family now None self.new) }
@@ -75,7 +75,7 @@ pub trait AnswerSource: Drop {
         ensures kept { Keeps cx.old cx.new };
 }
 
-/// The addresses, of which nothing is known, as a source that keeps no history has them.
+/// The addresses, each without any knowledge of it, as a source without a history has them.
 pub fn nothing_known(alloc: Global, addresses: &[Ip]) -> Result<Vec<Known>, Memory>
     ensures { IfOk result (λ known. known.items ≡ map nothing_known addresses.now) }
 {
@@ -86,7 +86,7 @@ pub fn nothing_known(alloc: Global, addresses: &[Ip]) -> Result<Vec<Known>, Memo
     Ok(known)
 }
 
-// The source of a race whose answers are all known: it tells nothing.
+// The source of a race whose answers are all known: it never answers.
 #[derive(Drop)]
 pub(crate) struct NoAnswers;
 

@@ -1,4 +1,4 @@
-// One attempt to connect, as a state machine that is polled.
+// An attempt to connect, as a state machine that is polled.
 
 ghost use Rattle.std.specs.Prelude.{◌≡◌, ◌≤◌, None};
 ghost use Rattle.futures.specs.Poll.{OnPending};
@@ -14,14 +14,14 @@ use crate::trial::Trial;
 use futures::task::{Context, Poll};
 use he_addr::Ip;
 
-/// What an attempt ended with, and the tick of the poll that found it.
+/// The result of an attempt, and the tick of the poll that found it.
 #[derive(Drop)]
 pub struct Finish<Conn> {
     pub tick: u64,
     pub result: Result<Conn, AttemptFault>,
 }
 
-/// One attempt: it sleeps until its start, then connects, and is done once it has answered.
+/// An attempt: it sleeps until its start, then connects, and is done once it has answered.
 #[derive(Drop)]
 pub enum AttemptFuture<C: Connector> {
     /// Not begun: the attempt's place in the race, its address and the tick of its start.
@@ -30,21 +30,21 @@ pub enum AttemptFuture<C: Connector> {
         ip: Ip,
         start: u64,
     },
-    /// Begun at the tick before `next`: the trial, or why the connector could not begin one. It isn't polled before
-    /// `next`.
+    /// Begun at the tick before `next`: the trial, or the fault with which the connector could not begin one. It
+    /// isn't polled before `next`.
     Connecting {
         run: Result<C::Run, AttemptFault>,
         next: u64,
         is_fresh: bool,
     },
-    /// Finished: the tick at which it had begun.
+    /// Finished, with the tick at which it had begun.
     Done {
         started: u64,
     },
 }
 
 impl<C: Connector> AttemptFuture<C> {
-    /// The attempt of this place at the address, which sleeps until the tick `start`.
+    /// An attempt to connect to the address, at this place in the race, which sleeps until the tick `start`.
     pub fn new(place: usize, ip: Ip, start: u64) -> AttemptFuture<C>
         ensures { result ≡ AttemptFuture.Sleeping place ip start }
     {
@@ -52,8 +52,9 @@ impl<C: Connector> AttemptFuture<C> {
     }
 
     /// Polls at the tick `now`, at most `MAX_POLL_TICK`. Before its start it is pending. At the first poll at or
-    /// after it the attempt begins and is pending; from the next tick on it polls its trial, and answers what the
-    /// trial answers, or why the connector could not begin one. After that it isn't called again.
+    /// after its start the attempt begins and is pending. From the next tick on it polls its trial, and returns the
+    /// trial's answer, or the fault with which the connector could not begin one. After that it must not be polled
+    /// again.
     pub fn poll_attempt(
         &mut self,
         connector: &mut C,
@@ -109,8 +110,7 @@ impl<C: Connector> AttemptFuture<C> {
         }
     }
 
-    /// The next tick at which anything can change, where it is known: the start, the tick after it, or what the
-    /// trial says.
+    /// The next tick at which anything can change, if known: the start, the tick after it, or the trial's `due`.
     pub fn due(&self) -> Option<u64>
         ensures { result ≡ due_of C.Connector C.Run.Trial self.now }
     {
@@ -132,7 +132,7 @@ impl<C: Connector> AttemptFuture<C> {
         }
     }
 
-    /// The tick at which the attempt began, if it did.
+    /// The tick at which the attempt began, if it has begun.
     pub fn started(&self) -> Option<u64>
         ensures { result ≡ started_of self.now }
     {

@@ -1,22 +1,22 @@
-// What connecting and telling time can fail with.
+// The errors of connecting and of tickers.
 
 use thiserror::Error;
 
 /// Why an address has no connection.
 #[derive(Clone, Copy, Debug, PartialEq, Eq, Error)]
 pub enum AttemptFault {
-    /// The attempt could not be begun.
+    /// The attempt could not begin.
     #[error("the attempt could not begin")]
     Begin,
-    /// The attempt was begun, and failed.
+    /// The attempt began and failed.
     #[error("the attempt failed")]
     Failed,
 }
 
-/// Why a ticker cannot wake.
+/// Why a ticker cannot wake the task.
 #[derive(Clone, Copy, Debug, PartialEq, Eq, Error)]
 pub enum TickFault {
-    /// An allocation was refused.
+    /// An allocation failed.
     #[error("out of memory")]
     Memory,
     /// The clock is lost: no later tick can be waited for.
@@ -27,13 +27,13 @@ pub enum TickFault {
 /// Why a race gives no result.
 #[derive(Clone, Copy, Debug, PartialEq, Eq, Error)]
 pub enum RaceFault {
-    /// An allocation was refused, or the ticker answered that one was.
+    /// An allocation failed, in the race or in its ticker.
     #[error("out of memory")]
     Memory,
-    /// The ticker answered that its clock is lost.
+    /// The ticker reported that its clock is lost.
     #[error("the clock is lost")]
     Clock,
-    /// The race has given its result before.
+    /// The race has given its result already.
     #[error("the race is over")]
     Over,
 }

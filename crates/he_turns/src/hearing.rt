@@ -1,4 +1,4 @@
-// What a race that is being run records of the answers that come in a turn.
+// Records the answers that come in a turn of a running race.
 
 ghost use Rattle.std.specs.Prelude.{◌≡◌, ◌≤◌, ◌&&◌, false, true, not, None, IfNone, IfOk, OnOk, length, nat_lt};
 ghost use Rattle.futures.specs.Task.{Keeps};
@@ -23,7 +23,7 @@ use he_timeline::limits::MAX_ADDRESSES;
 use std::alloc::Global;
 
 impl Recorder {
-    // Takes the answers that have come: each family that has none is polled once, IPv6 first.
+    // Takes the answers that have come: polls once for each family without one, IPv6 first.
     pub(crate) fn hear<S: AnswerSource>(
         &mut self,
         now: u64,
@@ -45,7 +45,7 @@ impl Recorder {
         self.hear_of(Family::V4, now, source, cx)
     }
 
-    // Takes the family's answer, where it has none and the source tells one.
+    // Takes the family's answer, if it has none yet and the source gives one.
     fn hear_of<S: AnswerSource>(
         &mut self,
         family: Family,
@@ -76,7 +76,7 @@ impl Recorder {
         }
     }
 
-    // Records what was told for a family that has no answer, in the turn at the tick.
+    // Records an answer for a family that has none, in the turn at the tick.
     fn answer(&mut self, family: Family, now: u64, told: &Answer) -> Result<(), Memory>
         requires turn { InTurn self.old.recorded now self.old.underway.attempts false }
         requires underway { IsUnderway self.old.recorded self.old.underway }
@@ -117,7 +117,7 @@ fn add_answer(
     only_memory(recorded.answer(family, tick, addresses))
 }
 
-// What a race takes of the addresses that are told for a family: those of the family, each once, at most
+// The addresses that a race takes from an answer for a family: those of the family, each once, at most
 // `MAX_ADDRESSES`.
 fn cleaned(alloc: Global, family: Family, told: &[Known]) -> Result<Vec<Ip>, Memory>
     ensures { IfOk result (λ clean. clean.items ≡ cleaned family (ips_of told.now)) }

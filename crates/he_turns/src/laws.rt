@@ -1,4 +1,4 @@
-// What one more answer leaves as it was, as the contract of a function that does nothing.
+// A law of the effects of one more answer, as the contract of a function that does nothing.
 
 ghost use Rattle.std.specs.Prelude.{◌≡◌, ℕ, ◌<◌, ◌≤◌, ◌↔◌, List, None, Some, IsTrue, nat_lt};
 ghost use Rattle.std.specs.List.{list_all};
@@ -9,9 +9,9 @@ ghost use Rattle.he_timeline.specs.Race.{Race, reply_of};
 ghost use Rattle.he_timeline.specs.Timeline.{IsRace};
 ghost use Rattle.he_turns.specs.Heard.{AnswerLists, with_told};
 
-/// One more answer changes nothing before its tick, and neither do the history of its addresses and the lines of the
-/// machine that come with it: neither which ticks an attempt may start at, nor from which list it takes its address,
-/// nor the attempts that were made.
+/// One more answer, with the history of its addresses and its sources and routes, changes nothing before its tick:
+/// neither the ticks at which an attempt may start, nor the list from which it takes its address, nor the attempts
+/// made.
 pub fn one_more_answer_above()
     ensures starts { (race : Race) (family : Family) (now : ℕ) (answer : AnswerLists) → IsRace race
         → reply_of race family ≡ None → (done : List Attempt) (t : ℕ) → t < now → MayStart race done t

@@ -1,4 +1,4 @@
-// What a race that is being run records of what is known of addresses whose answer has come.
+// Records the knowledge of addresses whose answer has come.
 
 ghost use Rattle.std.specs.Prelude.{if◌then◌else◌, ◌≡◌, ◌∷◌, [], false, true, not, OnOk};
 ghost use Rattle.std.specs.List.{list_all};
@@ -14,7 +14,7 @@ use he_select::Known;
 use he_timeline::TimelineBuilder;
 use he_timeline::limits::{MAX_DURATION, MIN_DURATION};
 
-// Records what was told of the addresses, of which nothing is known yet.
+// Records the knowledge of these addresses; none is recorded for them yet.
 pub(crate) fn add_known(
     recorded: &mut TimelineBuilder,
     told: &[Known],
@@ -34,7 +34,7 @@ pub(crate) fn add_known(
     Ok(())
 }
 
-// Records what was told of the address.
+// Records the knowledge of the address.
 fn add_one(recorded: &mut TimelineBuilder, told: &[Known], ip: Ip) -> Result<(), Memory>
     requires valid { IsRace recorded.old }
     requires answered { is_in_answer recorded.old ip ≡ true }
@@ -48,7 +48,7 @@ fn add_one(recorded: &mut TimelineBuilder, told: &[Known], ip: Ip) -> Result<(),
     add_used(recorded, ip, used)
 }
 
-// What is told of the address where it stands first: its round trip time, and whether it was used before.
+// The first entry's knowledge of the address: its round trip time in milliseconds, and whether it was used before.
 fn told_of(told: &[Known], ip: Ip) -> (Option<u64>, bool)
     ensures rtt { result.0 ≡ known_rtt told.now ip }
     ensures used { result.1 ≡ known_used told.now ip }
@@ -83,7 +83,7 @@ fn add_rtt(recorded: &mut TimelineBuilder, ip: Ip, rtt: Option<u64>) -> Result<(
     }
 }
 
-// Records the round trip time of the address, of which none is recorded yet.
+// Records the round trip time of the address; none is recorded for it yet.
 fn push_rtt(recorded: &mut TimelineBuilder, ip: Ip, rtt: u64) -> Result<(), Memory>
     requires valid { IsRace recorded.old }
     requires lasts { is_duration rtt ≡ true }
@@ -95,7 +95,7 @@ fn push_rtt(recorded: &mut TimelineBuilder, ip: Ip, rtt: u64) -> Result<(), Memo
     only_memory(recorded.rtt_of_known(ip, rtt))
 }
 
-// A round trip time in the range of those that are recorded.
+// The round trip time, brought into the range of recorded ones.
 fn counted_rtt(rtt: u64) -> u64
     ensures value { result ≡ counted_rtt rtt }
     ensures range { is_duration result ≡ true }

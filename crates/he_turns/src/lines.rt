@@ -1,4 +1,4 @@
-// What a race that is being run records of the lines of the machine that come with an answer.
+// Records the machine's sources and routes that come with an answer.
 
 ghost use Rattle.std.specs.Prelude.{◌≡◌, ◌≤◌, ◌≢◌, ◌&&◌, AllPairs, IfOk, OnOk, length, nat_lt, not};
 ghost use Rattle.std.specs.List.{list_any};
@@ -14,7 +14,7 @@ use he_select::{Host, Route, Source};
 use he_timeline::TimelineBuilder;
 use std::alloc::Global;
 
-// Adds to the race's host the lines that are told of the family.
+// Adds the answer's sources and routes of the family to the race's host.
 pub(crate) fn add_lines(
     alloc: Global,
     recorded: &mut TimelineBuilder,
@@ -30,7 +30,7 @@ pub(crate) fn add_lines(
     Ok(())
 }
 
-// The host with the lines that are told of the family.
+// The host with the answer's sources and routes of the family added.
 fn widened(alloc: Global, host: &Host, family: Family, told: &Answer) -> Result<Host, Memory>
     requires { IsHost host.now }
     ensures { IfOk result (λ wider. wider ≡ widened family (lists_of told.now) host.now) }

@@ -1,4 +1,4 @@
-// A race that is being run, with the connections of its unfinished attempts.
+// A running race, with the connections of its unfinished attempts.
 
 ghost use Rattle.std.specs.Prelude.{All, if◌then◌else◌, ◌≡◌, ◌+◌, ◌-◌, ◌<◌, ◌≤◌, ◌&&◌, ◌||◌, ◌==◌, Bool, ℕ, [], MatchBool, None, Some, false, length, is_some, min, slice_get, true, vec_len, IfNone, IfOk, IfSome, OnOk};
 ghost use Rattle.futures.specs.Task.{Keeps};
@@ -43,16 +43,16 @@ pub(crate) struct Live<C: Connector> {
 /// A race that has ended.
 #[derive(Drop)]
 pub struct Raced<Conn> {
-    /// What the rules of a race make of the record.
+    /// The transcript that the rules of a race determine for the record.
     pub transcript: Transcript,
-    /// The given settings, policy, host, answers and history, with what was heard of a source, what each attempt did
-    /// and when the client slept.
+    /// The given settings, policy, host, answers and history, with the source's answers, the outcome of each attempt,
+    /// and the client's pauses.
     pub recorded: Timeline,
-    /// The winner's connection, where the race was won.
+    /// The winner's connection, if the race was won.
     pub winner: Option<Conn>,
 }
 
-// What a poll comes to, where no memory is refused: the race has ended, or it goes on and is to be polled at a tick.
+// The result of a poll if no allocation fails: the race has ended, or it goes on and is next polled at a tick.
 #[derive(Drop)]
 pub(crate) enum AfterPoll<C: Connector> {
     Ended(Raced<C::Conn>),
@@ -74,7 +74,7 @@ impl<C: Connector> Live<C> {
         })
     }
 
-    // A poll at the tick: a turn where there was none yet at this tick or later.
+    // Polls at the tick: takes a turn, unless there was one at this tick or later.
     pub(crate) fn step<S: AnswerSource>(
         self,
         now: u64,
@@ -98,7 +98,8 @@ impl<C: Connector> Live<C> {
         }
     }
 
-    // The turn at the tick: it ends the race, or the race goes on and is to be polled again at a tick.
+    // A turn of the race, at the tick (RFC 8305 sections 3 to 5). The race ends in it, or is to be polled again at a
+    // tick.
     fn take_turn<S: AnswerSource>(
         mut self,
         now: u64,
@@ -116,88 +117,24 @@ impl<C: Connector> Live<C> {
             (slept self.recorder.recorded self.recorder.due now) now source.new) }
         ensures kept { Keeps cx.old cx.new }
     {
-        let limit = self.recorder.limit();
-        match self.recorder.begin_turn(now) {
-            Err(fault) => {
-                drop(self);
-                Err(fault)
-            }
-            Ok(()) => {
-                if now > limit {
-                    return self.end(None);
-                }
-                self.hear(now, connector, source, cx)
-            }
+        // A client that acts later than something was due has slept until now.
+        self.recorder.begin_turn(now)?;
+        if now > self.recorder.limit() {
+            return self.end(None);
         }
+        // Answers count from the turn in which they come (section 3).
+        self.recorder.hear(now, source, cx)?;
+        // Attempts that have ended are recorded; the first connection wins, and ends the others (section 5).
+        let winner = self.poll_all(now, connector, cx)?;
+        if self.is_over(now, winner.is_some()) {
+            return self.end(winner);
+        }
+        drop(winner);
+        // One attempt starts where the Connection Attempt Delay is over and an address is left (section 5).
+        self.end_turn(now, connector, cx)
     }
 
-    // What a turn at or before the limit does once it has begun: the answers that have come are recorded before the
-    // attempts are polled.
-    fn hear<S: AnswerSource>(
-        mut self,
-        now: u64,
-        connector: &mut C,
-        source: &mut S,
-        cx: &mut Context<'_>,
-    ) -> Result<AfterPoll<C>, Memory>
-        requires turn { InTurn self.recorder.recorded now self.recorder.underway.attempts false }
-        requires underway { IsUnderway self.recorder.recorded self.recorder.underway }
-        requires unfinished { All (IsUnfinished C.Connector C.Run.Trial self.recorder.underway.attempts)
-            self.unfinished.items }
-        requires untold { are_untold self.recorder.recorded.outcomes self.unfinished.items ≡ true }
-        requires early { now ≤ self.recorder.recorded.settings.limit }
-        ensures turned { IfOk result (HearsAndTurns S.hears C.Connector C.Run.Trial source.old
-            (unpolled connector.old self.recorder.recorded self.recorder.underway.attempts) self.unfinished.items now
-            source.new connector.new) }
-        ensures waits { IfOk result (AllListenAfter C.Connector C.Run.Trial cx.new) }
-        ensures source_waits { IfOk result (HeardListensAfter S.AnswerSource cx.new source.old self.recorder.recorded
-            now source.new) }
-        ensures kept { Keeps cx.old cx.new }
-    {
-        match self.recorder.hear(now, source, cx) {
-            Err(fault) => {
-                drop(self);
-                Err(fault)
-            }
-            Ok(()) => self.run_turn(now, connector, cx),
-        }
-    }
-
-    // What it does once the answers that have come are recorded.
-    fn run_turn(
-        mut self,
-        now: u64,
-        connector: &mut C,
-        cx: &mut Context<'_>,
-    ) -> Result<AfterPoll<C>, Memory>
-        requires turn { InTurn self.recorder.recorded now self.recorder.underway.attempts false }
-        requires underway { IsUnderway self.recorder.recorded self.recorder.underway }
-        requires unfinished { All (IsUnfinished C.Connector C.Run.Trial self.recorder.underway.attempts)
-            self.unfinished.items }
-        requires untold { are_untold self.recorder.recorded.outcomes self.unfinished.items ≡ true }
-        requires early { now ≤ self.recorder.recorded.settings.limit }
-        ensures turned { IfOk result (TurnsFrom C.Connector C.Run.Trial
-            (unpolled connector.old self.recorder.recorded self.recorder.underway.attempts) self.unfinished.items now
-            connector.new) }
-        ensures waits { IfOk result (AllListenAfter C.Connector C.Run.Trial cx.new) }
-        ensures kept { Keeps cx.old cx.new }
-    {
-        match self.poll_all(now, connector, cx) {
-            Err(fault) => {
-                drop(self);
-                Err(fault)
-            }
-            Ok(winner) => {
-                if self.is_over(now, winner.is_some()) {
-                    return self.end(winner);
-                }
-                drop(winner);
-                self.end_turn(now, connector, cx)
-            }
-        }
-    }
-
-    // Polls each unfinished attempt once, in order of place, records those that finish, and answers the first
+    // Polls each unfinished attempt once, in order of place, records those that finish, and returns the first
     // connection.
     fn poll_all(
         &mut self,
@@ -241,7 +178,7 @@ impl<C: Connector> Live<C> {
         Ok(winner)
     }
 
-    // Polls the unfinished attempt that stands at `i`. One that answers is recorded, and is no longer among them.
+    // Polls the unfinished attempt at `i`. If it answers, it is recorded and removed from the list.
     fn poll_one(
         &mut self,
         i: usize,
@@ -284,8 +221,8 @@ impl<C: Connector> Live<C> {
         }
     }
 
-    // Whether the race ends at the tick: it is won, at its limit, or exhausted, since nothing is left to wait for or
-    // to try.
+    // Whether the race ends at the tick: it is won, at its limit, or exhausted, with nothing left to wait for or to
+    // try.
     fn is_over(&self, now: u64, is_won: bool) -> bool
         ensures { result ≡ is_over self.now.recorder.recorded self.now.recorder.underway.attempts now
             self.now.unfinished.items is_won }
@@ -295,7 +232,7 @@ impl<C: Connector> Live<C> {
             || (self.unfinished.is_empty() && self.recorder.is_tried_out(now))
     }
 
-    // Ends a turn that goes on: the attempt that is due at the tick, if one is, begins at once.
+    // Ends a turn of a race that goes on: if an attempt is due at the tick, it begins at once.
     fn end_turn(
         self,
         now: u64,
@@ -374,7 +311,7 @@ impl<C: Connector> Live<C> {
     }
 }
 
-// The least of the due tick and of the ticks at which an unfinished attempt is due.
+// The least of the due tick and the ticks at which unfinished attempts are due.
 fn next_tick<C: Connector>(due: u64, unfinished: &[Unfinished<C>]) -> u64
     ensures { result ≡ asked_tick C.Connector C.Run.Trial due unfinished.now }
 {
@@ -387,7 +324,7 @@ fn next_tick<C: Connector>(due: u64, unfinished: &[Unfinished<C>]) -> u64
     tick
 }
 
-// The connection that there is, or else the answer's.
+// `winner`, or else the answer's connection, if there is one.
 fn first_of<Conn: Drop>(winner: Option<Conn>, answer: Result<Conn, AttemptFault>) -> Option<Conn>
     ensures value { result ≡ first_of winner answer }
     ensures is_some { is_some result ≡ (is_some winner || is_connection answer) }
@@ -401,7 +338,7 @@ fn first_of<Conn: Drop>(winner: Option<Conn>, answer: Result<Conn, AttemptFault>
     }
 }
 
-// The unfinished attempts, and after them the one at the place `made`, if there is one.
+// The unfinished attempts, followed by the one at the place `made`, if there is one.
 fn with_made<C: Connector>(
     mut unfinished: Vec<Unfinished<C>>,
     attempts: &[Attempt],
@@ -430,7 +367,7 @@ fn with_made<C: Connector>(
     }
 }
 
-// The attempt, begun at its start.
+// Begins the attempt, at its start.
 fn begin<C: Connector>(attempt: Attempt, connector: &mut C, cx: &mut Context<'_>) -> Unfinished<C>
     requires { attempt.tick ≤ MAX_POLL_TICK }
     ensures begins { BeginsAt C.Connector C.Run.Trial connector.old attempt connector.new result }

@@ -25,8 +25,8 @@ use he_timeline::{Timeline, put};
 use std::alloc::{Allocator, Global};
 use std::mem::drop;
 
-/// A race of attempts over a connector and a ticker (RFC 8305 sections 3 to 5). It is polled until it gives its
-/// result, and answers `RaceFault::Over` from then on.
+/// A race of attempts over a connector and a ticker (RFC 8305 sections 3 to 5). Poll it until it gives its result;
+/// after that it returns `RaceFault::Over`.
 #[derive(Drop)]
 pub struct RaceFuture<C: Connector, T: Ticker> {
     connector: C,
@@ -35,9 +35,8 @@ pub struct RaceFuture<C: Connector, T: Ticker> {
 }
 
 impl<C: Connector, T: Ticker> RaceFuture<C, T> {
-    /// The race of this timeline's settings, policy, host, answers and history, before its first turn. It looks at
-    /// nothing else of the timeline: what attempts do, and when the client sleeps, is the connector's and the
-    /// ticker's.
+    /// A race with this timeline's settings, policy, host, answers and history, before its first turn. It ignores the
+    /// rest of the timeline: outcomes come from the connector, and pauses from the ticker.
     pub fn new<A: Allocator>(
         alloc: Global,
         timeline: &Timeline<A>,
@@ -70,8 +69,8 @@ impl<C: Connector, T: Ticker> RaceFuture<C, T> {
 }
 
 impl<C: Connector, T: Ticker> RaceFuture<C, T> {
-    // A poll: a turn where there was none yet at the ticker's tick or later, in which the source is polled for the
-    // answers that have not come, and then the ticker is asked for the tick at which something is due.
+    // Polls the race: takes a turn, unless there was one at the ticker's tick or later, in which the source is polled
+    // for missing answers; then asks the ticker for the next tick at which something is due.
     pub(crate) fn poll_hearing<S: AnswerSource>(
         &mut self,
         source: &mut S,
@@ -135,7 +134,7 @@ impl<C: Connector, T: Ticker> Future for RaceFuture<C, T> {
     }
 }
 
-// What a fault of the ticker is to the race.
+// The race's fault for a fault of the ticker.
 fn fault_of(fault: TickFault) -> RaceFault
     ensures { result ≡ fault_of fault }
 {

@@ -1,5 +1,4 @@
-// A race that is being run, apart from its connections: what is recorded of it, the attempts that were made, and
-// what is due next.
+// A running race without its connections: its record, the attempts made, and the next due tick.
 
 ghost use Rattle.std.specs.Prelude.{◌≡◌, ◌+◌, ◌-◌, ◌<◌, ◌≤◌, ◌&&◌, ◌||◌, not, Bool, [], Ok, Err, Some, None, true, false, length, option_map, IfErr, IfOk, IfSome, OnErr, OnOk};
 ghost use Rattle.std.specs.List.{Contains, list_all};
@@ -33,7 +32,7 @@ pub(crate) struct Recorder {
 }
 
 impl Recorder {
-    // The race of the timeline's settings, policy, host, answers and history, before its first turn.
+    // The record of a race with the timeline's settings, policy, host, answers and history, before its first turn.
     pub(crate) fn new<A: Allocator>(
         alloc: Global,
         timeline: &Timeline<A>,
@@ -62,7 +61,7 @@ impl Recorder {
         self.recorded.timeline().settings().limit()
     }
 
-    // Begins the turn at a tick: where something was due before it, the client slept from then on.
+    // Begins the turn at a tick: if something was due before it, records a pause from then on.
     pub(crate) fn begin_turn(&mut self, now: u64) -> Result<(), Memory>
         requires recorder { IsRecorder self.old }
         requires later { first_after self.old.turn ≤ now }
@@ -80,7 +79,7 @@ impl Recorder {
         Ok(())
     }
 
-    // Records how the attempt ended in the turn at the tick.
+    // Records the outcome of the attempt in the turn at the tick.
     pub(crate) fn finish(&mut self, attempt: Attempt, now: u64, is_won: bool) -> Result<(), Memory>
         requires turn { (won : Bool) × InTurn self.old.recorded now self.old.underway.attempts won }
         requires made { Contains self.old.underway.attempts attempt }
@@ -110,7 +109,7 @@ impl Recorder {
             && is_tried_out_by(now, attempts, race.answer(Family::V4))
     }
 
-    // Ends the turn at the tick: an attempt that is due starts.
+    // Ends the turn at the tick: starts an attempt if one is due.
     pub(crate) fn end_turn(&mut self, now: u64) -> Result<(), Memory>
         requires in_turn { InTurn self.old.recorded now self.old.underway.attempts false }
         requires underway { IsUnderway self.old.recorded self.old.underway }
@@ -132,7 +131,7 @@ impl Recorder {
         Ok(())
     }
 
-    // The record of the race that ended.
+    // The record of a finished race.
     pub(crate) fn into_record(self) -> Timeline
         ensures { result ≡ self.recorded }
     {
@@ -146,7 +145,7 @@ impl Recorder {
         recorded.finish()
     }
 
-    // The transcript of the race that ended.
+    // The transcript of a finished race.
     pub(crate) fn transcript(&self) -> Result<Transcript, Memory>
         requires ended { (won : Bool) × IsEnded self.now.recorded self.now.underway.attempts won }
         requires underway { IsUnderway self.now.recorded self.now.underway }
@@ -165,7 +164,7 @@ impl Recorder {
     }
 }
 
-// How an attempt ended, after so many ticks.
+// The outcome of an attempt after `duration` ticks.
 fn ended_by(is_won: bool, duration: u64) -> Outcome
     ensures { result ≡ ended_by is_won duration }
 {
@@ -199,7 +198,7 @@ fn add_outcome(recorded: &mut TimelineBuilder, ip: Ip, outcome: Outcome) -> Resu
     only_memory(recorded.outcome_of_known(ip, outcome))
 }
 
-// The answer of a call of the builder that meets all its checks, so that nothing but memory can be refused.
+// The result of a builder's call whose checks all pass, so that only an allocation can fail.
 pub(crate) fn only_memory(answer: Result<(), BuildFault>) -> Result<(), Memory>
     requires { IfErr answer (λ fault. fault ≡ build_faults.Memory) }
     ensures ok { OnOk result (answer ≡ Ok tt) }
@@ -254,7 +253,7 @@ fn earliest(due: u64, tick: Option<u64>) -> u64
     }
 }
 
-// The tick of the family's answer, where the turn did not take it.
+// The tick of the family's answer, if the turn did not take it.
 fn untaken_tick(race: &Timeline, family: Family, turn: Option<u64>) -> Option<u64>
     ensures { result ≡ untaken_tick turn (reply_of race.now family) }
 {

@@ -25,8 +25,8 @@ use he_addr::Memory;
 use he_timeline::Timeline;
 use std::alloc::{Allocator, Global};
 
-/// A race whose answers come while it runs (RFC 8305 section 3): each turn polls its source for each family that has
-/// no answer yet, and what the source answers counts as come at the turn's tick. In all else it is a [`RaceFuture`].
+/// A race whose answers come while it runs (RFC 8305 section 3): each turn polls its source for each family without
+/// an answer, and the source's answer counts as come at the turn's tick. Otherwise it is a [`RaceFuture`].
 #[derive(Drop)]
 pub struct ResolvingRace<C: Connector, S: AnswerSource, T: Ticker> {
     source: S,
@@ -34,8 +34,8 @@ pub struct ResolvingRace<C: Connector, S: AnswerSource, T: Ticker> {
 }
 
 impl<C: Connector, S: AnswerSource, T: Ticker> ResolvingRace<C, S, T> {
-    /// The race of this timeline's settings, policy, host, answers and history, before its first turn. A family that
-    /// has no answer in the timeline is the source's to answer.
+    /// A race with this timeline's settings, policy, host, answers and history, before its first turn. For a family
+    /// without an answer in the timeline, the source answers.
     pub fn new<A: Allocator>(
         alloc: Global,
         timeline: &Timeline<A>,

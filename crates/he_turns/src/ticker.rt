@@ -1,4 +1,4 @@
-// What tells time and wakes.
+// The trait that gives the time and wakes the task.
 
 ghost use Rattle.std.specs.Prelude.{◌≡◌, ◌≤◌, ℕ, Result, OnOk};
 ghost use Rattle.futures.specs.Task.{IsArmed, Keeps};
@@ -9,21 +9,20 @@ use crate::faults::TickFault;
 use crate::limits::MAX_POLL_TICK;
 use futures::task::Context;
 
-/// What gives the tick, in milliseconds since the race's start, and wakes the race's task at a tick that was asked
-/// for.
+/// Gives the tick, in milliseconds since the race's start, and wakes the race's task at a requested tick.
 pub trait Ticker: Drop {
-    // What `now` may tell, and the state that it leaves.
+    // The results of `now`, and the state that it leaves.
     ghost tells: { Self → ℕ → Self → Type 0 };
 
-    // What `wake_at` may answer at a tick, and the state that it leaves.
+    // The results of `wake_at` for a tick, and the state that it leaves.
     ghost wakes: { Self → ℕ → Result (Unit {0}) TickFault → Self → Type 0 };
 
-    /// The tick.
+    /// The current tick.
     fn now(&mut self) -> u64
         ensures { tells self.old result self.new };
 
-    /// Asks that the task be polled again at the tick, at most `MAX_POLL_TICK`, or soon after. Where it answers Ok
-    /// it has registered in `cx` or yielded.
+    /// Requests that the task be polled again at the tick, at most `MAX_POLL_TICK`, or soon after. On Ok it has
+    /// registered in `cx` or yielded.
     fn wake_at(&mut self, tick: u64, cx: &mut Context<'_>) -> Result<(), TickFault>
         requires in_time { tick ≤ MAX_POLL_TICK }
         ensures step { wakes self.old tick result self.new }

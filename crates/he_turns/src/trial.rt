@@ -1,4 +1,4 @@
-// A connection that is being made.
+// A connection in progress.
 
 ghost use Rattle.std.specs.Prelude.{◌≡◌, ◌≤◌, ℕ, ⊤, Option, Result, ◌⊎◌, IfOk};
 ghost use Rattle.futures.specs.Poll.{IfReady, OnPending};
@@ -13,33 +13,33 @@ use crate::faults::AttemptFault;
 use crate::limits::MAX_POLL_TICK;
 use futures::task::{Context, Poll};
 
-/// A connection that is being made, polled with the tick of the poll.
+/// A connection in progress, polled with the tick of the poll.
 ///
-/// A poll that is pending owes one of three: it has registered in `cx` at each source that it waits for (`needs`), so
-/// that the task is polled again once something happened; or `due` names a tick before which every poll is pending;
-/// or `due` is None, and every later poll is pending. In the first case it has registered or yielded in `cx` even
-/// where it states no source: with no `needs` it owes no more than that. A trial is dropped where its attempt is,
-/// answered or not: its `Drop` closes what it opened.
+/// A pending poll guarantees one of three: it has registered in `cx` at each source that it waits for (`needs`), so
+/// that the task is polled again once something happens; or `due` names a tick before which every poll is pending; or
+/// `due` is None, and every later poll is pending. In the first case it has registered or yielded in `cx` even if it
+/// states no source: with no `needs` it guarantees no more than that. A trial is dropped with its attempt, answered
+/// or not: its `Drop` closes what it opened.
 pub trait Trial: Drop {
     /// The connection.
     type Conn: Drop;
 
-    // Holds of the states at which `poll_trial` may be called.
+    // Holds for the states in which `poll_trial` may be called.
     ghost can_poll: { Self → Type 0 } = { λ _. ⊤ };
 
-    // Holds of each source that the trial waits for.
+    // Holds for each source that the trial waits for.
     ghost needs: { Self → ℕ → Type 0 } = { λ _ _. ⊥ };
 
-    // What a poll at a tick may answer, and the state that it leaves.
+    // The results of a poll at a tick, and the state that it leaves.
     ghost polls: { Self → ℕ → Poll (Result Self.Conn AttemptFault) → Self → Type 0 };
 
     ghost due_tick: { Self → Option ℕ };
 
-    // Which connections it may give: those that go where it was begun for. Each poll keeps it.
+    // The connections that it may give: those that go to the address for which it began. Each poll keeps it.
     ghost may_give: { Self → Self.Conn → Type 0 } = { λ _ _. ⊤ };
 
-    /// Polls at the tick `now`, at most `MAX_POLL_TICK`. It answers the connection or why there is none; after an
-    /// answer it isn't called again.
+    /// Polls at the tick `now`, at most `MAX_POLL_TICK`. Returns the connection, or why there is none; after that it
+    /// must not be polled again.
     fn poll_trial(
         &mut self,
         now: u64,
@@ -55,7 +55,7 @@ pub trait Trial: Drop {
             ⊎ WaitsForTick polls self.new (due_tick self.new)) }
         ensures kept { Keeps cx.old cx.new };
 
-    /// The tick before which nothing changes, where the trial knows it.
+    /// The tick before which nothing changes, if the trial knows it.
     fn due(&self) -> Option<u64>
         ensures { result ≡ due_tick self.now };
 }
