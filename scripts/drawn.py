@@ -2,8 +2,9 @@
 """Draws races and texts of them, also with something broken.
 
 needs: python3, its standard library alone
-usage: scripts/drawn.py RACES [--most BYTES | --largest] [--seed N]
-           writes a text of so many sound races, each of at most so many bytes or as large as may be
+usage: scripts/drawn.py RACES [--most BYTES | --largest] [--seed N] [--records]
+           writes a text of so many sound races, each of at most so many bytes or as large as may be; with record lines
+           before most of them, which are drawn apart, so that the races stay the same
 """
 import argparse
 import itertools
@@ -30,6 +31,18 @@ ODD_ADDRESSES = ["", "none", "::", "1.2.3", "1.2.3.4.5", "01.2.3.4", "256.1.1.1"
                  "fe80::1%1", "[::1]"]
 ODD_LENGTHS = ["", "0", "00", "032", "32", "33", "96", "128", "129", "1000", "-1"]
 NEEDED_ROWS = ["policy ::/0 40 1", "policy ::ffff:0:0/96 35 4"]  # of each table
+DAYS = ["2026-11-28", "0000-01-01", "9999-12-31", "2024-02-29", "2000-02-29", "1900-02-28", "2023-06-30"]
+CLOCKS = ["00:00:00.000", "23:59:59.999", "10:54:05.261"]
+# Record lines of which most are wrong.
+ODD_RECORDS = ["record", "record ", "record at", "records at", "record  at", "record at 2026-11-28T10:54:05Z",
+               "record at 2026-02-29T00:00:00.000Z", "record at 2024-02-29T24:00:00.000Z",
+               "record at 2026-13-01T00:00:00.000Z", "record at 2026-11-28T10:54:60.000Z",
+               "record at 2026-11-28T10:54:05.261z", "record to www.example.com 0", "record to www.example.com 65536",
+               "record to a b 1", f"record to {'a' * 256} 1", "record to é 1", "record from none", "record from fe80::1%1",
+               "record lookup aaaa no-answer", "record lookup ptr no-answer", "record lookup a silent",
+               "record server 192.0.2.1 silent 3600001", "record server 192.0.2.1 slow 1", "record server a silent x",
+               "record attempt 192.0.2.1 refused", "record attempt ::ffff:192.0.2.1 refused", "record untried 192.0.2.1",
+               "record connected 3600001", "record connected 1", "record gave-up 01", "record failed", "race 1", "end"]
 ODD_WORDS = ["", " ", "race 1", "race 2", "end", "none", "ok", "fail", "tunnel", "deprecated", "temporary", "set",
              "floor", "policy", "a", "A", "SET", "aaaa", "rtt", "used", "\t", "\r", "\0", "é"]
 
@@ -270,6 +283,65 @@ class Drawer(random.Random):
         tail = [line for line in lines if line.split()[0] not in ("race", "set", "policy", "source", "route")]
         return as_text([*head, *NEEDED_ROWS, *full, *tail])
 
+    def record(self):
+        """The record lines of a race, none too many; each kind comes or not."""
+        lines = [*self.told("at", self.moment), *self.told("to", lambda: f"{self.host()} {self.between(1, 65_535)}"),
+                 *self.told("from", self.any_address)]
+        families = self.sample(["aaaa", "a"], self.randrange(3))
+        lines += [f"record lookup {family} {self.choice(plain.LOOKUP_WORDS)}" for family in families]
+        lines += [f"record server {self.any_address()} {self.choice(plain.SERVER_WORDS)} {self.ticks(0, plain.MOST_TICK)}"
+                  for _ in range(self.between(0, plain.MOST_SERVERS) if self.is_one_in(3) else 0)]
+        texts = [self.any_address() for _ in range(self.amount(2 * plain.MOST_TRIED) if self.is_one_in(2) else 0)]
+        addresses = list({plain.read_address(text): text for text in texts}.values())
+        cut = min(len(addresses), self.randrange(plain.MOST_TRIED + 1) if self.is_one_in(2) else self.randrange(4))
+        lines += [f"record attempt {text} {self.choice(plain.ATTEMPT_WORDS)}" for text in addresses[:cut]]
+        lines += [f"record untried {text}" for text in addresses[cut:][:plain.MOST_TRIED]]
+        return lines + self.told(self.choice(plain.CLIENT_ENDS), lambda: self.ticks(0, plain.MOST_TICK))
+
+    def told(self, word, say):
+        return [f"record {word} {say()}"] * self.randrange(2)
+
+    def any_address(self):
+        return self.spelled(self.address(self.choice([4, 6])))
+
+    def host(self):
+        """A name, an address, or any bytes that a host may have."""
+        if self.is_one_in(4):
+            size = self.choice([1, 2, plain.MOST_HOST_BYTES])
+            return "".join(chr(self.randrange(33, 127)) for _ in range(size))
+        return self.choice(["www.example.com", "localhost", "a", "record", "end", self.any_address()])
+
+    def moment(self):
+        """A time, often the first or last one of its day, month or year."""
+        day, clock = self.choice(DAYS), self.choice(CLOCKS)
+        return f"{day}T{clock}Z"
+
+    def with_records(self, text):
+        """The text with record lines before most races."""
+        parts = re.split(rb"^(?=race [12]$)", text, flags=re.MULTILINE)
+        return parts[0] + b"".join((as_text(self.record()) if self.randrange(5) else b"") + part for part in parts[1:])
+
+    def broken_record(self, text):
+        """The text with one of its record lines broken, doubled, dropped or moved."""
+        lines = text.split(b"\n")
+        places = [place for place, line in enumerate(lines) if line.startswith(b"record ")]
+        if not places:
+            return text
+        place, way = self.choice(places), self.randrange(6)
+        if way <= 1:
+            lines[place] = self.broken_line(lines[place])
+        elif way == 2:
+            tokens = lines[place].split(b" ")
+            tokens[1] = self.choice([*plain.RECORD_GROUPS, "", "end", "set"]).encode()
+            lines[place] = b" ".join(tokens)
+        elif way == 3:
+            lines[place] = self.choice(ODD_RECORDS).encode()
+        elif way == 4:
+            return text[:self.randrange(len(text) + 1)]
+        else:
+            self.move_lines(lines, place, self.choice([8, 9, 10, 11]))
+        return b"\n".join(lines)
+
     def race_text(self):
         return as_text(self.race())
 
@@ -411,10 +483,13 @@ def main():
     parser.add_argument("--most", type=int, metavar="BYTES")
     parser.add_argument("--largest", action="store_true")
     parser.add_argument("--seed", type=int, default=1)
+    parser.add_argument("--records", action="store_true")
     options = parser.parse_args()
     drawer = Drawer(options.seed)
     text = (b"".join(drawer.largest_race() for _ in range(options.races)) if options.largest
             else drawer.sound_text(options.races, options.most))
+    if options.records:
+        text = Drawer(f"{options.seed} records").with_records(text)
     sys.stdout.buffer.write(text)
 
 

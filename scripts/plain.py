@@ -6,6 +6,7 @@ can be, and shares nothing with the program: who compares both (scripts/parts/fu
 
 needs: python3, its standard library alone
 """
+import calendar
 import copy
 import ipaddress
 import itertools
@@ -19,9 +20,9 @@ from functools import cached_property, lru_cache
 ROOT = pathlib.Path(__file__).resolve().parent.parent
 # The limits of a text stand in docs/FORMAT.md: what there is at most, and how many.
 LIMITS = re.findall(r"^\| ([^|]+) \| ([0-9,]+) \|$", (ROOT / "docs/FORMAT.md").read_text(), re.MULTILINE)
-MOST_RACES, MOST_LINE_BYTES, MOST_LISTED, MOST_ADDRESSES, MOST_PAUSES = [
+MOST_RACES, MOST_LINE_BYTES, MOST_LISTED, MOST_ADDRESSES, MOST_PAUSES, MOST_SERVERS, MOST_TRIED = [
     next(int(most.replace(",", "")) for what, most in LIMITS if what.startswith(begin))
-    for begin in ("races", "bytes of a line", "`policy`", "addresses", "`pause`")]
+    for begin in ("races", "bytes of a line", "`policy`", "addresses", "`pause`", "`record server`", "`record attempt`")]
 MOST_TICK = 3_600_000
 MOST_PAUSE_END = 3_600_001
 MOST_WORD = 65_535
@@ -43,8 +44,8 @@ Answer = namedtuple("Answer", "tick addresses")
 Line = namedtuple("Line", "place start address fate tick")
 # How a race ends: `won` by the attempt of this place, `exhausted` or `limit`.
 Result = namedtuple("Result", "kind place tick")
-# What is wrong with a text: the line, counted from 1, the kind, and the line with which the faulty race begins.
-Found = namedtuple("Found", "line kind begin")
+# What is wrong with a text: the line, counted from 1, the kind, and the line after which the next part is sought.
+Found = namedtuple("Found", "line kind after")
 MAPPED_BLOCK = Prefix(MAPPED, 96)
 ALL = Prefix(0, 0)
 HEADERS = {"race 1": 1, "race 2": 2}
@@ -58,6 +59,15 @@ LENGTHS = {"set": (3, 3), "policy": (4, 4), "source": (3, 5), "route": (3, 4), "
 MOST_LINES = {**dict.fromkeys(("policy", "source", "route"), MOST_LISTED), "pause": MOST_PAUSES, "aaaa": 1, "a": 1}
 # The words that a race has from version 2 on.
 NEW_GROUPS = ["rtt", "used"]
+# Record lines, in their order; the last three words are of one group.
+CLIENT_ENDS = ["connected", "gave-up", "failed"]
+RECORD_GROUPS = ["at", "to", "from", "lookup", "server", "attempt", "untried", *CLIENT_ENDS]
+RECORD_LENGTHS = {"to": 4, "lookup": 4, "attempt": 4, "server": 5}  # and 3 of each other word
+LOOKUP_WORDS = ["no-such-name", "no-address", "no-answer", "refused", "failed", "malformed", "not-asked"]
+SERVER_WORDS = ["silent", "refused", "failed", "unreachable"]
+ATTEMPT_WORDS = ["refused", "unreachable", "timed-out", "reset", "forbidden", "no-source", "other"]
+MOST_HOST_BYTES = 255
+TIME = re.compile("([0-9]{4})-([0-9]{2})-([0-9]{2})T([0-9]{2}):([0-9]{2}):([0-9]{2})[.][0-9]{3}Z")
 
 
 class Report(namedtuple("Report", "lines result")):
@@ -276,7 +286,7 @@ def interlace(addresses, count):
 
 
 class Race:
-    """A race that begins with this line of its text, counted from 1."""
+    """A race that begins with this line of its text, counted from 1, or whose record lines do."""
 
     def __init__(self, line):
         self.line, self.settings, self.answers, self.outcomes, self.rtts = line, {}, {}, {}, {}
@@ -573,6 +583,80 @@ class Reader:
         self.race.pauses.append((start, end))
 
 
+def is_record(line):
+    return line.split(" ")[0] == "record"
+
+
+class RecordReader:
+    """Reads the record lines of a race, of which the first is this line of the text."""
+
+    def __init__(self, line):
+        self.begin, self.group, self.counts, self.families, self.addresses = line, 0, Counter(), [], []
+
+    def line(self, line):
+        _, word, *tokens = (*line.split(" "), "") if line == "record" else line.split(" ")
+        group = RECORD_GROUPS.index(CLIENT_ENDS[0] if word in CLIENT_ENDS else keyword(word, RECORD_GROUPS))
+        if group < self.group:
+            raise Fault("word")
+        self.group = group
+        self.counts[group] += 1
+        most = {"lookup": math.inf, "server": MOST_SERVERS, "attempt": MOST_TRIED, "untried": MOST_TRIED}.get(word, 1)
+        if self.counts[group] > most:
+            raise Fault("repeated" if most == 1 else "too many")
+        if len(tokens) + 2 != RECORD_LENGTHS.get(word, 3):
+            raise Fault("word")
+        getattr(self, "client_end" if word in CLIENT_ENDS else f"say_{word}")(*tokens)
+
+    def say_at(self, time):
+        parts = TIME.fullmatch(time)
+        if not parts:
+            raise Fault("number")
+        year, month, day, hour, minute, second = map(int, parts.groups())
+        days = [31, 29 if calendar.isleap(year) else 28, 31, 30, 31, 30, 31, 31, 30, 31, 30, 31]
+        if not 1 <= month <= 12 or not 1 <= day <= days[month - 1] or hour > 23 or minute > 59 or second > 59:
+            raise Fault("range")
+
+    def say_to(self, host, port):
+        if not re.fullmatch("[!-~]{1,%d}" % MOST_HOST_BYTES, host):
+            raise Fault("word")
+        number(port, 1, MOST_WORD)
+
+    def say_from(self, text):
+        self.address(text)
+
+    def say_lookup(self, family, word):
+        keyword(family, ["aaaa", "a"])
+        keyword(word, LOOKUP_WORDS)
+        once(family, self.families)
+        self.families.append(family)
+
+    def say_server(self, text, word, ticks):
+        self.address(text)
+        keyword(word, SERVER_WORDS)
+        number(ticks, 0, MOST_TICK)
+
+    def say_attempt(self, text, word):
+        address = self.address(text)
+        keyword(word, ATTEMPT_WORDS)
+        self.told_once(address)
+
+    def say_untried(self, text):
+        self.told_once(self.address(text))
+
+    def client_end(self, ticks):
+        number(ticks, 0, MOST_TICK)
+
+    def address(self, text):
+        address = read_address(text)
+        if address is None:
+            raise Fault("address")
+        return address
+
+    def told_once(self, address):
+        once(address, self.addresses)
+        self.addresses.append(address)
+
+
 def whole_lines(text):
     """The lines of a text as pairs of line and whether it is whole; the last one may be the empty rest."""
     parts = text.split("\n")
@@ -581,40 +665,50 @@ def whole_lines(text):
 
 def read_text(text):
     """The races of a text up to its first fault, and the fault, if there is one."""
-    lines, races, reader = whole_lines(text), [], None
+    lines, races, record, reader, header = whole_lines(text), [], None, None, 0
     for place, (line, is_whole) in enumerate(lines):
-        if reader is None and not is_whole and line == "":
+        is_first = record is None and reader is None
+        if is_first and not is_whole and line == "":
             return races, None
         try:
-            if reader is None and len(races) == MOST_RACES or len(line) > MOST_LINE_BYTES:
+            if is_first and len(races) == MOST_RACES or len(line) > MOST_LINE_BYTES:
                 raise Fault("too many")
             if not is_whole:
                 raise Fault("unfinished")
+            if reader is None and is_record(line):
+                record = record or RecordReader(place + 1)
+                record.line(line)
+                continue
             if reader is None and line not in HEADERS:
                 raise Fault("header")
             next_line, follows = lines[place + 1]
             if reader is None:
-                reader = Reader(HEADERS[line], place + 1)
+                reader, header = Reader(HEADERS[line], record.begin if record else place + 1), place + 1
             elif reader.line(line, next_line if follows and len(next_line) <= MOST_LINE_BYTES else None):
                 races.append(reader.race)
-                reader = None
+                record = reader = None
         except Fault as fault:
-            return races, Found(place + 1, str(fault), reader.race.line if reader else place + 1)
+            return races, Found(place + 1, str(fault), header if reader else place + 1)
     raise AssertionError("the last line is never whole")
 
 
 def read_on(text):
     """The first fault of each part of a text: a part begins with the text, or with the next line `race 1` or `race 2`
-    after the first line of a faulty race. They are pairs of a line and a kind."""
+    or record line after the faulty line, or after the first line of the faulty race where that comes before it. They
+    are pairs of a line and a kind."""
     lines, faults, start = whole_lines(text), [], 0
     while start is not None:
         _, found = read_text("\n".join(line for line, _ in lines[start:]))
         if found is None:
             break
         faults.append((start + found.line, found.kind))
-        after = range(start + found.begin, len(lines))
-        start = next((place for place in after if lines[place][1] and lines[place][0] in HEADERS), None)
+        after = range(start + found.after, len(lines))
+        start = next((place for place in after if begins_part(*lines[place])), None)
     return faults
+
+
+def begins_part(line, is_whole):
+    return line.startswith("record ") or is_whole and (line == "record" or line in HEADERS)
 
 
 def fault_line(line, kind):

@@ -1,7 +1,7 @@
 """Runs a built program over texts that are drawn (drawn.py), and tells where it says something else than a plain
 reading of the rules (plain.py and the files plain_*.py beside it).
 
-A round is one text: some races, at times with one thing broken. `he order` and `he replay` with 1, 2, 7 and 64 workers
+A round is one text: some races, half of them with record lines, at times with one thing broken. `he order` and `he replay` with 1, 2, 7 and 64 workers
 get it in one piece, then one of the other commands with drawn settings, also as JSON, or `he check --all`, and last one
 of all these in random pieces through a pipe. Output, faults and status are compared. Where they differ, the text is
 made smaller by lines, and kept with what both said. A seed gives the same texts each time; each round's
@@ -109,6 +109,18 @@ def keep(seed, text, found, chance):
                 file.write(f"-- {name}, status {status}\n".encode() + out + err)
 
 
+def with_records(text, drawer):
+    """Half of the texts with record lines, of which one may be wrong. Where nothing is, the plain reading is to find
+    the same races, line numbers aside."""
+    if drawer.is_one_in(2):
+        return text
+    recorded = drawer.with_records(text)
+    races, fault = plain.read_text(text.decode("latin-1"))
+    same, other = plain.read_text(recorded.decode("latin-1"))
+    assert fault or (plain.replayed(races, {}), fault) == (plain.replayed(same, {}), other)
+    return drawer.broken_record(recorded) if drawer.is_one_in(3) else recorded
+
+
 def wanted_fault(text):
     """The kind of the text's fault, as a list of none or one; the numbers of policy rows are left out."""
     fault = plain.read_text(text.decode("latin-1"))[1]
@@ -122,7 +134,7 @@ def check_texts():
     while rounds == 0 or time.monotonic() < end:
         seed = OPTIONS.seed + rounds
         drawer = Drawer(seed)
-        text = drawer.text()
+        text = with_records(drawer.text(), Drawer(f"{seed} records"))
         runs = [*RUNS, new_run(drawer)]
         runs = [(words, False) for words in runs] + [(drawer.choice(runs), True)]
         found = differences(text, drawer, runs)

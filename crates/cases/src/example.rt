@@ -2,13 +2,13 @@
 
 use crate::resolving::Heard;
 use crate::turns::run_turns;
+use he_addr::Memory;
 use he_check::{check, check_json};
 use he_draw::Look;
 use he_inputs::StreamFault;
 use he_stream::{FromReader, ToWriter};
 use he_streaming::limits::{LEAST_WORKERS, MOST_WORKERS};
 use he_streaming::{Content, Printer, TextRequest, replay};
-use std::alloc::AllocError;
 use std::fmt::Display;
 use std::io::{Chain, Read};
 use std::mem::drop;
@@ -16,7 +16,7 @@ use std::thread::Threads;
 use std::{fs, io};
 use stream_fakes::{FakeReader, FakeWriter};
 
-// How many bytes a read gives at most.
+// The most bytes that a read gives.
 const STEPS: [usize; 3] = [1, 7, usize::MAX];
 
 const WORKERS: [u16; 4] = [1, 2, 7, 64];
@@ -24,11 +24,11 @@ const WORKERS: [u16; 4] = [1, 2, 7, 64];
 // The bytes of the longest text that is run in every cut into two pieces.
 const MOST_CUT_BYTES: usize = 400;
 
-// What is said of a run that was refused memory, and of one whose writer was, which has room for all and fails only
-// then.
+// The messages of a run that was refused memory, and of one whose writer was: the writer has room for everything, and
+// fails only then.
 const REFUSED_LINES: [&[u8]; 2] = [b"he: out of memory\n", b"he: cannot write the output\n"];
 
-/// How many runs there were, and how many of them came out otherwise than their files say.
+/// The number of runs, and of those whose result differs from their files.
 #[derive(Clone, Copy)]
 pub struct Counts {
     pub ran: u64,
@@ -36,7 +36,7 @@ pub struct Counts {
 }
 
 impl Counts {
-    /// Counts a run, and prints a line for it where it differs.
+    /// Counts a run, and prints a line for it if it differs.
     ///
     /// # Errors
     ///
@@ -57,7 +57,7 @@ impl Counts {
     }
 }
 
-// An example's name and text, and what is said of its fault.
+// An example's name and text, and the message of its fault.
 #[derive(Clone, Copy)]
 struct Example<'a> {
     name: &'a str,
@@ -65,7 +65,7 @@ struct Example<'a> {
     fault: &'a [u8],
 }
 
-// How a text comes: the bytes before the cut and those after it apart, so many in one read at most.
+// The way in which a text is read: the bytes before the cut apart from those after it, at most `step` in one read.
 #[derive(Clone, Copy)]
 struct Pieces {
     cut: usize,
@@ -79,7 +79,7 @@ fn input_of(text: &[u8], pieces: Pieces) -> FromReader<Chain<FakeReader<'_>, Fak
     FromReader::new(FakeReader::new(before, step).chain(FakeReader::new(behind, step)))
 }
 
-// In how many ways a text comes, one after the other: in pieces of each step, and a short one in every cut into two.
+// The number of ways in which a text is read: in pieces of each step, and a short one in every cut into two.
 fn way_count(text: &[u8]) -> usize {
     if text.len() > MOST_CUT_BYTES {
         STEPS.len()
@@ -108,7 +108,7 @@ const PICTURE: Content = Content::Course(Printer::Picture {
     width: 80,
 });
 
-// What is asked for of a text, and the ending of the file that has what is written then.
+// The contents asked for of a text, and the ending of the file that has the output for each.
 const CONTENTS: [(Content, &str); 7] = [
     (Content::Transcript, "transcript"),
     (Content::Order, "order"),
@@ -119,7 +119,7 @@ const CONTENTS: [(Content, &str); 7] = [
     (PICTURE, "picture"),
 ];
 
-// The names of an input that is checked, and with what its object begins then.
+// The names of an input that is checked, and the beginning of its object.
 const NO_FILE: &[u8] = b"{\"file\":null,";
 
 const JSON_FILES: [(Option<&str>, &[u8]); 2] = [
@@ -156,7 +156,7 @@ pub fn run_example<R: Threads + Sync>(
     run_all(rt, threads, example, counts, heard)
 }
 
-// Replays the text, and writes of it what stands beside it: the transcripts by each number of workers.
+// Replays the text, and compares the output with each file beside it: the transcripts with each number of workers.
 fn run_all<R: Threads + Sync>(
     rt: &HostRuntime,
     threads: &R,
@@ -185,7 +185,7 @@ fn run_all<R: Threads + Sync>(
     Ok(())
 }
 
-// By how many workers it is written, one after the other.
+// The numbers of workers with which it is written.
 fn workers_for(content: Content) -> &'static [u16] {
     match content {
         Content::Transcript => &WORKERS,
@@ -193,8 +193,7 @@ fn workers_for(content: Content) -> &'static [u16] {
     }
 }
 
-// Replays the text by so many workers, in each way in which it comes. More workers than one do not share a text that
-// is cut in two.
+// Replays the text with this number of workers, in each way of reading. Several workers don't read a text cut in two.
 fn run_asked<R: Threads + Sync>(
     rt: &HostRuntime,
     threads: &R,
@@ -232,8 +231,8 @@ fn run_asked<R: Threads + Sync>(
     Ok(())
 }
 
-// Runs the text through `check`, which tells the same fault and writes nothing to the output then. What it says of the
-// fault, or warns of, is what stands beside the example, if that does.
+// Runs the text through `check`, which reports the fault and then writes nothing to the output. Its explanation of
+// the fault, or its warnings, are those of the file beside the example, if there is one.
 fn run_check(rt: &HostRuntime, example: Example<'_>, counts: &mut Counts) -> io::Result<()> {
     let Example { name, text, fault } = example;
     let told = read_beside(rt, name, "check")?;
@@ -254,8 +253,8 @@ fn run_check(rt: &HostRuntime, example: Example<'_>, counts: &mut Counts) -> io:
     Ok(())
 }
 
-// Runs the text through a check for all faults, where what it says stands beside the example: each fault, with its
-// line.
+// Runs the text through a check for all faults, and compares its report with the file beside the example, if there is
+// one: each fault, with its line.
 fn run_check_all(rt: &HostRuntime, example: Example<'_>, counts: &mut Counts) -> io::Result<()> {
     let Example { name, text, fault } = example;
     let Some(told) = read_beside(rt, name, "check-all")? else {
@@ -276,8 +275,8 @@ fn run_check_all(rt: &HostRuntime, example: Example<'_>, counts: &mut Counts) ->
     Ok(())
 }
 
-// Runs the text through a check for the first fault, or for all, that is written as JSON, where what it writes stands
-// beside the example: of an input without a name, and of one with a name whose marks are escaped.
+// Runs the text through a check for the first fault, or for all, with JSON output, and compares that with the file
+// beside the example, if there is one: for an input without a name, and for one with a name whose marks are escaped.
 fn run_check_json(
     rt: &HostRuntime,
     example: Example<'_>,
@@ -305,8 +304,8 @@ fn run_check_json(
     Ok(())
 }
 
-// Whether this is said of a fault after its line, or of the text's slips: what stands in the file, or, where there is
-// none, something where there is a fault.
+// Whether this explains a fault after its line, or the text's slips: it is the content of the file, or, without a
+// file, something if there is a fault.
 fn explains(explanation: &[u8], fault: &[u8], told: Option<&Vec<u8>>) -> bool {
     match told {
         Some(told) => told.strip_prefix(fault) == Some(explanation),
@@ -314,7 +313,7 @@ fn explains(explanation: &[u8], fault: &[u8], told: Option<&Vec<u8>>) -> bool {
     }
 }
 
-// The bytes of a file beside the example, where it is there.
+// The bytes of a file beside the example, if there is one.
 fn read_beside(rt: &HostRuntime, name: &str, ending: &str) -> io::Result<Option<Vec<u8>>> {
     let path = format!(in rt.alloc(); "{name}.{ending}")?;
     match fs::read(rt, path.as_str()) {
@@ -324,19 +323,19 @@ fn read_beside(rt: &HostRuntime, name: &str, ending: &str) -> io::Result<Option<
     }
 }
 
-// Whether this line is printed for how a run ended; no line for one that ended well. Want of memory, which no example
-// asks for, is answered as such: it says nothing of the example.
+// Whether this line is printed for the end of a run; no line for a good end. Want of memory, which no example asks
+// for, is returned as such: it has nothing to do with the example.
 fn tells<E: Display + Drop>(
     rt: &HostRuntime,
     ended: Result<(), E>,
     line: &[u8],
-) -> Result<bool, AllocError> {
+) -> Result<bool, Memory> {
     let told = match ended {
         Ok(()) => String::new(rt.alloc()),
         Err(fault) => format!(in rt.alloc(); "he: {fault}\n")?,
     };
     if told.as_bytes() == REFUSED_LINES[0] || told.as_bytes() == REFUSED_LINES[1] {
-        return Err(AllocError);
+        return Err(Memory);
     }
     Ok(told.as_bytes() == line)
 }

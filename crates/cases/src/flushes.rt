@@ -1,5 +1,5 @@
-//! Command lines whose output takes all bytes, and then can't be flushed. No file or pipe of a program does so, hence
-//! they are run over fakes; all others are files that the harness of examples reads.
+//! Command lines whose output takes all bytes, and then can't be flushed. No file or pipe of a program does so, so
+//! these run over fakes; all others are files that the harness of examples reads.
 
 use crate::example::Counts;
 use he_command::{Session, System, run_words};
@@ -19,7 +19,7 @@ end
 
 const NO_ADDRESS: &[u8] = b"race 1\naaaa 0 none\na 0 none\nend\n";
 
-// The words of a run, its input, and what its output begins with.
+// The words of a run, its input, and the beginning of its output.
 type Row = (&'static [&'static str], &'static [u8], &'static [u8]);
 
 static ROWS: [Row; 7] = [
@@ -45,7 +45,7 @@ const SAID: &[u8] = b"he: cannot write the output\n";
 // The status of each of these runs.
 const FAULT: u8 = 1;
 
-// Whether this run ends as it must, with a writer of messages that takes at most `room` bytes.
+// Whether this run ends as required, with a writer of messages that takes at most `room` bytes.
 fn is_right<R>(rt: &HostRuntime, system: &R, row: &Row, room: usize) -> bool
 where
     R: System,
@@ -70,8 +70,8 @@ where
     status == FAULT && is_written && is_said
 }
 
-/// Runs each of them twice, the second time with a writer of messages that takes nothing, and counts the runs. A line
-/// is printed for each that ends otherwise, with its place in the table, from 0 on.
+/// Runs each of them twice, the second time with a writer of messages that takes nothing, and counts the runs. Prints
+/// a line for each that ends otherwise, with its place in the table, from 0 on.
 ///
 /// # Errors
 ///

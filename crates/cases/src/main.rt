@@ -1,17 +1,17 @@
-//! Runs the worked examples of the folder in which it is started, and reports which of them come out otherwise.
+//! Runs the worked examples of the folder in which it is started, and reports those that differ.
 //!
-//! An example is a text of timelines, `NAME.timeline`. Beside it stand what `replay` writes for it, `NAME.transcript`,
-//! `NAME.order`, `NAME.story`, `NAME.picture` (in 80 columns), and as JSON `NAME.transcript-json`,
-//! `NAME.order-json`, `NAME.explanation-json`: one of these or more. `NAME.fault` is there where the text is faulty:
-//! the line that the program prints after each of them; `check` reports the same fault, and `NAME.check` is all that
-//! the program prints of it then, with the line, its mark and the sentence; beside a text without a fault it has what
-//! `check` warns of; `NAME.check-all` is the same of a check for all faults, and `NAME.check-json` and
-//! `NAME.check-all-json` are what a check writes as JSON. Each example is run in pieces of 1 byte, of 7 bytes and
-//! whole, a short one in every cut into two pieces too, and `replay` with 1, 2, 7 and 64 workers; each of its races is
-//! run as a future too, to the same transcript, and each of their attempts alone (`turns.rt`), and again with its
-//! answers coming while it runs (`resolving.rt`). Beside them command lines are run whose output can't be flushed
-//! (`flushes.rt`). A line names each run that differs, and the last three count them. Where memory is refused to an
-//! example, the program ends and says so. Nothing is proved of this program but that it is safe and ends.
+//! An example is a text of timelines, `NAME.timeline`. Beside it are the outputs of `replay` for it,
+//! `NAME.transcript`, `NAME.order`, `NAME.story`, `NAME.picture` (in 80 columns), and as JSON `NAME.transcript-json`,
+//! `NAME.order-json`, `NAME.explanation-json`: one of these or more. A faulty text has `NAME.fault`, the line that
+//! the program prints after each of them; `check` reports this fault too, and `NAME.check` is all that the program
+//! then prints of it, with the line, its mark and the sentence; for a text without a fault it has the warnings of
+//! `check`; `NAME.check-all` is that of a check for all faults, and `NAME.check-json` and `NAME.check-all-json` are
+//! the JSON outputs of a check. Each example is run in pieces of 1 byte, of 7 bytes and whole, a short one in every
+//! cut into two pieces too, and `replay` with 1, 2, 7 and 64 workers; each of its races is run as a future too, to an
+//! equal transcript, and each of their attempts alone (`turns.rt`), and again with its answers coming while it runs
+//! (`resolving.rt`). Besides, command lines are run whose output can't be flushed (`flushes.rt`). A line names each
+//! run that differs, and the last three count them. If memory is refused to an example, the program reports that and
+//! ends. It is proved only to be safe and to end.
 #![tactic(auto)]
 
 mod example;

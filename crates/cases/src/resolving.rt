@@ -1,4 +1,4 @@
-//! The races of an example with their answers coming while they run, as in RFC 8305 section 3.
+//! The races of an example with their answers coming while they run (RFC 8305 section 3).
 
 ghost use Rattle.futures.specs.Poll.{OnPending};
 ghost use Rattle.futures.specs.Task.{IsArmed, Keeps};
@@ -14,24 +14,25 @@ use he_timeline::{Timeline, TimelineBuilder};
 use std::alloc::Global;
 use std::mem::drop;
 
-// How often a race is run at drawn ticks, and the most addresses of a family that it has then.
+// The number of runs of a race at pseudo-random ticks, and the most addresses of a family that it then has.
 const DRAWN_RUNS: u8 = 2;
 
 const MOST_DRAWN_ADDRESSES: usize = 64;
 
-/// How many races were run so whose transcript was compared with their own, and how many were run at drawn ticks.
+/// The number of races that were run so and whose transcript was compared with their own, and of those that were run
+/// at pseudo-random ticks.
 #[derive(Clone, Copy)]
 pub struct Heard {
     pub compared: u64,
     pub drawn: u64,
 }
 
-// When a race is polled.
+// The ticks at which a race is polled.
 #[derive(Clone, Copy)]
 enum Polls {
-    // At each tick that it asks for and at that of each answer, moved by the timeline's pauses.
+    // Each tick that it asks for and that of each answer, moved by the timeline's pauses.
     OnTime,
-    // At ticks that are drawn by this state of a linear congruential generator, earlier than asked for or later.
+    // Ticks drawn with this state of a linear congruential generator, earlier or later than asked for.
     Drawn(u64),
 }
 
@@ -43,7 +44,7 @@ struct PollTicker<'a> {
 }
 
 impl<'a> PollTicker<'a> {
-    // The tick of the next poll, where the race asks for this one.
+    // The tick of the next poll, if the race asks for this one.
     fn next(&mut self, asked: u64) -> u64 {
         let later = self.at.saturating_add(1);
         match self.polls {
@@ -62,7 +63,7 @@ impl<'a> PollTicker<'a> {
         }
     }
 
-    // The tick of the family's answer, where it is to come before the tick, and else the tick.
+    // The tick of the family's answer, if it comes before the tick, and else the tick.
     fn or_answer(&self, tick: u64, family: Family) -> u64 {
         match self.timeline.answer(family) {
             Some((answered, _)) if answered > self.at => tick.min(answered),
@@ -89,13 +90,14 @@ impl<'a> Ticker for PollTicker<'a> {
     }
 }
 
-// A wait of this number: by its last hexadecimal digit below twice what is asked for, a half of that, a quarter, ..
+// A wait of this number: its last hexadecimal digit bounds it by twice the wait asked for, a half of that, a quarter,
+// ..
 fn wait(number: u64, asked: u64) -> u64 {
     let most = asked.saturating_mul(2) >> (number % 16);
     (number / 16) % most.max(1)
 }
 
-// A family's answer, told at the first poll at its tick or later.
+// A family's answer, given at the first poll at its tick or later.
 #[derive(Drop)]
 struct Reply {
     tick: u64,
@@ -112,7 +114,7 @@ fn reply_of(alloc: Global, timeline: &Timeline, family: Family) -> Result<Option
     }
 }
 
-// The addresses with what the race knows of them.
+// The addresses with the race's round trip times and earlier uses.
 fn known_of(alloc: Global, timeline: &Timeline, ips: &[Ip]) -> Result<Vec<Known>, Memory> {
     let mut known = Vec::new(alloc);
     for ip in ips {
@@ -154,7 +156,7 @@ impl AnswerSource for Replies {
     }
 }
 
-// Tells the answer, where its tick has come.
+// Gives the answer, if its tick has come.
 fn tell(reply: &mut Option<Reply>, now: u64, cx: &mut Context<'_>) -> Poll<Answer>
     ensures waits { OnPending result (IsArmed cx.new) }
     ensures kept { Keeps cx.old cx.new }
@@ -168,13 +170,13 @@ fn tell(reply: &mut Option<Reply>, now: u64, cx: &mut Context<'_>) -> Poll<Answe
     }
 }
 
-/// Runs a race that has an answer with its answers coming at their ticks, and, where it has some and few addresses,
-/// with them coming at drawn polls. Answers whether the record of each run replays to its transcript, and whether that
-/// of the first run is the race's own, where it must be.
+/// Runs a race that has an answer with its answers coming at their ticks, and, if it has addresses, and few, with
+/// them coming at pseudo-random polls. Returns whether the record of each run replays to its transcript, and whether
+/// that of the first run is the race's own, if it must be.
 ///
 /// # Errors
 ///
-/// Where an allocation was refused.
+/// An allocation was refused.
 pub fn is_heard(
     alloc: Global,
     solo: &Solo,
@@ -200,8 +202,8 @@ pub fn is_heard(
     Ok(are_right)
 }
 
-// The transcript that the race has where its answers come at their ticks, if it must be this one of its timeline. The
-// Resolution Delay runs from the A answer's own tick; where the client slept then, the answer counts from its waking.
+// The race's transcript if its answers come at their ticks, if that must be this one of its timeline. The Resolution
+// Delay runs from the A answer's own tick; if the client slept then, the answer counts from its waking.
 fn own_transcript<'a>(timeline: &Timeline, transcript: &'a Transcript) -> Option<&'a Transcript> {
     match timeline.answer(Family::V4) {
         Some((tick, _)) if timeline.seen(tick) != tick => None,
@@ -209,7 +211,7 @@ fn own_transcript<'a>(timeline: &Timeline, transcript: &'a Transcript) -> Option
     }
 }
 
-// Whether the race is run at drawn ticks.
+// Whether the race is run at pseudo-random ticks.
 fn is_drawn(timeline: &Timeline) -> bool {
     let six = address_count(timeline, Family::V6);
     let four = address_count(timeline, Family::V4);
@@ -223,7 +225,7 @@ fn address_count(timeline: &Timeline, family: Family) -> usize {
     }
 }
 
-// Whether the race's record replays to its transcript, and this is the one that is its own, if one is given.
+// Whether the race's record replays to its transcript, and this is the race's own, if one is given.
 fn is_right(
     alloc: Global,
     solo: &Solo,
@@ -260,7 +262,7 @@ fn is_same(one: &Transcript, other: &Transcript) -> bool {
     one.attempts() == other.attempts() && one.result() == other.result()
 }
 
-// What the race gives, polled so; None where that is no end.
+// The output of the race, polled so; None if it doesn't end.
 fn run(
     alloc: Global,
     solo: &Solo,
@@ -302,7 +304,7 @@ fn first_tick(timeline: &Timeline, polls: Polls) -> u64 {
     }
 }
 
-// The race without its answers, and so without what is known of their addresses.
+// The race without its answers, and so without its round trip times and earlier uses.
 fn unanswered(alloc: Global, timeline: &Timeline) -> Result<Timeline, Memory> {
     let host = timeline.host().copy(alloc)?;
     match timeline.policy().copy(alloc) {
@@ -316,7 +318,7 @@ fn unanswered(alloc: Global, timeline: &Timeline) -> Result<Timeline, Memory> {
     }
 }
 
-// What the future gives, polled at most once for each tick up to the one after the limit.
+// The output of the future, polled at most once for each tick up to the one after the limit.
 fn drive<F: Future>(solo: &Solo, mut future: F, limit: u64) -> Option<F::Output>
     requires { F.can_poll future }
 {

@@ -1,32 +1,35 @@
 //! The races of an example, each run turn by turn as a future.
 
+ghost use Rattle.std.specs.Prelude.{◌≤◌, length, IfOk};
+
 use crate::resolving::{Heard, is_heard};
 use futures::task::{Doorbell, Solo};
 use he_addr::Memory;
 use he_plan::{Fate, Mark, Transcript, plan};
 use he_race::{race_one, run_attempt};
 use he_reading::read_race;
+use he_record::read_record;
 use he_streaming::limits::MOST_RACES;
 use he_timeline::Timeline;
 use he_words::TextKind;
 use he_write::write_transcript;
-use std::alloc::{AllocError, Global};
+use std::alloc::Global;
 use std::io;
 use std::mem::drop;
 
-// What stands after a transcript where an attempt that is run alone does not come to what its line tells.
+// The line after a transcript if the fate of an attempt that is run alone differs from its line.
 const DIFFERS: &[u8] = b"an attempt differs\n";
 
-// And where the race comes to something else when its answers come while it runs.
+// The line if the race differs when its answers come while it runs.
 const UNHEARD: &[u8] = b"the race whose answers come differs\n";
 
-/// The transcripts of the text's races up to its first fault, each by `race_one`. Where an attempt that is run alone
-/// comes to something else than its line says, or the race where its answers come while it runs, a line after the
-/// transcript says so.
+/// The transcripts of the text's races up to its first fault, each by `race_one`. If the fate of an attempt that is
+/// run alone differs from its line, or the race differs when its answers come while it runs, a line after the
+/// transcript reports it.
 ///
 /// # Errors
 ///
-/// Where an allocation was refused.
+/// An allocation was refused.
 pub fn run_turns(rt: &HostRuntime, text: &[u8], heard: &mut Heard) -> io::Result<Vec<u8>> {
     let solo = Solo::new(rt, Doorbell::spinning())?;
     let alloc = rt.alloc();
@@ -41,25 +44,39 @@ pub fn run_turns(rt: &HostRuntime, text: &[u8], heard: &mut Heard) -> io::Result
     Ok(written)
 }
 
-// Appends the transcript of the first race, and answers what stands after it; None where no race stands there.
+// Appends the transcript of the first race, and returns the text after it; None if no race is there.
 fn run_first<'a>(
     alloc: Global,
     solo: &Solo,
     text: &'a [u8],
     written: &mut Vec<u8>,
     heard: &mut Heard,
-) -> Result<Option<&'a [u8]>, AllocError> {
-    match read_race(alloc, text, 0) {
+) -> Result<Option<&'a [u8]>, Memory> {
+    let race = &text[record_end(alloc, text)?..];
+    match read_race(alloc, race, 0) {
         Ok(Some((timeline, end))) => {
             let ran = run_race(alloc, solo, &timeline, written, heard);
             drop(timeline);
-            ran.map_err(|_| AllocError)?;
-            Ok(Some(&text[end..]))
+            ran.map_err(|_| Memory)?;
+            Ok(Some(&race[end..]))
         }
         Ok(None) => Ok(None),
         Err(fault) => match fault.kind {
-            TextKind::Memory => Err(AllocError),
+            TextKind::Memory => Err(Memory),
             _ => Ok(None),
+        },
+    }
+}
+
+// How many bytes the record lines have with which the text begins; 0 where one is wrong, so that no race begins there.
+fn record_end(alloc: Global, text: &[u8]) -> Result<usize, Memory>
+    ensures { IfOk result (λ end. end ≤ length text.now) }
+{
+    match read_record(alloc, text) {
+        Ok((_record, end)) => Ok(end),
+        Err(fault) => match fault.kind {
+            TextKind::Memory => Err(Memory),
+            _ => Ok(0),
         },
     }
 }
@@ -82,7 +99,8 @@ fn run_race(
     Ok(())
 }
 
-// Runs each attempt of the race's plan alone, and answers whether each comes to what the transcript tells of it.
+// Runs each attempt of the race's plan alone, and returns whether the fate of each matches its line in the
+// transcript.
 fn are_told(alloc: Global, timeline: &Timeline, transcript: &Transcript) -> Result<bool, Memory> {
     let plan = plan(alloc, timeline)?;
     for place in 0..plan.attempts().len() {
@@ -96,7 +114,7 @@ fn are_told(alloc: Global, timeline: &Timeline, transcript: &Transcript) -> Resu
     Ok(true)
 }
 
-// Whether a transcript has this mark for an attempt that comes to this when it is run alone.
+// Whether a transcript has this mark for an attempt of this fate when it is run alone.
 fn is_told(fate: Fate, mark: Mark) -> bool {
     match (fate, mark) {
         (Fate::Succeeded(finish), Mark::Won(tick)) => finish == tick,

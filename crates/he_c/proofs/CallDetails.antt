@@ -9,8 +9,8 @@ use Rattle.he_inputs.specs.declared.race_reader.RaceReader.{RaceReader}
 use Rattle.he_inputs.specs.declared.race_reader.RaceReaderFault.TheVariants as readers
 use Rattle.he_inputs.specs.Inputs.{line_count}
 use Rattle.he_inputs.specs.RaceReading.{IsNextOf, IsReaderFault, IsWithin, PassesRace, ending_of}
+use Rattle.he_inputs.specs.Recorded.{IsRecordedText}
 use Rattle.he_inputs.proofs.RaceReadingLaws.{has_fault, has_none, line_count-append, passes_on}
-use Rattle.he_reading.specs.Text.{IsRaceText}
 use Rattle.he_c.specs.Outputs.{AreTold, IsOutput, TextRelation}
 use Rattle.he_c.specs.Telling.{HasTold, WritesText}
 
@@ -24,7 +24,7 @@ told_at IsText race told number line other_number other_line same same_line is =
 
 -- one race more after others
 AreTold-snoc : (IsText : TextRelation) (number line : ℕ) (races : List Race) (bytes text : List ℕ) → AreTold IsText number line races bytes text
-    → (race : Race) (own told : List ℕ) → IsRaceText own race → IsText (number + length races) (line + line_count bytes) told race
+    → (race : Race) (own told : List ℕ) → IsRecordedText own race → IsText (number + length races) (line + line_count bytes) told race
     → AreTold IsText number line (races ++ race ∷ []) (bytes ++ own) (text ++ told)
 AreTold-snoc IsText number line [] bytes text (none, nothing) race own told read is =
     let lines : line_count bytes ≡ 0 = ap line_count none in (

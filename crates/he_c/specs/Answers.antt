@@ -1,4 +1,4 @@
--- What a call leaves to its caller: the text in the caller's room, what is told of it, and the answer.
+-- The results of a call: the text in the caller's room, the details, and the answer.
 use Rattle.std.specs.Prelude.{ℕ, ◌≡◌, ◌++◌, List, length, drop, if◌then◌else◌, nat_le, Option, Some, None}
 use Rattle.he_c.specs.declared.answer.CallDetails.{CallDetails}
 use Rattle.he_c.specs.declared.codes.TheConstants.{DONE, FAULT, NO_ROOM, HEADER, WORD, NUMBER, ADDRESS, PREFIX, REPEATED, RANGE, TOO_MANY, UNFINISHED, NO_DEFAULT_ROW, NO_MAPPED_ROW, SHARED_PRECEDENCE, OTHER_POLICY, MEMORY}
@@ -9,7 +9,7 @@ use Rattle.he_words.specs.declared.fault.TextKind.TheVariants as kinds
 use Rattle.he_inputs.specs.declared.input_fault.InputFault.{InputFault}
 use Rattle.he_inputs.specs.declared.input_fault.InputFault.TheVariants.{Text, Read}
 
--- the number of why rows are no policy table; no text has one of the other causes as a fault of this kind
+-- the number of a policy fault; no text has one of the other causes as a fault of this kind
 abbrev pub policy_code : PolicyFault → ℕ
 policy_code policies.NoDefault = NO_DEFAULT_ROW
 policy_code policies.NoMapped = NO_MAPPED_ROW
@@ -32,23 +32,23 @@ kind_code kinds.Unfinished = UNFINISHED
 kind_code (kinds.Policy fault) = policy_code fault
 kind_code kinds.Memory = MEMORY
 
--- the number of the kind, 0 where nothing is wrong. An input in memory doesn't break off
+-- the number of the kind, 0 without a fault; an input in memory doesn't break off
 abbrev pub fault_kind : Option InputFault → ℕ
 fault_kind None = 0
 fault_kind (Some Read) = UNFINISHED
 fault_kind (Some (Text fault)) = kind_code fault.kind
 
--- the line, 0 where nothing is wrong
+-- the line, 0 without a fault
 abbrev pub fault_line : Option InputFault → ℕ
 fault_line None = 0
 fault_line (Some Read) = 0
 fault_line (Some (Text fault)) = fault.line
 
--- what is told of a text and a fault: how long the text is, and the fault's line and kind
+-- the details of a text and a fault: the length of the text, and the fault's line and kind
 abbrev pub told_of : List ℕ → Option InputFault → CallDetails
 told_of text fault = record { length = length text; line = fault_line fault; kind = fault_kind fault }
 
--- nothing is told
+-- no details
 abbrev pub nothing_told : CallDetails
 nothing_told = record { length = 0; line = 0; kind = 0 }
 
@@ -56,22 +56,22 @@ abbrev pub answer_by : Option InputFault → ℕ
 answer_by None = DONE
 answer_by (Some fault) = FAULT
 
--- that the room is too small goes before a fault
+-- a room that is too small goes before a fault
 abbrev pub answer_of : List ℕ → List ℕ → Option InputFault → ℕ
 answer_of room text fault = if nat_le (length text) (length room) then answer_by fault else NO_ROOM
 
--- the room with the text at its front, or as it was where the text doesn't fit
+-- the room with the text at its front, or unchanged if the text doesn't fit
 abbrev pub put_front : List ℕ → List ℕ → List ℕ
 put_front text room = if nat_le (length text) (length room) then text ++ drop (length text) room else room
 
--- the text was put into the room, and told with its fault
+-- the text was copied into the room, and its details and the fault's are reported
 pub record Leaves (text : List ℕ) (fault : Option InputFault) (old new : List ℕ) (told : CallDetails)
     (answer : ℕ) : Type 0 where
   pub put : new ≡ put_front text old
   pub tells : told ≡ told_of text fault
   pub answers : answer ≡ answer_of old text fault
 
--- nothing was done
+-- the room is unchanged, and there are no details
 pub record LeavesNothing (old new : List ℕ) (told : CallDetails) : Type 0 where
   pub same : new ≡ old
   pub tells : told ≡ nothing_told

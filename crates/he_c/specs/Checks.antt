@@ -1,4 +1,4 @@
--- What is said of an input that is checked.
+-- The text for the check of an input.
 use Rattle.std.specs.Prelude.{ℕ, ◌≡◌, false, List, Option, Some, None}
 use Rattle.he_check.specs.Checked.{IsRight}
 use Rattle.he_check.specs.Stream.{report_text}
@@ -9,13 +9,13 @@ use Rattle.he_inputs.specs.Inputs.{HasRaces}
 use Rattle.he_c.specs.Answers.{Leaves}
 use Rattle.he_c.specs.declared.answer.CallDetails.{CallDetails}
 
--- how many races and lines the input has, where nothing is wrong with it; else that is its first fault, of which
--- something is said
+-- the number of races and lines of an input without a fault; else the fault is its first one, and the text explains
+-- it
 abbrev pub IsCheckOf : List ℕ → List ℕ → Option InputFault → Type 0
 IsCheckOf input text None = (checked : Checked) × IsRight input false checked × (text ≡ report_text checked)
 IsCheckOf input text (Some fault) = (races : List Race) × HasRaces input false races (Some fault)
 
--- what is left of the check of the input
+-- the results of the check of the input
 pub record LeavesCheck (input old new : List ℕ) (told : CallDetails) (answer : ℕ) : Type 0 where
   pub text : List ℕ
   pub fault : Option InputFault

@@ -1,4 +1,4 @@
--- What is written of an input: a text of each of its races up to the first fault, and the fault.
+-- The text for an input: a text for each of its races up to the first fault, and the fault.
 use Rattle.std.specs.Prelude.{ℕ, ◌≡◌, ◌+◌, ◌++◌, false, List, [], ◌∷◌, None, Option}
 use Rattle.he_course.specs.Addresses.{preferred}
 use Rattle.he_course.specs.Course.{events_in}
@@ -7,7 +7,7 @@ use Rattle.he_timeline.specs.Race.{Race}
 use Rattle.he_plan.specs.Transcript.{IsTranscript, Report}
 use Rattle.he_inputs.specs.declared.input_fault.InputFault.{InputFault}
 use Rattle.he_inputs.specs.Inputs.{HasRaces, line_count}
-use Rattle.he_reading.specs.Text.{IsRaceText}
+use Rattle.he_inputs.specs.Recorded.{IsRecordedText}
 use Rattle.he_write.specs.Orders.{order_text}
 use Rattle.he_write.specs.Written.{transcript_text}
 use Rattle.he_c.specs.Answers.{Leaves}
@@ -27,33 +27,33 @@ IsTranscriptText text race = (report : Report) × IsTranscript race report × (t
 abbrev pub IsOrderText : List ℕ → Race → Type 0
 IsOrderText text race = text ≡ order_text race
 
--- a text of a race that is the same wherever the race stands
+-- a text that doesn't depend on the race's number and line
 abbrev pub Anywhere : (List ℕ → Race → Type 0) → TextRelation
 Anywhere IsText number line = IsText
 
--- the object that explains the race, of a text without a name
+-- the object that explains the race; the name of the text's file is null
 abbrev pub IsExplanationText : TextRelation
 IsExplanationText number line text race =
     (report : Report) × IsTranscript race report
     × IsExplanationJson (record { file = None; number = number; line = line }) (preferred race) (events_in race report)
     text
 
--- the text of what is asked for of the race
+-- the text of this kind for the race
 abbrev pub IsTextOf : Content → TextRelation
 IsTextOf contents.Transcript = Anywhere IsTranscriptText
 IsTextOf contents.Order = Anywhere IsOrderText
 IsTextOf contents.Explanation = IsExplanationText
 
--- the bytes are, one after the other, a timeline text of each of the races, of which the first has this number and
--- begins at this line; and the text is, one after the other, a text of each, by its number and its line
+-- the bytes consist of a timeline text of each race, the first with this number and on this line; the text consists
+-- of a text for each race, by its number and its line
 abbrev pub AreTold : TextRelation → ℕ → ℕ → List Race → List ℕ → List ℕ → Type 0
 AreTold IsText number line [] bytes text = (bytes ≡ []) × (text ≡ [])
 AreTold IsText number line (race ∷ races) bytes text =
-    (own : List ℕ) × (behind : List ℕ) × (bytes ≡ own ++ behind) × IsRaceText own race
+    (own : List ℕ) × (behind : List ℕ) × (bytes ≡ own ++ behind) × IsRecordedText own race
     × (told : List ℕ) × (more : List ℕ) × (text ≡ told ++ more) × IsText number line told race
     × AreTold IsText (number + 1) (line + line_count own) races behind more
 
--- the texts of the races of the input up to its first fault, one after the other, and that fault
+-- the texts for the races of the input up to its first fault, in order, and that fault
 pub record IsOutput (IsText : TextRelation) (input text : List ℕ) (fault : Option InputFault) : Type 0 where
   pub races : List Race
   pub has : HasRaces input false races fault
@@ -62,7 +62,7 @@ pub record IsOutput (IsText : TextRelation) (input text : List ℕ) (fault : Opt
   pub parts : input ≡ before ++ rest
   pub told : AreTold IsText 1 1 races before text
 
--- what is left of the input's output
+-- the results of the call for the input
 pub record LeavesOutput (IsText : TextRelation) (input old new : List ℕ) (told : CallDetails)
     (answer : ℕ) : Type 0 where
   pub text : List ℕ

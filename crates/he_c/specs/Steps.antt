@@ -1,4 +1,4 @@
--- What `he_next` tells of a step, by numbers.
+-- The numbers that `he_next` returns for a step.
 use Rattle.std.specs.Prelude.{ℕ, ◌≡◌, ◌++◌, List, Option, Some, None, replicate}
 use Rattle.std.specs.Int.{w32, w128, to_be_bytes}
 use Rattle.he_addr.specs.declared.ip.Ip.{Ip}
@@ -20,7 +20,7 @@ abbrev pub family_of : Ip → ℕ
 family_of (families.V4 bits) = 4
 family_of (families.V6 bits) = 6
 
--- the bytes of an address, the first first; of an IPv4 address 12 zeros stand after them
+-- the bytes of an address, the first byte first; an IPv4 address is filled up with 12 zeros
 abbrev pub bytes_of : Ip → List ℕ
 bytes_of (families.V4 bits) = to_be_bytes w32 bits ++ replicate 12 0
 bytes_of (families.V6 bits) = to_be_bytes w128 bits
@@ -32,7 +32,7 @@ no_address = replicate 16 0
 abbrev pub StartsNone : StepNumbers → Type 0
 StartsNone step = (step.family ≡ 0) × (step.address ≡ no_address)
 
--- the numbers of an action; what it has not is 0
+-- the numbers of an action; those that it doesn't have are 0
 abbrev pub ActsAs : Action → StepNumbers → Type 0
 ActsAs (actions.Start place tick ip) step =
     (step.action ≡ START) × (step.place ≡ place) × (step.tick ≡ tick) × (step.family ≡ family_of ip)
@@ -44,12 +44,12 @@ ActsAs (actions.Exhausted tick) step =
     (step.action ≡ EXHAUSTED) × (step.place ≡ 0) × (step.tick ≡ tick) × StartsNone step
 ActsAs (actions.Limit tick) step = (step.action ≡ LIMIT) × (step.place ≡ 0) × (step.tick ≡ tick) × StartsNone step
 
--- the numbers of a pause; both are 0 where there is none
+-- the numbers of a pause; both are 0 if there is none
 abbrev pub PausesAs : Option Pause → StepNumbers → Type 0
 PausesAs None step = (step.pause_from ≡ 0) × (step.pause_until ≡ 0)
 PausesAs (Some pause) step = (step.pause_from ≡ pause.from) × (step.pause_until ≡ pause.until)
 
--- no step is told
+-- no step
 abbrev pub no_step : StepNumbers
 no_step = record {
   action = 0;
@@ -70,7 +70,7 @@ pub record LeavesStep (record_text : List ℕ) (started now : ℕ) (numbers : St
   pub acts : ActsAs step.action numbers
   pub tells : told ≡ nothing_told
 
--- what is told is why the record has no step
+-- the details have the reason that the record has no step
 pub record LeavesFault (record_text : List ℕ) (started now : ℕ) (told : CallDetails) : Type 0 where
   pub fault : InputFault
   pub is : IsNextFault record_text started now (faults.Record fault)

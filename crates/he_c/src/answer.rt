@@ -1,4 +1,4 @@
-// What a call leaves to its caller.
+// The results of a call.
 
 ghost use Rattle.std.specs.Prelude.{◌≡◌, ◌≢◌};
 ghost use Rattle.he_c.specs.Answers.{Leaves, answer_by, nothing_told, told_of};
@@ -7,19 +7,19 @@ ghost use Rattle.he_c.specs.declared.codes.TheConstants.{NO_MEMORY};
 use crate::codes::{DONE, FAULT, NO_ROOM, fault_kind, fault_line};
 use he_inputs::InputFault;
 
-/// What is reported of a call, besides its answer: `struct he_told` of `he.h`.
+/// The details of a call, besides its answer: `struct he_told` of `he.h`.
 #[repr(C)]
 #[derive(Clone, Copy)]
 pub struct CallDetails {
-    /// How many bytes the whole text has.
+    /// The length of the whole text, in bytes.
     pub length: u64,
-    /// The line of the fault, counted from 1, or 0.
+    /// The line of the fault, counted from 1; 0 without a fault.
     pub line: u64,
-    /// The kind of the fault, or 0.
+    /// The kind of the fault; 0 without a fault.
     pub kind: u32,
 }
 
-// Nothing is told.
+// No details.
 pub(crate) const NOTHING: CallDetails = CallDetails {
     length: 0,
     line: 0,
@@ -35,7 +35,7 @@ fn answer_by(fault: Option<InputFault>) -> u32
     }
 }
 
-// Puts the text at the front of the room, and tells of it and of the fault.
+// Copies the text to the front of the room if it fits, and sets the details of the text and the fault.
 pub(crate) fn leave(
     text: &[u8],
     fault: Option<InputFault>,

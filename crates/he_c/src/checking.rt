@@ -1,4 +1,4 @@
-// The check of an input, and what is said of it.
+// The check of an input, and its text.
 
 ghost use Rattle.std.specs.Prelude.{◌≡◌, ◌++◌, IfOk, OnOk};
 ghost use Rattle.he_check.specs.Stream.{counted, report_text};
@@ -11,7 +11,7 @@ use he_inputs::{InputFault, StreamFault};
 use he_words::TextFault;
 use std::alloc::Global;
 
-// How many races and lines the input has, or what is said of its first fault.
+// The number of races and lines of the input, or the explanation of its first fault.
 pub(crate) fn check_of(alloc: Global, input: &[u8]) -> Result<Output, Memory>
     ensures { IfOk result (λ output. IsCheckOf input.now output.text.items output.fault) }
 {
@@ -32,7 +32,7 @@ pub(crate) fn check_of(alloc: Global, input: &[u8]) -> Result<Output, Memory>
     }
 }
 
-// The fault's line and kind, and after them what is said of it.
+// The fault's line and kind, and then its explanation.
 fn words_of(alloc: Global, input: &[u8], fault: TextFault) -> Result<Vec<u8>, Memory> {
     let mut text = format!(in alloc; "{fault}\n")?.into_bytes();
     explain_fault(alloc, input, fault, &mut text)?;

@@ -1,4 +1,4 @@
-// The numbers by which `he.h` names what is answered and told.
+// The numbers of answers, kinds of faults and actions in `he.h`.
 
 ghost use Rattle.std.specs.Prelude.{◌≡◌};
 ghost use Rattle.he_c.specs.Answers.{fault_kind, fault_line, kind_code, policy_code};
@@ -7,22 +7,22 @@ use he_inputs::InputFault;
 use he_select::PolicyFault;
 use he_words::TextKind;
 
-/// All was done.
+/// Success.
 pub const DONE: u32 = 0;
 
 /// The text has a fault, whose line and kind are reported.
 pub const FAULT: u32 = 1;
 
-/// The room is too small: how much is wanted is reported.
+/// The room is too small; the length needed is reported.
 pub const NO_ROOM: u32 = 2;
 
-/// An allocation was refused.
+/// An allocation failed.
 pub const NO_MEMORY: u32 = 3;
 
-/// The text of a race that is being run has more than one race.
+/// The record of a running race has more than one race.
 pub const NOT_ONE: u32 = 4;
 
-// The kinds of faults, in the order of `TextKind`. 0 is none.
+// The kinds of faults, in the order of `TextKind`; 0 is no fault.
 pub const HEADER: u32 = 1;
 
 pub const WORD: u32 = 2;

@@ -1,16 +1,16 @@
-//! The rules of races for programs in C, and in all languages that call C: bytes in, bytes out. `he.h` declares what
-//! stands here, and says what a caller has to keep to.
+//! The rules of races for programs in C, and in all languages that call C: bytes in, bytes out. `he.h` declares these
+//! functions, and gives the requirements on their callers.
 //!
-//! A call keeps nothing until the next one. It starts no thread, opens no socket and reads no clock; it takes memory
-//! from `malloc`, and gives it back before it answers. Each call writes into room that the caller gives, and reports
-//! how much it wanted to write.
+//! No state is kept between calls. A call starts no thread, opens no socket and reads no clock; it allocates with
+//! `malloc`, and frees all of it before it returns. Each call writes into room that the caller gives, and reports the
+//! length of the whole text.
 //!
-//! Proved, by the contract of each exported function: the text that it writes is the one that the definitions give of
-//! the input, whole or not at all; the fault that it reports is the input's first one, by its line and kind; and that
-//! the room is too small is reported just where it is (`specs/Answers`, `specs/Outputs`, `specs/Checks`). Of `he_next`
-//! the step is the one of the crate he_next's definition, number by number (`specs/Steps`).
+//! Proved, by the contract of each exported function: it writes the text that the definitions give for the input, all
+//! of it or nothing; it reports the input's first fault, by line and kind; and it reports that the room is too small
+//! exactly if it is (`specs/Answers`, `specs/Outputs`, `specs/Checks`). The step of `he_next` is the one that the
+//! crate he_next defines, number by number (`specs/Steps`).
 //!
-//! Tested only: what `he_check` says of a fault, and that a call succeeds where memory is granted.
+//! Tested only: the explanation of a fault by `he_check`, and that a call succeeds if no allocation fails.
 #![tactic(auto)]
 
 mod answer;

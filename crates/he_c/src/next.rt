@@ -1,4 +1,4 @@
-// The exported step of a race that is being run.
+// The exported step of a running race.
 
 ghost use Rattle.std.specs.Prelude.{◌≡◌, ◌≢◌, ◌≤◌, Some};
 ghost use Rattle.he_next.specs.Faults.{IsNextFault};
@@ -14,7 +14,8 @@ use he_inputs::InputFault;
 use he_next::{NextFault, next_step};
 use std::alloc::Global;
 
-/// Tells what is due at the tick in the race of the record so far, of which so many attempts were started.
+/// Returns the action that is due at tick `now` in the race of the record so far, in which `started` attempts were
+/// started.
 #[unsafe(no_mangle)]
 pub extern "C" fn he_next(
     alloc: Global,

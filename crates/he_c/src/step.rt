@@ -1,4 +1,4 @@
-// A step of a race that is being run, by numbers.
+// A step of a running race, as numbers.
 
 ghost use Rattle.std.specs.Prelude.{◌≡◌};
 ghost use Rattle.he_c.specs.Steps.{ActsAs, PausesAs, StartsNone, bytes_of, family_of};
@@ -7,22 +7,22 @@ use crate::codes::{EXHAUSTED, LIMIT, START, WAIT, WON};
 use he_addr::Ip;
 use he_next::{Action, Step};
 
-/// What is due in a race that is being run: `struct he_step` of `he.h`.
+/// The step that is due in a running race: `struct he_step` of `he.h`.
 #[repr(C)]
 #[derive(Clone, Copy)]
 pub struct StepNumbers {
     /// `START`, `WAIT`, `WON`, `EXHAUSTED` or `LIMIT`.
     pub action: u32,
-    /// 4 or 6 where an attempt starts, else 0.
+    /// 4 or 6 for a start, else 0.
     pub family: u32,
-    /// The place of the attempt that starts or has won.
+    /// The place of the attempt that starts or has won, else 0.
     pub place: u64,
-    /// The start, the tick to wait for, or that at which the race ended.
+    /// The tick of the start, the tick to wait for, or the tick of the race's end.
     pub tick: u64,
-    /// The pause that the record has from now on, or 0 and 0.
+    /// The pause to add to the record; 0 and 0 if there is none.
     pub pause_from: u64,
     pub pause_until: u64,
-    /// The address at which an attempt starts, its first byte first; else 0.
+    /// The address for a start, its first byte first; else 0.
     pub address: [u8; 16],
 }
 

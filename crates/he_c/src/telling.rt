@@ -1,4 +1,4 @@
-// The races of an input, told one after the other.
+// The texts of an input's races.
 
 ghost use Rattle.std.specs.Prelude.{◌≡◌, ◌++◌, IfOk, OnOk};
 ghost use Rattle.he_write.specs.Written.{transcript_text};
@@ -14,7 +14,7 @@ use he_timeline::Timeline;
 use he_write::{write_order, write_transcript};
 use std::alloc::Global;
 
-// What is written of a race.
+// The kind of text for each race.
 #[derive(Clone, Copy)]
 pub(crate) enum Content {
     Transcript,
@@ -22,14 +22,14 @@ pub(crate) enum Content {
     Explanation,
 }
 
-// What is written of an input, and what is wrong with it.
+// The text for an input, and the input's fault.
 #[derive(Drop)]
 pub(crate) struct Output {
     pub(crate) text: Vec<u8>,
     pub(crate) fault: Option<InputFault>,
 }
 
-// The texts that are asked for of the input's races, up to its first fault.
+// The texts of this kind for the input's races, up to its first fault.
 pub(crate) fn output_of(alloc: Global, input: &[u8], content: Content) -> Result<Output, Memory>
     ensures { IfOk result (λ output. IsOutput (IsTextOf content) input.now output.text.items output.fault) }
 {
@@ -53,7 +53,7 @@ pub(crate) fn output_of(alloc: Global, input: &[u8], content: Content) -> Result
 }
 
 impl Content {
-    // Appends the text that the race has of it, which has this number in the input and begins at this line.
+    // Appends the text for the race, which has this number in the input and begins on this line.
     fn write(
         self,
         alloc: Global,

@@ -1,4 +1,4 @@
-// The exported functions that write what an input comes to.
+// The exported functions that write a text for an input.
 
 ghost use Rattle.std.specs.Prelude.{◌≡◌, ◌≢◌};
 ghost use Rattle.he_c.specs.Answers.{LeavesNothing};
@@ -42,7 +42,7 @@ pub extern "C" fn he_order(
     tell(alloc, text, Content::Order, room, told)
 }
 
-/// Writes why the races of the text went as they did, as a JSON object each, up to its first fault.
+/// Writes an explanation of each race of the text as a JSON object, up to its first fault.
 #[unsafe(no_mangle)]
 pub extern "C" fn he_explain(
     alloc: Global,
@@ -56,7 +56,7 @@ pub extern "C" fn he_explain(
     tell(alloc, text, Content::Explanation, room, told)
 }
 
-/// Writes how many races and lines the text has, or what is said of its first fault.
+/// Writes the number of races and lines of the text, or the explanation of its first fault.
 #[unsafe(no_mangle)]
 pub extern "C" fn he_check(
     alloc: Global,

@@ -1,4 +1,4 @@
--- How far a check has come after a step: a race that was passed, a fault, or bytes in which no race begins.
+-- How far a check has come after a step: a race that was passed, a fault, or bytes in which no part begins.
 use Rattle.std.proofs.Common.{ℕ, ◌≡◌, ◌⊎◌, ◌+◌, ◌-◌, ◌<◌, ◌≤◌, Bool, true, false, List, [], ◌∷◌, ◌++◌, length, take, drop, Option, Some, None, IfSome, refl, sym, subst, subst₂, ◌∙◌, ap, append_assoc, append-nil, length-append, length-take, length-drop, take-append-drop, true≢false, eqb, arith, inl, inr}
 use Rattle.std.specs.List.{slice_get, slice_range}
 use Rattle.std.specs.Option.{option_or}
@@ -6,7 +6,7 @@ use Rattle.std.proofs.lemmas.List.{drop-append-le, drop-drop, take-append-le, ta
 use Rattle.std.proofs.lemmas.List.Sums.{count_by-le-length}
 use Rattle.std.proofs.Math.Seq.{take-add}
 use Rattle.he_timeline.specs.Race.{Race}
-use Rattle.he_reading.specs.Text.{IsRaceText}
+use Rattle.he_inputs.specs.Recorded.{IsRecordedText}
 use Rattle.he_reading.specs.Parts.{lines_of}
 use Rattle.he_inputs.specs.Inputs.{AreRaceTexts, HasRaces, IsFaultBehind, line_count}
 use Rattle.he_inputs.specs.RaceReading.{IsReaderFault, MayFollow, PassesRace}
@@ -18,19 +18,20 @@ use Rattle.he_inputs.specs.declared.race_reader.RaceReaderFault.TheVariants as r
 use Rattle.he_inputs.proofs.RaceReadingLaws.{AreTexts-snoc, line_count-append}
 use Rattle.he_words.specs.declared.fault.TextFault.{TextFault}
 use Rattle.he_words.specs.declared.fault.TextKind.TheVariants as kinds
-use Rattle.he_check.specs.AllFaults.{AreFaults, AreFaultsBehind, AreSaid, BeginsRace, IsNextRace, fault_text, said_text}
+use Rattle.he_check.specs.AllFaults.{AreFaults, AreFaultsBehind, AreSaid, BeginsPart, IsNextPart, SeeksAfter, fault_text, said_text}
 use Rattle.he_check.specs.Clauses.{hint_of, is_of_words}
 use Rattle.he_check.specs.Slips.{AreWarned, warnings_of}
-use Rattle.he_check.specs.Steps.{AddsFault, AreFaultsAfter, AreFaultsPast, AreLeft, AreWhole, HasTold, IsAt, IsClean, IsEnough, IsFirstIn, IsNew, IsOpen, IsSound, at_front, hint_in}
+use Rattle.he_check.specs.Steps.{AddsFault, AreFaultsAfter, AreFaultsPast, AreLeft, AreWhole, HasTold, IsAt, IsClean, IsEnough, IsFirstIn, IsNew, IsOpen, IsSound, PassesRecords, at_front, hint_in}
 use Rattle.he_check.specs.declared.counting.Counted.{Counted}
 use Rattle.he_check.specs.declared.form.Form.{Form}
 use Rattle.he_check.specs.declared.limits.TheConstants.{MOST_TOLD}
 use Rattle.he_check.specs.declared.meant.Meant.{Meant}
 use Rattle.he_check.specs.declared.parts.RestOfInput.{RestOfInput}
 use Rattle.he_check.specs.declared.slips.Warning.{Warning}
-use Rattle.he_check.proofs.FaultParts.{after_found, fault_stands, past_fault, past_race}
+use Rattle.he_check.proofs.FaultParts.{after_found, fault_stands, line_left, past_fault, past_race}
 use Rattle.he_check.proofs.Hints.{FirstFaults, hint_there, words_behind}
-use Rattle.he_check.proofs.NextRaces.{after_more}
+use Rattle.he_check.proofs.NextParts.{after_more}
+use Rattle.he_check.proofs.RecordLines.{seeks_more}
 use Rattle.he_check.proofs.WholeLines.{whole_append, whole_race}
 
 -- the bytes up to a place and those after it
@@ -43,7 +44,7 @@ some_as (Some x) P Q each is = each x is
 
 -- one race more after the others, with its warnings after theirs
 warned_on : (lines : ℕ) (races : List Race) (text : List ℕ) (warnings : List Warning) → AreWarned lines races text warnings
-    → (race : Race) (last : List ℕ) → IsRaceText last race → (line : ℕ) → line ≡ lines + line_count text + 1
+    → (race : Race) (last : List ℕ) → IsRecordedText last race → (line : ℕ) → line ≡ lines + line_count text + 1
     → AreWarned lines (races ++ race ∷ []) (text ++ last) (warnings ++ warnings_of line race)
 warned_on lines [] text warnings (none, nothing) race last is line at =
     let here : line ≡ lines + 1 = let no_line : line_count text ≡ 0 = ap line_count none in omega arith in (
@@ -133,6 +134,16 @@ nothing_follows : (ending : Ending) → (is_broken : Bool) × MayFollow ending [
 nothing_follows endings.Open = (false, tt)
 nothing_follows endings.Whole = (false, (refl, refl))
 nothing_follows endings.Broken = (true, (refl, refl))
+
+-- a fault is on a line of what is left
+pub fault_line : FirstFaults → (ending : Ending) (bytes : List ℕ) (reader : RaceReader) (fault : TextFault) → IsReaderFault bytes ending reader (readers.Input (Text fault))
+    → (reader.lines + 1 ≤ fault.line) × (fault.line - reader.lines ≤ length (lines_of (drop reader.end bytes)))
+fault_line first ending bytes reader fault wrong =
+    let nothing = nothing_follows ending in
+    let left : List ℕ = drop reader.end bytes in
+    let is : IsFaultBehind nothing.0 reader.races reader.lines (left ++ []) (Some (Text fault)) = wrong [] nothing.0 nothing.1 in
+    let Left : List ℕ → Type 0 = λ t. fault.line - reader.lines ≤ length (lines_of t) in
+    (fault_stands first nothing.0 reader.races reader.lines (left ++ []) fault is, subst Left (append-nil left) (line_left first nothing.0 reader.races reader.lines (left ++ []) fault is))
 
 module _ {A : Type 0} (counted : Counted A)
   where
@@ -297,7 +308,7 @@ module _ {A : Type 0} (ending : Ending) (before bytes : List ℕ) (old new : Cou
             let size = length-append clean.races (race ∷ []) in
             record {
               races = races;
-              whole = subst (AreRaceTexts races) longer (AreTexts-snoc IsRaceText clean.races front clean.whole race own passes.read);
+              whole = subst (AreRaceTexts races) longer (AreTexts-snoc IsRecordedText clean.races front clean.whole race own passes.read);
               counted = omega arith;
               warned = subst₂ (λ (t : List ℕ) (w : List Warning). AreWarned 0 races t w) longer (sym (warned none))
                   (warned_on 0 clean.races front old.warnings.items clean.warned race own passes.read (old.reader.lines + 1) (omega arith));
@@ -335,13 +346,28 @@ module _ {A : Type 0} (ending : Ending) (before bytes : List ℕ) (old new : Cou
 
     -- a fault was found
     module _ (first : FirstFaults) (fault : TextFault) (part : RestOfInput) (inside : old.reader.end ≤ length bytes) (sound : IsSound old) (enough : IsEnough ending bytes old) (reads : old.is_seeking ≡ false)
-        (seeks : new.is_seeking ≡ new.told.is_all) (same : new.reader ≡ old.reader) (wrong : IsReaderFault bytes ending old.reader (readers.Input (Text fault)))
+        (seeks : new.is_seeking ≡ new.told.is_all) (n more_lines : ℕ) (passes : PassesRecords new.told.is_all left (fault.line - old.reader.lines) n more_lines)
+        (ends : new.reader.end ≡ old.reader.end + n) (lined_on : new.reader.lines ≡ old.reader.lines + more_lines) (wrong : IsReaderFault bytes ending old.reader (readers.Input (Text fault)))
         (adds : AddsFault part fault old.told new.told) (text : part.text.now ≡ left) (lines : part.lines ≡ old.reader.lines)
       where
         stands : old.reader.lines + 1 ≤ fault.line
-        stands =
-            let nothing = nothing_follows ending in
-            fault_stands first nothing.0 old.reader.races old.reader.lines (left ++ []) fault (wrong [] nothing.0 nothing.1)
+        stands = (fault_line first ending bytes old.reader fault wrong).0
+
+        there : fault.line - old.reader.lines ≤ length (lines_of left)
+        there = (fault_line first ending bytes old.reader fault wrong).1
+
+        further_on : before ++ take new.reader.end bytes ≡ front ++ take n left
+        further_on =
+            ap (λ (m : ℕ). before ++ take m bytes) ends ∙ ap (λ (t : List ℕ). before ++ t) (take-add old.reader.end n bytes) ∙ sym (append_assoc before (take old.reader.end bytes) (take n left))
+
+        counted_on : new.reader.lines ≡ old.reader.lines + line_count (take n left)
+        counted_on = lined_on ∙ ap (λ (m : ℕ). old.reader.lines + m) passes.lined
+
+        rest_on : drop new.reader.end bytes ≡ drop n left
+        rest_on = ap (λ (m : ℕ). drop m bytes) ends ∙ sym (drop-drop n old.reader.end bytes)
+
+        front_on : new.told.is_all ≡ false → before ++ take new.reader.end bytes ≡ front
+        front_on one = further_on ∙ ap (λ (m : ℕ). front ++ take m left) (passes.none one) ∙ append-nil front
 
         hint : (more : List ℕ) (is_broken : Bool) → MayFollow ending more is_broken → old.told.is_all ≡ true → hint_in part.lines part.text.now fault ≡ hint_of ((before ++ bytes) ++ more) fault
         hint more is_broken may all =
@@ -399,9 +425,12 @@ module _ {A : Type 0} (ending : Ending) (before bytes : List ℕ) (old new : Cou
               are = λ more is_broken others may are.
                   let Left : Bool → Type 0 = λ s. AreLeft s new.reader is_broken (drop new.reader.end bytes ++ more) others in
                   let here : AreFaultsAfter is_broken new.reader.lines (drop new.reader.end bytes ++ more) others = subst Left (seeks ∙ all_on) are in
-                  let after : AreFaultsAfter is_broken old.reader.lines (left ++ more) others = subst (λ (r : RaceReader). AreFaultsAfter is_broken r.lines (drop r.end bytes ++ more) others) same here in
+                  let after : AreFaultsAfter is_broken (old.reader.lines + line_count (take n left)) (drop n left ++ more) others =
+                  subst₂ (λ (m : ℕ) (t : List ℕ). AreFaultsAfter is_broken m (t ++ more) others) counted_on rest_on here in
+                  let seeks_at : SeeksAfter (left ++ more) (fault.line - old.reader.lines) (take n left) (drop n left ++ more) =
+                  seeks_more left more (fault.line - old.reader.lines) (take n left) (drop n left) there (passes.seeks all_on) in
                   let past : AreFaultsPast is_broken old.reader.races old.reader.lines (left ++ more) (fault ∷ others) =
-                  past_fault first is_broken old.reader.races old.reader.lines (left ++ more) fault others sound.few (wrong more is_broken may) after in
+                  past_fault first is_broken old.reader.races old.reader.lines (left ++ more) (take n left) (drop n left ++ more) fault others sound.few (wrong more is_broken may) seeks_at after in
                   let Before : Bool → Type 0 = λ s. AreLeft s old.reader is_broken (left ++ more) (fault ∷ others) in
                   subst (AreFaults ((before ++ bytes) ++ more) is_broken) (sym (append_assoc told.faults (fault ∷ []) others)) (told.are more is_broken (fault ∷ others) may (subst Before (sym reads) past));
               said = λ more is_broken may.
@@ -412,18 +441,20 @@ module _ {A : Type 0} (ending : Ending) (before bytes : List ℕ) (old new : Cou
 
         pub fault_at : IsAt ending before bytes new
         fault_at = record {
-          lined = subst (λ (r : RaceReader). r.lines ≡ line_count (before ++ take r.end bytes)) (sym same) at.lined;
-          whole = λ _. subst (λ (r : RaceReader). AreWhole (before ++ take r.end bytes)) (sym same) (at.whole reads);
+          lined = counted_on ∙ ap (λ (m : ℕ). m + line_count (take n left)) at.lined ∙ sym (line_count-append front (take n left)) ∙ sym (ap line_count further_on);
+          whole = λ stays. subst AreWhole (sym (front_on (sym seeks ∙ stays))) (at.whole reads);
           clean = λ none. absurd (never_none old.told.first fault (sym adds.first ∙ none));
           first = subst (λ (f : Option TextFault). IfSome f (IsFirstIn (before ++ bytes) ending)) (sym adds.first) (added old.told.first fault (IsFirstIn (before ++ bytes) ending) at.first own_first);
           alone = λ one.
               let Behind : TextFault → Type 0 = λ f. old.reader.lines + 1 ≤ f.line in
               let here = added old.told.first fault Behind (at.alone (sym adds.all ∙ one)) (λ none. stands) in
-              subst (λ (r : RaceReader). IfSome new.told.first (λ f. r.lines + 1 ≤ f.line)) (sym same) (subst (λ (f : Option TextFault). IfSome f Behind) (sym adds.first) here);
+              let none : more_lines ≡ 0 = passes.lined ∙ ap (λ (m : ℕ). line_count (take m left)) (passes.none one) in
+              let same : new.reader.lines ≡ old.reader.lines = omega (arith, lined_on, none) in
+              subst (λ (m : ℕ). IfSome new.told.first (λ f. m + 1 ≤ f.line)) (sym same) (subst (λ (f : Option TextFault). IfSome f Behind) (sym adds.first) here);
           told = λ all. told_on (sym adds.all ∙ all) all;
         }
 
-    -- bytes were passed in a search for the next race
+    -- bytes were passed in a search for the next part
     module _ (reader : RaceReader) (n : ℕ) (sound : IsSound old) (seeks : old.is_seeking ≡ true) (inside : n ≤ length left) (ends : reader.end ≡ old.reader.end + n)
         (lines : reader.lines ≡ old.reader.lines + line_count (take n left))
       where
@@ -458,8 +489,8 @@ module _ {A : Type 0} (ending : Ending) (before bytes : List ℕ) (old new : Cou
               };
         }
 
-        -- no race begins in them
-        pub passed_at : ((more : List ℕ) (other : ℕ) → BeginsRace (left ++ more) other → n + 1 ≤ other) → IsAt ending before bytes (record old { reader = reader })
+        -- no part begins in them
+        pub passed_at : ((more : List ℕ) (other : ℕ) → BeginsPart (left ++ more) other → n + 1 ≤ other) → IsAt ending before bytes (record old { reader = reader })
         passed_at none =
             subst (λ (s : Bool). IsAt ending before bytes (record old { reader = reader; is_seeking = s })) (sym seeks)
             (sought_at true (λ reads. absurd (true≢false reads))
@@ -468,8 +499,8 @@ module _ {A : Type 0} (ending : Ending) (before bytes : List ℕ) (old new : Cou
             after_more is_broken old.reader.lines (left ++ more) n others (omega arith) (none more)
             (subst₂ (λ (m : ℕ) (t : List ℕ). AreFaultsAfter is_broken m t others) (counted more) (behind more) are)))
 
-        -- the next race begins after them
-        pub found_at : reader.races ≡ 0 → AreWhole (front ++ take n left) → ((more : List ℕ) → IsNextRace (left ++ more) n) → IsAt ending before bytes (record old { reader = reader; is_seeking = false })
+        -- the next part begins after them
+        pub found_at : reader.races ≡ 0 → AreWhole (front ++ take n left) → ((more : List ℕ) → IsNextPart (left ++ more) n) → IsAt ending before bytes (record old { reader = reader; is_seeking = false })
         found_at races whole next =
             sought_at false (λ _. subst AreWhole (sym further) whole)
             (λ is_broken more others are.

@@ -1,7 +1,9 @@
 -- The faults of what is left of an input, race by race.
-use Rattle.std.proofs.Common.{ℕ, ◌≡◌, ◌+◌, ◌≤◌, Bool, true, false, List, [], ◌∷◌, ◌++◌, length, take, drop, Some, None, refl, sym, subst, ◌∙◌, ap, append_assoc, length-append, arith, inl, inr}
+use Rattle.std.proofs.Common.{ℕ, ◌≡◌, ◌+◌, ◌-◌, ◌≤◌, Bool, true, false, List, [], ◌∷◌, ◌++◌, length, take, drop, Some, None, refl, sym, subst, ◌∙◌, ap, append_assoc, length-append, arith, inl, inr}
 use Rattle.he_timeline.specs.Race.{Race}
-use Rattle.he_reading.specs.Text.{IsRaceText}
+use Rattle.he_reading.specs.Parts.{lines_of}
+use Rattle.he_reading.proofs.PartLaws.{parts_counted}
+use Rattle.he_inputs.specs.Recorded.{IsRecordedText}
 use Rattle.he_inputs.specs.Inputs.{IsFaultBehind, fault_behind, line_count}
 use Rattle.he_inputs.specs.declared.input_fault.InputFault.{InputFault}
 use Rattle.he_inputs.specs.declared.input_fault.InputFault.TheVariants.{Text, Read}
@@ -10,9 +12,9 @@ use Rattle.he_words.specs.Ranges.{most_races}
 use Rattle.he_words.specs.declared.fault.TextFault.{TextFault}
 use Rattle.he_words.specs.declared.fault.TextKind.{TextKind}
 use Rattle.he_words.specs.declared.fault.TextKind.TheVariants as kinds
-use Rattle.he_check.specs.AllFaults.{AreFaultsBehind, IsNextRace, behind}
+use Rattle.he_check.specs.AllFaults.{AreFaultsBehind, IsNextPart, SeeksAfter, behind}
 use Rattle.he_check.specs.Steps.{AreFaultsAfter, AreFaultsPast}
-use Rattle.he_check.proofs.Hints.{FirstFaults}
+use Rattle.he_check.proofs.Hints.{FirstFaults, fault_there}
 
 -- a fault of a part, its line counted over the whole input
 abbrev fault_over : ℕ → InputFault → InputFault
@@ -73,8 +75,7 @@ is_over first is_broken count lines more (byte ∷ rest) fault (inl (most, is)) 
       stands = subst (StandsBehind (lines + more)) (sym here) (let le : lines + more + 1 ≤ lines + more + 1 = omega arith in le);
     }
 is_over first is_broken count lines more (byte ∷ rest) fault (inr (few, (line, kind), at, told)) =
-    let number = ((first (byte ∷ rest) line kind).0 at).number in
-    let all = over is_broken lines more line kind (omega arith) in
+    let all = over is_broken lines more line kind (fault_there first (byte ∷ rest) line kind at).0 in
     let here : fault ≡ fault_behind is_broken (lines + more) (line, kind) = cc in
     record {
       found = fault_behind is_broken more (line, kind);
@@ -90,19 +91,55 @@ fault_stands first is_broken races lines text fault is =
     let stands : 0 + lines + 1 ≤ fault.line = (is_over first is_broken races 0 lines text (Text fault) (subst (λ (n : ℕ). IsFaultBehind is_broken races n text (Some (Text fault))) none is)).stands in
     omega arith
 
+-- and is one of what is left
+line_of : InputFault → ℕ
+line_of Read = 0
+line_of (Text fault) = fault.line
+
+text_line : (is_broken : Bool) (lines line : ℕ) (kind : TextKind) (fault : TextFault) → Text fault ≡ fault_behind is_broken lines (line, kind) → fault.line ≡ lines + line
+unfolding line_of
+text_line false lines line kind fault e = ap line_of e
+text_line true lines line kinds.Header fault e = ap line_of e
+text_line true lines line kinds.Word fault e = ap line_of e
+text_line true lines line kinds.Number fault e = ap line_of e
+text_line true lines line kinds.Address fault e = ap line_of e
+text_line true lines line kinds.Prefix fault e = ap line_of e
+text_line true lines line kinds.Repeated fault e = ap line_of e
+text_line true lines line kinds.Range fault e = ap line_of e
+text_line true lines line kinds.TooMany fault e = ap line_of e
+text_line true lines line kinds.Unfinished fault e = cc
+text_line true lines line (kinds.Policy table) fault e = ap line_of e
+text_line true lines line kinds.Memory fault e = ap line_of e
+
+pub line_left : FirstFaults → (is_broken : Bool) (races lines : ℕ) (text : List ℕ) (fault : TextFault) → IsFaultBehind is_broken races lines text (Some (Text fault)) → fault.line - lines ≤ length (lines_of text)
+unfolding line_of
+line_left first true races lines [] fault is = cc
+line_left first false races lines [] fault is = cc
+line_left first is_broken races lines (byte ∷ rest) fault (inl (most, is)) =
+    let same : ◌≡◌ {A = InputFault} (Text fault) (Text (record { line = lines + 1; kind = kinds.TooMany })) = cc (is) in
+    let line : fault.line ≡ lines + 1 = ap line_of same in
+    let some : line_count (byte ∷ rest) + 1 ≡ length (lines_of (byte ∷ rest)) = parts_counted 10 (byte ∷ rest) in
+    omega arith
+line_left first is_broken races lines (byte ∷ rest) fault (inr (few, (line, kind), at, is)) =
+    let same : Text fault ≡ fault_behind is_broken lines (line, kind) = cc (is) in
+    let number = text_line is_broken lines line kind fault same in
+    let there = (fault_there first (byte ∷ rest) line kind at).1 in
+    omega arith
+
 -- one race more is passed
-pub past_race : (is_broken : Bool) (races lines : ℕ) (own : List ℕ) (race : Race) (rest : List ℕ) (faults : List TextFault) → IsRaceText own race
+pub past_race : (is_broken : Bool) (races lines : ℕ) (own : List ℕ) (race : Race) (rest : List ℕ) (faults : List TextFault) → IsRecordedText own race
     → AreFaultsPast is_broken (races + 1) (lines + line_count own) rest faults → AreFaultsPast is_broken races lines (own ++ rest) faults
 past_race is_broken races lines own race rest faults read are passed front start whole count lined =
     let longer = length-append passed (race ∷ []) in
     let more = line_count-append front own in
     subst (λ (t : List ℕ). AreFaultsBehind is_broken start t faults) (append_assoc front own rest)
-    (are (passed ++ race ∷ []) (front ++ own) start (AreTexts-snoc IsRaceText passed front whole race own read) (omega arith) (omega arith))
+    (are (passed ++ race ∷ []) (front ++ own) start (AreTexts-snoc IsRecordedText passed front whole race own read) (omega arith) (omega arith))
 
 -- the fault of a part, and those of the parts that follow
-pub past_fault : FirstFaults → (is_broken : Bool) (races lines : ℕ) (text : List ℕ) (fault : TextFault) (others : List TextFault) → races ≤ most_races
-    → IsFaultBehind is_broken races lines text (Some (Text fault)) → AreFaultsAfter is_broken lines text others → AreFaultsPast is_broken races lines text (fault ∷ others)
-past_fault first is_broken races lines text fault others few is after passed front start whole count lined = by_found over.found over.is over.told
+pub past_fault : FirstFaults → (is_broken : Bool) (races lines : ℕ) (text record_lines left : List ℕ) (fault : TextFault) (others : List TextFault) → races ≤ most_races
+    → IsFaultBehind is_broken races lines text (Some (Text fault)) → SeeksAfter text (fault.line - lines) record_lines left
+    → AreFaultsAfter is_broken (lines + line_count record_lines) left others → AreFaultsPast is_broken races lines text (fault ∷ others)
+past_fault first is_broken races lines text record_lines left fault others few is seeks after passed front start whole count lined = by_found over.found over.is over.told
   where
     here : IsFaultBehind is_broken (length passed) (start + line_count front) text (Some (Text fault))
     here =
@@ -115,12 +152,17 @@ past_fault first is_broken races lines text fault others few is after passed fro
     by_found : (found : InputFault) → IsFaultBehind is_broken (length passed) (line_count front) text (Some found) → Text fault ≡ fault_over start found → AreFaultsBehind is_broken start (front ++ text) (fault ∷ others)
     by_found Read found_is told = cc
     by_found (Text found) found_is told =
-        let same : fault ≡ behind start found = cc in (
+        let same : fault ≡ behind start found = cc in
+        let line : fault.line ≡ start + found.line = ap (λ (f : TextFault). f.line) same in
+        let own : fault.line - lines ≡ found.line - line_count front = omega arith in (
           passed,
           found,
           record { before = front; rest = text; parts = refl; whole = whole; few = omega arith; fault_is = found_is },
           same,
-          subst (λ (n : ℕ). AreFaultsAfter is_broken n text others) lined after,
+          record_lines,
+          left,
+          subst (λ (n : ℕ). SeeksAfter text n record_lines left) own seeks,
+          subst (λ (n : ℕ). AreFaultsAfter is_broken (n + line_count record_lines) left others) lined after,
         )
 
 -- what is left ends, and nothing is wrong with it
@@ -150,8 +192,8 @@ no_read [] races lines is = cc
 no_read (byte ∷ rest) races lines (inl (most, is)) = cc
 no_read (byte ∷ rest) races lines (inr (few, (line, kind), at, is)) = cc
 
--- from the next race on
-pub after_found : (is_broken : Bool) (lines next : ℕ) (text : List ℕ) (at : ℕ) (faults : List TextFault) → IsNextRace text at → next ≡ lines + line_count (take at text)
+-- from the next part on
+pub after_found : (is_broken : Bool) (lines next : ℕ) (text : List ℕ) (at : ℕ) (faults : List TextFault) → IsNextPart text at → next ≡ lines + line_count (take at text)
     → AreFaultsPast is_broken 0 next (drop at text) faults → AreFaultsAfter is_broken lines text faults
 after_found is_broken lines next text at faults is lined are =
     let none : line_count [] ≡ 0 = refl in

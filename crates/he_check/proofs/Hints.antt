@@ -1,29 +1,31 @@
 -- What was meant by a fault, as what is left of an input tells it, and as the whole input does.
-use Rattle.std.proofs.Common.{ℕ, ◌≡◌, ◌⊎◌, ◌↔◌, ◌+◌, ◌-◌, ◌<◌, ◌≤◌, Bool, true, false, List, [], ◌∷◌, ◌++◌, length, Option, Some, None, refl, sym, subst, ◌∙◌, ap, append-nil, length-append, arith, inl, inr, if◌then◌else◌, ◌==◌}
+use Rattle.std.proofs.Common.{ℕ, ◌≡◌, ◌⊎◌, ◌↔◌, ◌+◌, ◌-◌, ◌<◌, ◌≤◌, Bool, true, false, List, [], ◌∷◌, ◌++◌, length, Option, Some, None, refl, sym, ◌∙◌, ap, append-nil, length-append, arith, inl, inr, if◌then◌else◌, ◌==◌}
 use Rattle.std.specs.Cmp.Lexicographic.{pointwise}
 use Rattle.std.specs.Option.{option_or}
 use Rattle.std.specs.Prelude.{codes, nat_lt}
 use Rattle.std.proofs.lemmas.Bool.{eqb-true}
 use Rattle.std.proofs.lemmas.List.{take-append-le}
 use Rattle.std.proofs.lemmas.Option.{unwrap_or-slice_get}
-use Rattle.he_reading.specs.Faults.{first_fault, line_fault, test, unfinished}
-use Rattle.he_reading.specs.FaultSearch.{fault_of}
+use Rattle.he_reading.specs.Faults.{line_fault}
 use Rattle.he_reading.specs.Parts.{lines_of}
-use Rattle.he_inputs.specs.FirstFault.{IsFirstFaultOf, fault_on}
+use Rattle.he_record.specs.Fronts.{IsRecordFault}
+use Rattle.he_record.proofs.FrontLaws.{as_many}
+use Rattle.he_inputs.specs.FirstFault.{IsFirstFault, fault_on}
 use Rattle.he_inputs.specs.Inputs.{line_count}
+use Rattle.he_inputs.specs.Recorded.{IsFirstRecordedFault, recorded_fault}
 use Rattle.he_inputs.proofs.RaceReadingLaws.{line_count-append}
 use Rattle.he_words.specs.Ranges.{most_line_bytes}
 use Rattle.he_words.specs.declared.fault.TextFault.{TextFault}
 use Rattle.he_words.specs.declared.fault.TextKind.{TextKind}
-use Rattle.he_words.specs.declared.fault.TextKind.TheVariants as kinds
 use Rattle.he_check.specs.Clauses.{hint_of, is_of_words, line_at, line_meant}
 use Rattle.he_check.specs.Meant.{begins, input_meant, is_capture}
 use Rattle.he_check.specs.Steps.{AreWhole, hint_in}
 use Rattle.he_check.specs.declared.meant.Meant.{Meant}
 use Rattle.he_check.proofs.WholeLines.{line_stays, line_there}
+use Rattle.he_check.proofs.WrongLines.{ends_wrong, record_fault, record_wrong}
 
 abbrev pub FirstFaults : Type 0
-FirstFaults = (text : List ℕ) (line : ℕ) (kind : TextKind) → (fault_of text ≡ Some (line, kind)) ↔ IsFirstFaultOf text line kind
+FirstFaults = (text : List ℕ) (line : ℕ) (kind : TextKind) → (recorded_fault text ≡ Some (line, kind)) ↔ IsFirstRecordedFault text line kind
 
 -- what a text begins with is no matter of what follows it
 pub begins_more : (pattern text more : List ℕ) → length pattern ≤ length text → begins pattern (text ++ more) ≡ begins pattern text
@@ -54,28 +56,61 @@ meant_more text more long =
     let j = capture_more text more long in
     cc
 
--- the line in which a text ends is too long, or not finished
-ends_wrong : (long : Bool) (others : List (Option TextKind)) (kind : TextKind) → first_fault (test long kinds.TooMany ∷ unfinished [] ∷ others) ≡ Some kind → is_of_words kind ≡ false
-ends_wrong true others kind is = let same : kinds.TooMany ≡ kind = cc in subst (λ (k : TextKind). is_of_words k ≡ false) same refl
-ends_wrong false others kind is = let same : kinds.Unfinished ≡ kind = cc in subst (λ (k : TextKind). is_of_words k ≡ false) same refl
-
+-- in the line in which a race ends no word is wrong
 last_wrong : (before : List (List ℕ)) (line : List ℕ) (kind : TextKind) → fault_on before line [] ≡ Some kind → is_of_words kind ≡ false
 unfolding line_fault
 last_wrong [] line kind is = ends_wrong (nat_lt most_line_bytes (length line)) _ kind is
 last_wrong (first ∷ before) line kind is = ends_wrong (nat_lt most_line_bytes (length line)) _ kind is
 
 -- after the line of a fault of its words stands another
-pub words_behind : FirstFaults → (text : List ℕ) (line : ℕ) (kind : TextKind) → fault_of text ≡ Some (line, kind) → is_of_words kind ≡ true → line < length (lines_of text)
-words_behind first text line kind at words = by_after is.before is.line is.after is.parts is.number is.fails
+words_in : (lines : List (List ℕ)) (line : ℕ) (kind : TextKind) → IsFirstFault lines line kind → is_of_words kind ≡ true → line < length lines
+words_in lines line kind is words = by_after is.before is.line is.after is.parts is.number is.fails
   where
-    is : IsFirstFaultOf text line kind
-    is = (first text line kind).0 at
-
-    by_after : (before : List (List ℕ)) (own : List ℕ) (after : List (List ℕ)) → lines_of text ≡ before ++ own ∷ after → line ≡ length before + 1 → fault_on before own after ≡ Some kind → line < length (lines_of text)
+    by_after : (before : List (List ℕ)) (own : List ℕ) (after : List (List ℕ)) → lines ≡ before ++ own ∷ after → line ≡ length before + 1 → fault_on before own after ≡ Some kind → line < length lines
     by_after before own [] parts number fails = let wrong : true ≡ false = sym words ∙ last_wrong before own kind fails in cc
     by_after before own (next ∷ after) parts number fails =
-        let size : length (lines_of text) ≡ length before + length (own ∷ next ∷ after) = ap length parts ∙ length-append before (own ∷ next ∷ after) in
+        let size : length lines ≡ length before + length (own ∷ next ∷ after) = ap length parts ∙ length-append before (own ∷ next ∷ after) in
         omega arith
+
+words_in_record : (text : List ℕ) (line : ℕ) (kind : TextKind) → IsRecordFault text line kind → is_of_words kind ≡ true → line < length (lines_of text)
+words_in_record text line kind is words = by_after is.after is.parts is.fails
+  where
+    by_after : (after : List (List ℕ)) → lines_of text ≡ is.lines ++ is.line ∷ after → record_fault is.said is.line after ≡ Some kind → line < length (lines_of text)
+    by_after [] parts fails = let wrong : true ≡ false = sym words ∙ record_wrong is.said is.line kind fails in cc
+    by_after (next ∷ after) parts fails =
+        let size : length (lines_of text) ≡ length is.lines + length (is.line ∷ next ∷ after) = ap length parts ∙ length-append is.lines (is.line ∷ next ∷ after) in
+        omega (arith, size, is.number)
+
+pub words_behind : FirstFaults → (text : List ℕ) (line : ℕ) (kind : TextKind) → recorded_fault text ≡ Some (line, kind) → is_of_words kind ≡ true → line < length (lines_of text)
+words_behind first text line kind at words = elim ((first text line kind).0 at) [
+  | inl is ↦ words_in_record text line kind is words
+  | inr is ↦
+      let short : is.line < length is.left = words_in is.left is.line kind is.fails words in
+      let all : length (lines_of text) ≡ length is.begins.lines + length is.left = ap length is.begins.parts ∙ length-append is.begins.lines is.left in
+      omega (arith, as_many is.begins.lines is.said is.begins.are.say, is.number)
+]
+
+-- the line of a fault is one of the text
+abbrev IsThere : List (List ℕ) → ℕ → Type 0
+IsThere lines line = (1 ≤ line) × (line ≤ length lines)
+
+there_in : (lines : List (List ℕ)) (line : ℕ) (kind : TextKind) → IsFirstFault lines line kind → IsThere lines line
+there_in lines line kind is =
+    let size : length lines ≡ length is.before + length (is.line ∷ is.after) = ap length is.parts ∙ length-append is.before (is.line ∷ is.after) in
+    (omega (arith, is.number), omega (arith, size, is.number))
+
+pub fault_there : FirstFaults → (text : List ℕ) (line : ℕ) (kind : TextKind) → recorded_fault text ≡ Some (line, kind) → IsThere (lines_of text) line
+fault_there first text line kind at = elim ((first text line kind).0 at) [
+  | inl is ↦
+      let size : length (lines_of text) ≡ length is.lines + length (is.line ∷ is.after) = ap length is.parts ∙ length-append is.lines (is.line ∷ is.after) in
+      (omega (arith, is.number), omega (arith, size, is.number))
+  | inr is ↦
+      let own : IsThere is.left is.line = there_in is.left is.line kind is.fails in
+      let some = own.0 in
+      let most = own.1 in
+      let all : length (lines_of text) ≡ length is.begins.lines + length is.left = ap length is.begins.parts ∙ length-append is.begins.lines is.left in
+      (omega (arith, some, is.number), omega (arith, most, all, as_many is.begins.lines is.said is.begins.are.say, is.number))
+]
 
 when_same : {A : Type 0} (is : Bool) (one other : Option A) → (is ≡ true → one ≡ other) → (if is then one else None) ≡ (if is then other else None)
 when_same true one other same = same refl

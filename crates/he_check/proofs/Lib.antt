@@ -3,7 +3,9 @@ mod Counts
 mod FaultParts
 mod Hints
 mod Holding
-mod NextRaces
+mod NextParts
 mod PutObjects
+mod RecordLines
 mod Stepping
 mod WholeLines
+mod WrongLines

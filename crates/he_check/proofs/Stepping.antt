@@ -11,15 +11,15 @@ use Rattle.he_inputs.specs.declared.race_reader.RaceReader.{RaceReader}
 use Rattle.he_inputs.specs.declared.race_reader.RaceReaderFault.TheVariants as readers
 use Rattle.he_words.specs.Ranges.{most_races}
 use Rattle.he_words.specs.declared.fault.TextFault.{TextFault}
-use Rattle.he_check.specs.AllFaults.{BeginsRace, IsNextRace}
+use Rattle.he_check.specs.AllFaults.{BeginsPart, IsNextPart}
 use Rattle.he_check.specs.Slips.{warnings_of}
-use Rattle.he_check.specs.Steps.{AddsFault, AreFaultsPast, AreLeft, AreWhole, HasGone, HasStepped, HasStopped, IsAt, IsOpen, MayGo, steps_left}
+use Rattle.he_check.specs.Steps.{AddsFault, AreFaultsPast, AreLeft, AreWhole, HasGone, HasStepped, HasStopped, IsAt, IsOpen, MayGo, PassesRecords, steps_left}
 use Rattle.he_check.specs.declared.counting.Counted.{Counted}
 use Rattle.he_check.specs.declared.parts.RestOfInput.{RestOfInput}
 use Rattle.he_check.proofs.Counts.{fault_at, found_at, never_none, passed_at, race_at}
 use Rattle.he_check.proofs.FaultParts.{no_read, past_none, past_read}
 use Rattle.he_check.proofs.Hints.{FirstFaults}
-use Rattle.he_check.proofs.NextRaces.{too_short}
+use Rattle.he_check.proofs.NextParts.{too_short}
 
 -- nothing was done
 pub gone_nowhere : {A : Type 0} (ending : Ending) (bytes : List ℕ) (old : Counted A) → MayGo ending bytes old → HasGone ending bytes old old
@@ -27,6 +27,19 @@ gone_nowhere ending bytes old may = record { may = may; all = refl; form = refl;
 
 pub gone_further : {A : Type 0} (ending : Ending) (bytes : List ℕ) (old new last : Counted A) → HasGone ending bytes old new → HasGone ending bytes new last → HasGone ending bytes old last
 gone_further ending bytes old new last first second = record { may = second.may; all = second.all ∙ first.all; form = second.form ∙ first.form; on = λ before at. second.on before (first.on before at) }
+
+-- a reader went on in the bytes
+within_on : (bytes : List ℕ) (old new : RaceReader) (n : ℕ) → IsWithin bytes old → n ≤ length (drop old.end bytes) → new.end ≡ old.end + n → new.lines ≡ old.lines + line_count (take n (drop old.end bytes))
+    → new.races ≤ old.races → IsWithin bytes new
+within_on bytes old new n within inside ends lines races =
+    let left : List ℕ = drop old.end bytes in
+    let few = count_by-le-length (λ b. eqb b 10) (take n left) in
+    let place = within.place in
+    let room = within.room in
+    let most = within.few in
+    let before : length left ≡ length bytes - old.end = length-drop old.end bytes in
+    let rest : length (drop new.end bytes) ≡ length bytes - new.end = length-drop new.end bytes in
+    record { place = omega arith; few = omega arith; room = omega (arith, few, room, before, rest, ends, lines, inside, place, length-take {A = ℕ}) }
 
 module _ {A : Type 0} (ending : Ending) (bytes : List ℕ) (old new : Counted A) (may : MayGo ending bytes old) (free : IsOpen old)
   where
@@ -94,19 +107,19 @@ module _ {A : Type 0} (ending : Ending) (bytes : List ℕ) (old new : Counted A)
     }
 
     -- a fault was found
-    pub fault_stepped : FirstFaults → (fault : TextFault) (part : RestOfInput) → old.is_seeking ≡ false → new.is_seeking ≡ new.told.is_all → new.reader ≡ old.reader
-        → IsReaderFault bytes ending old.reader (readers.Input (Text fault)) → AddsFault part fault old.told new.told → part.text.now ≡ left → part.lines ≡ old.reader.lines
+    pub fault_stepped : FirstFaults → (fault : TextFault) (part : RestOfInput) → old.is_seeking ≡ false → new.is_seeking ≡ new.told.is_all
+        → (n more_lines : ℕ) → PassesRecords new.told.is_all left (fault.line - old.reader.lines) n more_lines → new.reader.end ≡ old.reader.end + n → new.reader.lines ≡ old.reader.lines + more_lines
+        → new.reader.races ≡ old.reader.races → IsReaderFault bytes ending old.reader (readers.Input (Text fault)) → AddsFault part fault old.told new.told → part.text.now ≡ left → part.lines ≡ old.reader.lines
         → HasStepped ending bytes old new new.told.is_all
-    fault_stepped first fault part reads seeks same wrong adds text lines = record {
+    fault_stepped first fault part reads seeks n more_lines passes ends lined same wrong adds text lines = record {
       gone = record {
         may = record {
-          within = subst (IsWithin bytes) (sym same) may.within;
+          within = within_on bytes old.reader new.reader n may.within passes.inside ends (lined ∙ ap (λ (m : ℕ). old.reader.lines + m) passes.lined) (omega arith);
           sound = record {
-            few = subst (λ (r : RaceReader). r.races ≤ most_races) (sym same) may.sound.few;
+            few = let few = may.sound.few in omega arith;
             count = λ all.
                 let before : old.told.count ≤ old.reader.lines + 0 = found (sym adds.all ∙ all) false reads in
                 let number = adds.count in
-                let line : new.reader.lines ≡ old.reader.lines = ap (λ (r : RaceReader). r.lines) same in
                 let here : new.told.count ≤ new.reader.lines + 1 = omega arith in
                 subst (λ (s : Bool). new.told.count ≤ new.reader.lines + (if s then 1 else 0)) (sym (seeks ∙ all)) here;
             zero = λ none. absurd (some none);
@@ -117,13 +130,12 @@ module _ {A : Type 0} (ending : Ending) (bytes : List ℕ) (old new : Counted A)
         };
         all = adds.all;
         form = adds.form;
-        on = λ before at. fault_at ending before bytes old new at first fault part may.within.place may.sound may.enough reads seeks same wrong adds text lines;
+        on = λ before at. fault_at ending before bytes old new at first fault part may.within.place may.sound may.enough reads seeks n more_lines passes ends lined wrong adds text lines;
       };
       more = λ all one. absurd (true≢false (sym all ∙ one));
       less = λ all.
           let before = steps false reads in
           let after : steps_left bytes new ≡ 2 * (length bytes - new.reader.end) + 0 = ap (λ (s : Bool). 2 * (length bytes - new.reader.end) + (if s then 0 else 1)) (seeks ∙ all) in
-          let end : new.reader.end ≡ old.reader.end = ap (λ (r : RaceReader). r.end) same in
           omega arith;
       stopped = λ one. record { ends = λ none. absurd (some none); none = λ all. absurd (true≢false (sym all ∙ one)) };
     }
@@ -131,7 +143,7 @@ module _ {A : Type 0} (ending : Ending) (bytes : List ℕ) (old new : Counted A)
         some : new.told.first ≡ None → ⊥
         some none = never_none old.told.first fault (sym adds.first ∙ none)
 
-    -- the next race is sought, and so many bytes were passed
+    -- the next part is sought, and so many bytes were passed
     module _ (reader : RaceReader) (seeks : old.is_seeking ≡ true) (n : ℕ) (inside : n ≤ length left) (ends : reader.end ≡ old.reader.end + n) (lines : reader.lines ≡ old.reader.lines + line_count (take n left))
         (races : reader.races ≤ old.reader.races)
       where
@@ -142,14 +154,7 @@ module _ {A : Type 0} (ending : Ending) (bytes : List ℕ) (old new : Counted A)
         size = length-drop old.reader.end bytes
 
         within : IsWithin bytes reader
-        within =
-            let few = count_by-le-length (λ b. eqb b 10) (take n left) in
-            let place = may.within.place in
-            let room = may.within.room in
-            let most = may.within.few in
-            let before = size in
-            let rest : length (drop reader.end bytes) ≡ length bytes - reader.end = length-drop reader.end bytes in
-            record { place = omega arith; few = omega arith; room = omega (arith, few, room, before, rest, ends, lines, inside, place, length-take {A = ℕ}) }
+        within = within_on bytes old.reader reader n may.within inside ends lines races
 
         faulty : old.told.first ≡ None → ⊥
         faulty none = true≢false (sym seeks ∙ may.sound.reads none)
@@ -167,8 +172,8 @@ module _ {A : Type 0} (ending : Ending) (bytes : List ℕ) (old new : Counted A)
           on = on;
         }
 
-        -- no race begins in them
-        pub passed_stepped : ((more : List ℕ) (other : ℕ) → BeginsRace (left ++ more) other → n + 1 ≤ other) → (goes_on : Bool)
+        -- no part begins in them
+        pub passed_stepped : ((more : List ℕ) (other : ℕ) → BeginsPart (left ++ more) other → n + 1 ≤ other) → (goes_on : Bool)
             → (goes_on ≡ true → 1 ≤ n) → (goes_on ≡ false → length (drop reader.end bytes) ≤ 7) → HasStepped ending bytes old (record old { reader = reader }) goes_on
         passed_stepped none goes_on some short = record {
           gone = subst (λ (s : Bool). HasGone ending bytes old (record old { reader = reader; is_seeking = s })) (sym seeks)
@@ -182,8 +187,8 @@ module _ {A : Type 0} (ending : Ending) (bytes : List ℕ) (old new : Counted A)
           };
         }
 
-        -- the next race begins after them
-        pub found_stepped : reader.races ≡ 0 → line_count (take n left) ≡ 1 → 1 ≤ n → ((before : List ℕ) → AreWhole (before ++ take n left)) → ((more : List ℕ) → IsNextRace (left ++ more) n)
+        -- the next part begins after them
+        pub found_stepped : reader.races ≡ 0 → line_count (take n left) ≡ 1 → 1 ≤ n → ((before : List ℕ) → AreWhole (before ++ take n left)) → ((more : List ℕ) → IsNextPart (left ++ more) n)
             → HasStepped ending bytes old (record old { reader = reader; is_seeking = false }) true
         found_stepped none one some whole next = record {
           gone = gone_on false (let before : old.told.count ≤ old.reader.lines + 1 = found all true seeks in omega arith)

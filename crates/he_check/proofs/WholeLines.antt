@@ -1,5 +1,5 @@
 -- Whole lines at the front of a text: the texts of races are such, and each line after them is one of the rest.
-use Rattle.std.proofs.Common.{ℕ, zero, suc, ◌≡◌, ◌+◌, ◌-◌, ◌<◌, ◌≤◌, Bool, true, false, cond, eqb, List, [], ◌∷◌, ◌++◌, length, get_or, refl, sym, subst, ◌∙◌, ap, append_assoc, append-nil, get_or-append-add, arith, codes, inl, inr}
+use Rattle.std.proofs.Common.{ℕ, zero, suc, ◌≡◌, ◌+◌, ◌-◌, ◌<◌, ◌≤◌, Bool, true, false, cond, eqb, List, [], ◌∷◌, ◌++◌, length, get_or, refl, sym, subst, ◌∙◌, ap, append_assoc, append-nil, length-append, get_or-append-add, arith, codes, inl, inr}
 use Rattle.std.specs.List.{join_with_byte, onto_first}
 use Rattle.std.proofs.lemmas.List.Splits.{join_with_byte-slice_split, length-slice_split, slice_split-cons_yes}
 use Rattle.std.proofs.lemmas.Option.{unwrap_or-slice_get}
@@ -7,6 +7,7 @@ use Rattle.he_timeline.specs.Race.{Race}
 use Rattle.he_inputs.specs.Inputs.{AreRaceTexts, line_count}
 use Rattle.he_reading.specs.Parts.{lines_of}
 use Rattle.he_reading.specs.Text.{IsRaceText}
+use Rattle.he_inputs.specs.Recorded.{IsRecordedText}
 use Rattle.he_words.specs.Words.{header_of}
 use Rattle.he_inputs.proofs.RaceReadingLaws.{line_count-append}
 use Rattle.he_check.specs.Clauses.{line_at}
@@ -21,12 +22,24 @@ join_last : (line : List ℕ) (lines : List (List ℕ)) → join_with_byte 10 (l
 join_last line [] = refl
 join_last line (next ∷ lines) = ap (λ (r : List ℕ). line ++ 10 ∷ r) (join_last next lines) ∙ sym (append_assoc line (10 ∷ join_with_byte 10 (next ∷ lines)) (10 ∷ []))
 
-pub whole_race : (text : List ℕ) (race : Race) → IsRaceText text race → AreWhole text
-whole_race text race is =
+race_whole : (text : List ℕ) (race : Race) → IsRaceText text race → AreWhole text
+race_whole text race is =
     let header = header_of is.version in
     let lines : List (List ℕ) = is.lines ++ codes "end" ∷ [] in
     let parts : lines_of text ≡ header ∷ lines ++ [] ∷ [] = is.parts ∙ ap (λ (l : List (List ℕ)). header ∷ l) (sym (append_assoc is.lines (codes "end" ∷ []) ([] ∷ []))) in
     inr (join_with_byte 10 (header ∷ lines), sym (join_with_byte-slice_split 10 text) ∙ ap (join_with_byte 10) parts ∙ join_last header lines)
+
+pub whole_race : (text : List ℕ) (race : Race) → IsRecordedText text race → AreWhole text
+whole_race text race (said, is) = elim (race_whole is.rest race is.is) [
+  | inl none ↦ absurd (some is.rest none is.is)
+  | inr (front, ends) ↦ inr (is.front ++ front, is.parts ∙ ap (λ (r : List ℕ). is.front ++ r) ends ∙ sym (append_assoc is.front front (10 ∷ [])))
+]
+  where
+    some : (rest : List ℕ) → rest ≡ [] → IsRaceText rest race → ⊥
+    some rest none is =
+        let one : length (lines_of rest) ≡ 1 = ap (λ (t : List ℕ). length (lines_of t)) none in
+        let more : length (lines_of rest) ≡ length (header_of is.version ∷ is.lines ++ codes "end" ∷ [] ∷ []) = ap length is.parts in
+        omega (arith, one, more, length-append is.lines (codes "end" ∷ [] ∷ []))
 
 pub whole_races : (races : List Race) (text : List ℕ) → AreRaceTexts races text → AreWhole text
 whole_races [] text none = inl none
@@ -34,7 +47,7 @@ whole_races (race ∷ races) text (first, more, split, is, are) =
     subst AreWhole (sym split) (whole_append first more (whole_race first race is) (whole_races races more are))
 
 -- the parts of a text before a mark, and those after it
-split_on : (front rest : List ℕ) → lines_of (front ++ (10 ∷ rest)) ≡ lines_of front ++ lines_of rest
+pub split_on : (front rest : List ℕ) → lines_of (front ++ (10 ∷ rest)) ≡ lines_of front ++ lines_of rest
 split_on [] rest = slice_split-cons_yes (λ b. eqb b 10) 10 rest refl
 split_on (byte ∷ front) rest =
     ap (λ (parts : List (List ℕ)). cond (eqb byte 10) ([] ∷ parts) (onto_first byte parts)) (split_on front rest)

@@ -1,4 +1,4 @@
--- The words for what is wrong with a line, as a fault is told.
+-- The words for the kinds of faults.
 use Rattle.std.specs.Prelude.{ℕ, ◌++◌, List, [], codes, decimal}
 use Rattle.he_select.specs.declared.policy.PolicyFault.TheVariants as policies
 use Rattle.he_words.specs.declared.fault.TextKind.{TextKind}

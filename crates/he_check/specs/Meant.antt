@@ -1,4 +1,4 @@
--- What a person likely meant by a word that stands in no text of races, and by an input that is none.
+-- The likely meaning of a word that is in no text of races, and of an input that is no such text.
 use Rattle.std.specs.Prelude.{ℕ, ◌==◌, ◌&&◌, ◌||◌, Bool, List, [], ◌∷◌, if◌then◌else◌, codes, Option, Some, None}
 use Rattle.std.specs.Char.{is_ascii_alphabetic, is_ascii_alphanumeric, is_ascii_digit, is_ascii_uppercase}
 use Rattle.std.specs.List.{ends_with, list_all, list_any, starts_with}
@@ -16,7 +16,7 @@ begins first word = starts_with (λ a b. a == b) word first
 abbrev pub ends : List ℕ → List ℕ → Bool
 ends last word = ends_with (λ a b. a == b) word last
 
--- what begins with #, what has a tab in it, a word with capitals
+-- a word that begins with #, one with a tab in it, one with capitals
 unfoldable pub as_mark : List ℕ → Option Meant
 as_mark word =
     if begins (codes "#") word then Some Comment

@@ -1,4 +1,5 @@
--- What is said of a slip: what it comes to, and what to do; and after the sentence of a fault: what was likely meant.
+-- The sentence of a slip: its consequence, and the remedy; and the clause after the sentence of a fault: the likely
+-- meaning.
 use Rattle.std.specs.Prelude.{ℕ, ◌++◌, List, [], ◌∷◌, codes, decimal, Option, Some, None}
 use Rattle.he_addr.specs.declared.ip.Family.TheVariants as families
 use Rattle.he_check.specs.declared.meant.Meant.{Meant}
@@ -53,11 +54,11 @@ meaning_of Wide = codes "the input is UTF-16: make ASCII of it first, as `iconv 
 meaning_of Capture = codes "the input is a packet capture: tools/from-capture makes a timeline of it"
 meaning_of Json = codes "the input is JSON, which `he` writes and does not read"
 
--- ; and what was likely meant
+-- ; and the likely meaning
 abbrev pub meant_text : Option Meant → List ℕ
 meant_text None = []
 meant_text (Some meant) = codes "; " ++ meaning_of meant
 
--- the same, and a line end
+-- the clause, and a line end
 abbrev pub clause_text : Option Meant → List ℕ
 clause_text meant = meant_text meant ++ 10 ∷ []

@@ -1,4 +1,4 @@
--- What is allowed in a race and surely not meant, and where a check of an input warns of it.
+-- Entries of a race that are allowed, but surely not meant, and the warnings of an input about them.
 use Rattle.std.specs.Prelude.{ℕ, ◌≡◌, ◌+◌, ◌-◌, ◌==◌, ◌++◌, ◌&&◌, Bool, false, not, List, [], ◌∷◌, length, map, nat_lt, if◌then◌else◌, Option, Some, None}
 use Rattle.std.specs.List.{list_any}
 use Rattle.std.specs.Option.{option_map_or}
@@ -15,7 +15,7 @@ use Rattle.he_select.specs.Hosts.{HostLists}
 use Rattle.he_select.specs.declared.host.Route.{Route}
 use Rattle.he_select.specs.declared.host.Source.{Source}
 use Rattle.he_inputs.specs.Inputs.{line_count}
-use Rattle.he_reading.specs.Text.{IsRaceText}
+use Rattle.he_inputs.specs.Recorded.{IsRecordedText}
 use Rattle.he_check.specs.declared.slips.Slip.{Slip}
 use Rattle.he_check.specs.declared.slips.Slip.TheVariants.{NoRace, NoSource, IdleFloor, NoRoute, NoAnswer, LateAnswer, UnusableAnswer, NoSourceOf, LateOutcome}
 use Rattle.he_check.specs.declared.slips.Warning.{Warning}
@@ -23,11 +23,11 @@ use Rattle.he_check.specs.declared.slips.Warning.{Warning}
 abbrev pub slip_if : Bool → Slip → List Slip
 slip_if holds slip = if holds then slip ∷ [] else []
 
--- the floor is the Connection Attempt Delay, so that no attempt starts earlier for it
+-- the floor equals the Connection Attempt Delay, so no attempt starts earlier for it
 abbrev pub is_floor_idle : SettingValues → Bool
 is_floor_idle settings = option_map_or (λ floor. floor == settings.attempt) settings.floor false
 
--- there are addresses, and none of them may be tried
+-- there are addresses, but none that may be tried
 abbrev pub are_unusable : List Ip → Bool
 are_unusable [] = false
 are_unusable (ip ∷ ips) = not (list_any is_usable (ip ∷ ips))
@@ -35,7 +35,7 @@ are_unusable (ip ∷ ips) = not (list_any is_usable (ip ∷ ips))
 abbrev pub has_source : List Source → Family → Bool
 has_source sources family = list_any (λ source. is_of family source.ip) sources
 
--- a route inside ::ffff:0:0/96 serves IPv4 destinations alone, any other route IPv6 destinations alone
+-- a route inside ::ffff:0:0/96 serves only IPv4 destinations, any other route only IPv6 destinations
 abbrev pub serves : PrefixBits → Family → Bool
 serves prefix families.V6 = not (is_inside_mapped prefix)
 serves prefix families.V4 = is_inside_mapped prefix
@@ -43,7 +43,7 @@ serves prefix families.V4 = is_inside_mapped prefix
 abbrev pub has_route : List Route → Family → Bool
 has_route routes family = list_any (λ route. serves route.prefix family) routes
 
--- a destination is reached by a route of its family and a source of its family (RFC 6724 sections 4 and 5): there is a
+-- a destination needs a route of its family and a source of its family (RFC 6724 sections 4 and 5): there is a
 -- source, and no route
 abbrev pub lacks_route : HostLists → Family → Bool
 lacks_route host family = has_source host.sources family && not (has_route host.routes family)
@@ -57,15 +57,15 @@ lacks_source host family ips =
 abbrev pub is_longer : Family → ℕ → Ip × Outcome → Bool
 is_longer family ticks told = is_of family told.0 && nat_lt ticks (duration_of told.1)
 
--- the answer comes by the limit, and an attempt of the family takes longer than what is left then: none starts before
--- its answer (RFC 8305 section 3)
+-- the answer comes by the limit, and an attempt of the family takes longer than the time left then; none starts
+-- before its answer (RFC 8305 section 3)
 abbrev pub has_late_outcome : Race → Family → ℕ → Bool
 has_late_outcome race family tick =
     not (nat_lt race.settings.limit tick)
     && list_any (is_longer family (race.settings.limit - tick)) race.outcomes
 
--- a family without an answer; an answer after the limit; one whose addresses are none; one whose addresses the host
--- doesn't reach; an outcome after the limit
+-- a family without an answer; an answer after the limit; one without an address that may be tried; one with addresses
+-- that the host doesn't reach; an outcome after the limit
 abbrev pub answer_slips : Race → Family → Option Reply → List Slip
 answer_slips race family None = NoAnswer family ∷ []
 answer_slips race family (Some reply) =
@@ -74,7 +74,7 @@ answer_slips race family (Some reply) =
     ++ (slip_if (lacks_source race.host family reply.addresses) (NoSourceOf family)
     ++ slip_if (has_late_outcome race family reply.tick) (LateOutcome family)))
 
--- a race without a source stands first; the others in the order of its lines
+-- a race without a source first, then the others in the order of the race's lines
 abbrev pub slips_of : Race → List Slip
 slips_of race =
     slip_if (length race.host.sources == 0) NoSource
@@ -83,22 +83,22 @@ slips_of race =
     ++ (slip_if (lacks_route race.host families.V4) (NoRoute families.V4)
     ++ (answer_slips race families.V6 race.aaaa ++ answer_slips race families.V4 race.a))))
 
--- a warning names the line with which its race begins
+-- a warning has the first line of its race
 abbrev pub warning_at : ℕ → Slip → Warning
 warning_at line slip = record { line = line; slip = slip }
 
 abbrev pub warnings_of : ℕ → Race → List Warning
 warnings_of line race = map (warning_at line) (slips_of race)
 
--- the text is, after so many lines, one after the other a text of each of the races, and these are their warnings
+-- the text, after `lines` lines, consists of a text of each race in order, and these are their warnings
 abbrev pub AreWarned : ℕ → List Race → List ℕ → List Warning → Type 0
 AreWarned lines [] text warnings = (text ≡ []) × (warnings ≡ [])
 AreWarned lines (race ∷ races) text warnings =
     (first : List ℕ) × (more : List ℕ) × (later : List Warning)
-    × (text ≡ first ++ more) × IsRaceText first race × (warnings ≡ warnings_of (lines + 1) race ++ later)
+    × (text ≡ first ++ more) × IsRecordedText first race × (warnings ≡ warnings_of (lines + 1) race ++ later)
     × AreWarned (lines + line_count first) races more later
 
--- the warnings of an input of races, or that it has none
+-- the warnings of an input's races, or the one for an input without races
 abbrev pub HasWarnings : List ℕ → List Warning → Type 0
 HasWarnings input warnings =
     (races : List Race) × (told : List Warning)

@@ -1,5 +1,5 @@
--- Mirrors the code: how far a check has come in an input of which it holds the bytes after the last race that it
--- passed. What a check tells stands in `Checked`, `Slips` and `AllFaults`.
+-- Mirrors the code: the progress of a check in an input, of which it holds the bytes after the last race passed.
+-- `Checked`, `Slips` and `AllFaults` define its report.
 use Rattle.std.specs.Prelude.{ℕ, ◌≡◌, ◌⊎◌, ◌<◌, ◌≤◌, ◌+◌, ◌-◌, ◌*◌, ◌==◌, Bool, true, false, List, [], ◌∷◌, ◌++◌, ◌||◌, length, map, take, drop, codes, if◌then◌else◌, Option, Some, None, IfSome, Result, Ok, Err}
 use Rattle.std.specs.List.{flat_map, slice_get}
 use Rattle.std.specs.Option.{option_or}
@@ -16,7 +16,7 @@ use Rattle.he_inputs.specs.declared.stream_fault.StreamFault.TheVariants as chec
 use Rattle.he_stream.specs.Limits.{read_size}
 use Rattle.he_words.specs.Ranges.{line_end, most_races}
 use Rattle.he_words.specs.declared.fault.TextFault.{TextFault}
-use Rattle.he_check.specs.AllFaults.{AreFaults, AreFaultsBehind, AreSaid, IsLastRace, IsNextRace, alone_text, none_text, said_text, whole_text}
+use Rattle.he_check.specs.AllFaults.{AreFaults, AreFaultsBehind, AreSaid, IsLastPart, IsNextPart, SeeksAfter, alone_text, none_text, said_text, whole_text}
 use Rattle.he_check.specs.Clauses.{is_of_words, line_at, line_meant}
 use Rattle.he_check.specs.Meant.{begins, input_meant}
 use Rattle.he_check.specs.Sentences.{warning_text}
@@ -33,7 +33,7 @@ use Rattle.he_check.specs.declared.slips.Slip.TheVariants.{NoRace}
 use Rattle.he_check.specs.declared.slips.Warning.{Warning}
 use Rattle.he_check.specs.declared.taking.Held.{Held}
 
--- the first fault of every input that begins with the bytes, and goes on as it may
+-- the first fault of every input that consists of these bytes and any that may follow
 abbrev pub IsFirstIn : List ℕ → Ending → TextFault → Type 0
 IsFirstIn bytes ending fault =
     (more : List ℕ) (is_broken : Bool) → MayFollow ending more is_broken
@@ -43,17 +43,27 @@ IsFirstIn bytes ending fault =
 abbrev pub AreWhole : List ℕ → Type 0
 AreWhole lines = (lines ≡ []) ⊎ ((front : List ℕ) × (lines ≡ front ++ line_end ∷ []))
 
--- the first line of the text is `race 1` or `race 2`
-abbrev pub begins_race : List ℕ → Bool
-begins_race text = begins (codes "race 1" ++ 10 ∷ []) text || begins (codes "race 2" ++ 10 ∷ []) text
+-- the first line of the text is `race 1` or `race 2`, or a record line
+abbrev pub begins_part : List ℕ → Bool
+begins_part text =
+    begins (codes "race 1" ++ 10 ∷ []) text || begins (codes "race 2" ++ 10 ∷ []) text
+    || begins (codes "record ") text || begins (codes "record" ++ 10 ∷ []) text
 
--- what was meant by a fault whose line stands in this rest of an input, after so many lines
+-- the record lines passed after a fault on this line of a text, before the search for the next part; none if only the
+-- first fault is asked for
+pub record PassesRecords (is_all : Bool) (text : List ℕ) (line : ℕ) (bytes lines : ℕ) : Type 0 where
+  pub inside : bytes ≤ length text
+  pub lined : lines ≡ line_count (take bytes text)
+  pub seeks : is_all ≡ true → SeeksAfter text line (take bytes text) (drop bytes text)
+  pub none : is_all ≡ false → bytes ≡ 0
+
+-- the likely meaning of a fault on a line of this rest of an input, after `lines` lines
 abbrev pub hint_in : ℕ → List ℕ → TextFault → Option Meant
 hint_in lines rest fault =
     option_or (if fault.line == 1 then input_meant rest else None)
     (if is_of_words fault.kind then line_meant (line_at (fault.line - lines) rest) else None)
 
--- what is said of it alone ends in the clause of that
+-- the report of the fault alone ends in that clause
 abbrev pub EndsIn : Form → ℕ → List ℕ → TextFault → List ℕ → Type 0
 EndsIn form lines rest fault text =
     (said : List ℕ) × (text ≡ alone_text form fault said (hint_in lines rest fault))
@@ -65,25 +75,25 @@ pub record IsClean (front : List ℕ) (reader : RaceReader) (warnings : List War
   pub counted : reader.races ≡ length races
   pub warned : AreWarned 0 races front warnings
 
--- the faults of a text that stands after so many races of its part and so many lines of its input
+-- the faults of a text after `races` races of its part and `lines` lines of its input
 abbrev pub AreFaultsPast : Bool → ℕ → ℕ → List ℕ → List TextFault → Type 0
 AreFaultsPast is_broken races lines text faults =
     (passed : List Race) (front : List ℕ) (start : ℕ) → AreRaceTexts passed front → length passed ≡ races
     → lines ≡ start + line_count front → AreFaultsBehind is_broken start (front ++ text) faults
 
--- the faults of a text that stands after so many lines, from the next race on
+-- the faults of a text after `lines` lines, from the next part on
 abbrev pub AreFaultsAfter : Bool → ℕ → List ℕ → List TextFault → Type 0
 AreFaultsAfter is_broken lines text faults =
-    (IsLastRace text × (faults ≡ []))
-    ⊎ ((at : ℕ) × IsNextRace text at
+    (IsLastPart text × (faults ≡ []))
+    ⊎ ((at : ℕ) × IsNextPart text at
     × AreFaultsBehind is_broken (lines + line_count (take at text)) (drop at text) faults)
 
--- the faults of a text before which the reader stands
+-- the faults of a text that begins at the reader's position
 abbrev pub AreLeft : Bool → RaceReader → Bool → List ℕ → List TextFault → Type 0
 AreLeft true reader is_broken text faults = AreFaultsAfter is_broken reader.lines text faults
 AreLeft false reader is_broken text faults = AreFaultsPast is_broken reader.races reader.lines text faults
 
--- the faults so far are told, and those of what is left of the input are the others
+-- the faults so far are reported, and the rest of the input has the others
 pub record HasTold {A : Type 0} (ending : Ending) (input left : List ℕ) (counted : Counted A) : Type 0 where
   pub faults : List TextFault
   pub first : counted.told.first ≡ slice_get faults 0
@@ -94,7 +104,7 @@ pub record HasTold {A : Type 0} (ending : Ending) (input left : List ℕ) (count
   pub said : (more : List ℕ) (is_broken : Bool) → MayFollow ending more is_broken
       → AreSaid counted.told.form (input ++ more) (take MOST_TOLD faults) counted.told.text.items
 
--- how far a check has come in an input of these bytes, which may go on, after others that are there no more
+-- the position of a check in an input of these bytes, which may go on; the bytes `before` are no longer in memory
 pub record IsAt {A : Type 0} (ending : Ending) (before bytes : List ℕ) (counted : Counted A) : Type 0 where
   pub lined : counted.reader.lines ≡ line_count (before ++ take counted.reader.end bytes)
   pub whole : counted.is_seeking ≡ false → AreWhole (before ++ take counted.reader.end bytes)
@@ -105,7 +115,7 @@ pub record IsAt {A : Type 0} (ending : Ending) (before bytes : List ℕ) (counte
       → IfSome counted.told.first (λ fault. counted.reader.lines + 1 ≤ fault.line)
   pub told : counted.told.is_all ≡ true → HasTold ending (before ++ bytes) (drop counted.reader.end bytes) counted
 
--- the numbers of a check: each fault has a line of its own, and the next race is sought after a fault
+-- the bounds of a check: each fault has a line of its own, and the search for the next race follows a fault
 pub record IsSound {A : Type 0} (counted : Counted A) : Type 0 where
   pub few : counted.reader.races ≤ most_races
   pub count : counted.told.is_all ≡ true
@@ -114,28 +124,28 @@ pub record IsSound {A : Type 0} (counted : Counted A) : Type 0 where
   pub reads : counted.told.first ≡ None → counted.is_seeking ≡ false
   pub seeks : counted.is_seeking ≡ true → counted.told.is_all ≡ true
 
--- it may go on: where the first fault alone is asked for, none is found
+-- the check may continue: if only the first fault is asked for, none is found
 abbrev pub IsOpen : {A : Type 0} → Counted A → Type 0
 IsOpen counted = counted.told.is_all ≡ false → counted.told.first ≡ None
 
--- where all faults are told, the first bytes tell what the input is
+-- if all faults are reported, there are enough first bytes to identify the input
 abbrev pub IsEnough : {A : Type 0} → Ending → List ℕ → Counted A → Type 0
 IsEnough ending bytes counted = counted.told.is_all ≡ true → ending ≡ endings.Open → FIRST_BYTES ≤ length bytes
 
--- what a check needs to go on in the bytes
+-- the conditions to continue in the bytes
 pub record MayGo {A : Type 0} (ending : Ending) (bytes : List ℕ) (counted : Counted A) : Type 0 where
   pub within : IsWithin bytes counted.reader
   pub sound : IsSound counted
   pub enough : IsEnough ending bytes counted
 
--- it went on in the bytes
+-- the check continued in the bytes
 pub record HasGone {A : Type 0} (ending : Ending) (bytes : List ℕ) (old new : Counted A) : Type 0 where
   pub may : MayGo ending bytes new
   pub all : new.told.is_all ≡ old.told.is_all
   pub form : new.told.form ≡ old.told.form
   pub on : (before : List ℕ) → IsAt ending before bytes old → IsAt ending before bytes new
 
--- it goes no further in the bytes: nothing is wrong with what is left, where nothing follows
+-- the check can't continue in the bytes: if nothing follows them, the rest has no fault
 pub record HasStopped {A : Type 0} (ending : Ending) (bytes : List ℕ) (counted : Counted A) : Type 0 where
   pub ends : counted.told.first ≡ None
       → EndsAt ending (drop counted.reader.end bytes)
@@ -143,7 +153,7 @@ pub record HasStopped {A : Type 0} (ending : Ending) (bytes : List ℕ) (counted
   pub none : counted.told.is_all ≡ true → (is_broken : Bool) → ending ≡ ending_of is_broken
       → AreLeft counted.is_seeking counted.reader is_broken (drop counted.reader.end bytes) []
 
--- how much is left to do
+-- the number of steps left, at most
 abbrev pub steps_left : {A : Type 0} → List ℕ → Counted A → ℕ
 steps_left bytes counted = 2 * (length bytes - counted.reader.end) + (if counted.is_seeking then 0 else 1)
 
@@ -155,7 +165,7 @@ pub record HasStepped {A : Type 0} (ending : Ending) (bytes : List ℕ) (old new
   pub less : goes_on ≡ true → steps_left bytes new < steps_left bytes old
   pub stopped : goes_on ≡ false → HasStopped ending bytes new
 
--- nothing is counted yet
+-- a check at its start
 pub record IsNew {A : Type 0} (is_all : Bool) (form : Form) (counted : Counted A) : Type 0 where
   pub reader : counted.reader ≡ record { end = 0; races = 0; lines = 0 }
   pub reads : counted.is_seeking ≡ false
@@ -166,7 +176,7 @@ pub record IsNew {A : Type 0} (is_all : Bool) (form : Form) (counted : Counted A
   pub warned : counted.warnings.items ≡ []
   pub said : counted.told.text.items ≡ []
 
--- one fault more is counted, and said if it is one of the first
+-- one more fault is counted, and reported if it is one of the first
 pub record AddsFault {A : Type 0} (part : RestOfInput) (fault : TextFault) (old new : Told A) : Type 0 where
   pub all : new.is_all ≡ old.is_all
   pub form : new.form ≡ old.form
@@ -178,19 +188,19 @@ pub record AddsFault {A : Type 0} (part : RestOfInput) (fault : TextFault) (old 
       ≡ old.text.items ++ said_text old.form fault said (hint_in part.lines part.text.now fault)))
       ⊎ ((MOST_TOLD ≤ old.count) × (new.text.items ≡ old.text.items))
 
--- what is wrong with an input of which all was looked at
+-- the fault of an input that is read to its end or to where it broke off
 abbrev pub fault_found : Option TextFault → Bool → Option StreamFault
 fault_found (Some fault) is_broken = Some (checks.Text fault)
 fault_found None true = Some checks.Read
 fault_found None false = None
 
--- the races and lines, and the warnings
+-- the numbers of races and lines, and the warnings
 abbrev pub IsCounted : {A : Type 0} → Counted A → Checked → List Warning → Type 0
 IsCounted counted checked warnings =
     (checked ≡ record { races = counted.reader.races; lines = counted.reader.lines })
     × (warnings ≡ counted.warnings.items ++ map (warning_at 1) (slip_if (counted.reader.races == 0) NoRace))
 
--- what is said of the faults, all or the first one
+-- the report of the faults, of all or of the first one
 pub record IsSaidOf {A : Type 0} (bytes : List ℕ) (is_broken : Bool) (counted : Counted A) (text : List ℕ) : Type 0 where
   pub all : counted.told.is_all ≡ true → text
       ≡ whole_text counted.told.form counted.told.text.items (counted.told.count - MOST_TOLD) is_broken
@@ -199,35 +209,35 @@ pub record IsSaidOf {A : Type 0} (bytes : List ℕ) (is_broken : Bool) (counted 
       → IfSome counted.told.first
       (λ fault. EndsIn counted.told.form counted.reader.lines (drop counted.reader.end bytes) fault text)
 
--- a check ends with this fault, and what is said of it is told; or memory was refused
+-- a check ends with this fault, and its report is appended; or an allocation failed
 abbrev pub EndsWith : {A : Type 0} → List ℕ → Bool → Counted A → List ℕ → List ℕ → StreamFault → Type 0
 EndsWith bytes is_broken counted old new fault =
     ((fault ≡ checks.Memory) × (new ≡ old))
     ⊎ ((fault_found counted.told.first is_broken ≡ Some fault)
     × (text : List ℕ) × IsSaidOf bytes is_broken counted text × (new ≡ old ++ text))
 
--- what is held of an input begins where the reader stands
+-- the held bytes of an input begin at the reader's position
 pub record IsHeld {A : Type 0} (held : Held A) : Type 0 where
   pub tried : held.tried ≤ length held.input.bytes
   pub front : held.counted.reader.end ≡ 0
   pub sound : IsSound held.counted
 
--- the bytes before the reader are there no more
+-- the bytes before the reader's position were dropped
 abbrev pub at_front : {A : Type 0} → Counted A → Counted A
 at_front counted = record counted { reader = record counted.reader { end = 0 } }
 
--- the bytes of those that are held which were looked at
+-- the held bytes that were checked
 abbrev pub tried_bytes : {A : Type 0} → Held A → List ℕ
 tried_bytes held = take held.tried held.input.bytes
 
--- a first part of the bytes was let go, and the others are held
+-- a first part of the bytes was dropped, and the others are held
 abbrev pub HoldsOn : {A : Type 0} → Held A → Held A → Type 0
 HoldsOn old new =
     (before : List ℕ) → IsAt endings.Open before (tried_bytes old) old.counted
     → (front : List ℕ) × (before ++ old.input.bytes ≡ front ++ new.input.bytes)
     × IsAt endings.Open front (tried_bytes new) new.counted
 
--- how far a check has come in an input of which this was taken: what was let go, and what is held
+-- the position of a check in an input of which these bytes were taken: the bytes dropped, and the bytes held
 pub record IsTaken {A : Type 0} (is_all : Bool) (form : Form) (Took : List ℕ → Type 0) (held : Held A) : Type 0 where
   pub holds : IsHeld held
   pub all : held.counted.told.is_all ≡ is_all
@@ -237,14 +247,15 @@ pub record IsTaken {A : Type 0} (is_all : Bool) (form : Form) (Took : List ℕ �
   pub took : Took (before ++ held.input.bytes)
   pub size : length before + length held.input.bytes ≤ read_size * held.input.steps
 
--- a check of an input ends with this fault, before anything is put into an output
+-- a check of an input ends with this fault, before anything is written to an output
 abbrev pub TakesWrong : Bool → Form → (List ℕ → Bool → Type 0) → (List ℕ → Type 0) → List ℕ → List ℕ → StreamFault
     → Type 0
 TakesWrong is_all form Given Taken old new fault =
     Checks Given Taken (λ text. ⊥) (λ text. ⊥) (Unit {0}) (Err fault)
     × Explains is_all form Given Taken old new (Err fault)
 
--- the warnings of a right input are told, and what it has is written, or a first part of that; or nothing was done
+-- the warnings of an input without a fault are appended, and its numbers are written, or a first part of them; or
+-- nothing was done
 abbrev pub TellsRight : (List ℕ → Type 0) → (List ℕ → Type 0) → Type 0 → Checked → List Warning → List ℕ → List ℕ
     → Result (Unit {0}) StreamFault → Type 0
 TellsRight Whole Part Kept checked warnings old new (Ok done) =
@@ -254,7 +265,7 @@ TellsRight Whole Part Kept checked warnings old new (Err checks.Write) =
 TellsRight Whole Part Kept checked warnings old new (Err checks.Memory) = Kept × (new ≡ old)
 TellsRight Whole Part Kept checked warnings old new (Err fault) = ⊥
 
--- a text was put, or a first part of it until that failed; or nothing, for want of memory
+-- a text was written, or a first part of it before an error; or nothing, since an allocation failed
 abbrev pub Puts : (List ℕ → Type 0) → (List ℕ → Type 0) → Type 0 → List ℕ → Result (Unit {0}) StreamFault → Type 0
 Puts Whole Part Kept text (Ok done) = Whole text
 Puts Whole Part Kept text (Err checks.Write) = Part text

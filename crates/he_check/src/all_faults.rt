@@ -1,4 +1,4 @@
-// What is told of the faults of an input.
+// The report of the faults of an input.
 
 ghost use Rattle.std.specs.Prelude.{◌≡◌, ◌≤◌, ◌+◌, ◌-◌, ◌++◌, ◌^◌, [], ℕ, List, None, IfOk, OnOk};
 ghost use Rattle.he_check.specs.AllFaults.{end_text, more_text, none_text, said_text, whole_text};
@@ -19,19 +19,19 @@ use std::alloc::Allocator;
 // The faults of an input.
 #[derive(Drop)]
 pub(crate) struct Told<A: Allocator> {
-    // Whether all of them are told, or none is, and how.
+    // Whether all faults are reported or the first one alone, and in which form.
     pub(crate) is_all: bool,
     pub(crate) form: Form,
-    // The first one.
+    // The first fault.
     pub(crate) first: Option<TextFault>,
-    // How many were found.
+    // The number of faults found.
     pub(crate) count: u64,
-    // What is said of the first ones, as many as are told.
+    // The report of the first faults; empty if the first one alone is reported.
     pub(crate) text: Vec<u8, A>,
 }
 
 impl<A: Allocator + Copy> Told<A> {
-    // None yet.
+    // No faults yet.
     pub(crate) fn new(alloc: A, is_all: bool, form: Form) -> Told<A>
         ensures all { result.is_all ≡ is_all }
         ensures form { result.form ≡ form }
@@ -46,7 +46,8 @@ impl<A: Allocator + Copy> Told<A> {
         }
     }
 
-    // Counts a fault, and says what it is if it is one of those that are told. Its race begins with this part.
+    // Counts a fault, and appends its report if it is one of those that are reported. The part begins with the
+    // fault's race.
     pub(crate) fn add(
         &mut self,
         alloc: A,
@@ -64,7 +65,7 @@ impl<A: Allocator + Copy> Told<A> {
         Ok(())
     }
 
-    // What is said of all of them: of the first ones, how many more there are, and that the input broke off.
+    // The report of all faults: the first ones, the number of the others, and whether the input broke off.
     pub(crate) fn whole_text(&self, alloc: A, is_broken: bool) -> Result<Vec<u8, A>, Memory>
         ensures { IfOk result (λ text. text.items
             ≡ whole_text self.now.form self.now.text.items (self.now.count - MOST_TOLD) is_broken) }
@@ -77,7 +78,7 @@ impl<A: Allocator + Copy> Told<A> {
     }
 }
 
-// The same in lines, where those of the first ones are these.
+// The report as lines, after these lines of the first faults.
 fn whole_lines<A: Allocator + Copy>(
     alloc: A,
     lines: &[u8],
@@ -93,7 +94,7 @@ fn whole_lines<A: Allocator + Copy>(
     Ok(text)
 }
 
-// Appends how many more faults there are, where there are any.
+// Appends the number of further faults, if there are any.
 #[tactic(auto, unfolding(crate::specs::AllFaults::more_text))]
 fn append_more<A: Allocator + Copy>(more: u64, text: &mut Vec<u8, A>) -> Result<(), Memory>
     ensures { OnOk result (text.new.items ≡ text.old.items ++ more_text more) }
@@ -112,7 +113,7 @@ fn append_more<A: Allocator + Copy>(more: u64, text: &mut Vec<u8, A>) -> Result<
     Ok(())
 }
 
-// Appends that the input broke off, where it did.
+// Appends that the input broke off, if it did.
 fn append_end<A: Allocator + Copy>(is_broken: bool, text: &mut Vec<u8, A>) -> Result<(), Memory>
     ensures { OnOk result (text.new.items ≡ text.old.items ++ end_text is_broken) }
 {
@@ -122,7 +123,7 @@ fn append_end<A: Allocator + Copy>(is_broken: bool, text: &mut Vec<u8, A>) -> Re
     Ok(())
 }
 
-// Appends the line of a fault and what is said of it. Its race begins with this part.
+// Appends the line number, kind and explanation of a fault. The part begins with the fault's race.
 fn append_fault<A: Allocator + Copy>(
     alloc: A,
     form: Form,
@@ -139,7 +140,7 @@ fn append_fault<A: Allocator + Copy>(
     }
 }
 
-// As an object of JSON.
+// Appends the report of a fault as a JSON object.
 fn append_object<A: Allocator + Copy>(
     alloc: A,
     part: RestOfInput<'_>,
@@ -155,7 +156,7 @@ fn append_object<A: Allocator + Copy>(
     write_entry(fault.line, &kind, &said, text)
 }
 
-// What is said of the first fault, where no other is told. Its race begins with this part.
+// The report of the first fault, if no other is reported. The part begins with the fault's race.
 pub(crate) fn alone<A: Allocator + Copy>(
     alloc: A,
     form: Form,
@@ -174,7 +175,7 @@ pub(crate) fn alone<A: Allocator + Copy>(
     }
 }
 
-// What is said of an input that broke off before a fault was found.
+// The report of an input that broke off before a fault was found.
 pub(crate) fn none_told<A: Allocator + Copy>(alloc: A, form: Form) -> Result<Vec<u8, A>, Memory>
     ensures { IfOk result (λ text. text.items ≡ none_text form) }
 {
@@ -184,7 +185,7 @@ pub(crate) fn none_told<A: Allocator + Copy>(alloc: A, form: Form) -> Result<Vec
     }
 }
 
-// In lines.
+// Appends the report of a fault as lines.
 fn append_lines<A: Allocator + Copy>(
     alloc: A,
     part: RestOfInput<'_>,

@@ -1,4 +1,4 @@
-//! The check of an input, and what is written of it to an output.
+//! Checking an input, and writing the report to an output.
 ghost use Rattle.std.specs.Prelude.{◌≡◌, ◌++◌, option_map, IfOk, OnOk};
 ghost use Rattle.std.specs.Io.{StartsWith};
 ghost use Rattle.he_stream.specs.Input.{Gives, GivesSoFar};
@@ -19,34 +19,34 @@ use he_inputs::StreamFault;
 use he_stream::{InputStream, OutputStream, write_whole};
 use std::alloc::Allocator;
 
-/// Reads an input of timelines and checks it: where nothing is wrong it writes how many races and lines the input has,
-/// as `3 races, 27 lines`, and flushes the output. It reads the input to its end, or up to its first fault.
+/// Reads an input of timelines and checks it, to its end or up to its first fault. If there is no fault, it writes
+/// the number of races and lines of the input, as `3 races, 27 lines`, and flushes the output.
 ///
-/// With `is_all` it reads the input to its end, goes on after a faulty race, and reports the first fault of each part
-/// of the input. A part begins with the input, or with the next line `race 1` or `race 2` after the first line of a
-/// faulty race: where `end` was forgotten, that is the faulty line itself. Each part is checked as an input of its
-/// own, and so may have 4,096 races, but its lines are counted over the whole input. It explains the first
-/// [`MOST_TOLD`](crate::limits::MOST_TOLD) faults, and says how many more there are.
+/// With `is_all` it reads the input to its end, continues after a faulty race, and reports the first fault of each
+/// part of the input. The first part begins with the input; each further part begins with the next line `race 1` or
+/// `race 2` or record line after the faulty line, or after the first line of the faulty race if that comes before it:
+/// if `end` is missing, this is the faulty line itself. Each part is checked as an input of its own, and so may have
+/// 4,096 races, but lines are counted over the whole input. The report explains the first
+/// [`MOST_TOLD`](crate::limits::MOST_TOLD) faults, and gives the number of the others.
 ///
 /// # Errors
 ///
 /// - `Text` with the first fault of the text.
-/// - `Read` where a step of the input failed before a fault of the text was found, or the bound of 4,294,967,296 steps
+/// - `Read` if a step of the input failed before a fault of the text was found, or the limit of 4,294,967,296 steps
 ///   was reached.
-/// - `Write` where a step of the output failed or took no byte, the flush failed, or the bound of 4,294,967,296 steps
+/// - `Write` if a step of the output failed or took no byte, the flush failed, or the limit of 4,294,967,296 steps
 ///   was reached.
-/// - `Memory` where an allocation was refused.
+/// - `Memory` if an allocation failed.
 ///
-/// After `Text`, `Read` and `Memory` nothing was written to the output, after `Write` a first part of the text. What
-/// stands after what `explanation` held then:
+/// After `Text`, `Read` and `Memory` nothing was written to the output, after `Write` a first part of the text. The
+/// check appends to `explanation`:
 ///
-/// - Where nothing is wrong, after `Write` too, a line for each [`Warning`](crate::Warning), as `he: line 1: warning:
+/// - If there is no fault, also after `Write`: a line for each [`Warning`](crate::Warning), as `he: line 1: warning:
 ///   ..`.
-/// - After `Text` what [`explain_fault`] says of the fault; with `is_all`, and then after `Read` too, the first
-///   faults, this one before the others: each a line as `he: line 3: word`, and what [`explain_fault`] says of it;
-///   then the line `he: 25 more faults` where there are more; last, where the input broke off, the line `he: cannot
-///   read the input`.
-/// - Else nothing.
+/// - After `Text`: the explanation of the fault (see [`explain_fault`]). With `is_all`, and then after `Read` too:
+///   the first faults, in order, each as a line `he: line 3: word` and its explanation; then the line `he: 25 more
+///   faults` if there are more; last, if the input broke off, the line `he: cannot read the input`.
+/// - Otherwise nothing.
 pub fn check<A: Allocator + Copy, I: InputStream, O: OutputStream>(
     alloc: A,
     is_all: bool,
@@ -66,10 +66,10 @@ pub fn check<A: Allocator + Copy, I: InputStream, O: OutputStream>(
     tell_right(alloc, checked, &warnings, output, explanation)
 }
 
-/// The same check, of which all is written to the output as one JSON object and a line end: the name of the input's
-/// file, where it has one, and its races, its lines and its warnings, or its faults, each with its line, its kind and
-/// the sentence of [`check`]. With `is_all` it also has how many more faults there are, where there are more, and that
-/// the input broke off, where it did.
+/// Checks an input as [`check`] does, and writes the report to the output as one JSON object and a line end. The
+/// object has the name of the input's file (null if it has none), and then the number of races and lines and the
+/// warnings, or the faults, each with its line, its kind and the sentence of [`check`]. With `is_all` it also has the
+/// number of further faults, if there are any, and whether the input broke off, if it did.
 ///
 /// ```text
 /// {"file":"office.timeline","races":3,"lines":27,"warnings":[]}
@@ -79,8 +79,8 @@ pub fn check<A: Allocator + Copy, I: InputStream, O: OutputStream>(
 ///
 /// # Errors
 ///
-/// As [`check`]. After `Text` and `Read` the object was written, after `Write` a first part of it, after `Memory`
-/// nothing.
+/// Those of [`check`]. After `Text` and `Read` the object was written, after `Write` a first part of it, after
+/// `Memory` nothing.
 pub fn check_json<A: Allocator + Copy, I: InputStream, O: OutputStream>(
     alloc: A,
     is_all: bool,
@@ -122,7 +122,7 @@ fn put_object<A: Allocator + Copy, O: OutputStream>(
     Ok(())
 }
 
-// Tells the warnings of an input with which nothing is wrong, and writes what it has.
+// Appends the warnings of an input without a fault, and writes its numbers of races and lines.
 fn tell_right<A: Allocator + Copy, O: OutputStream>(
     alloc: A,
     checked: Checked,

@@ -1,23 +1,24 @@
-// What is said after the sentence of a fault: what was likely meant.
+// The clause after the sentence of a fault: the likely meaning.
 
 ghost use Rattle.std.specs.Prelude.{◌≡◌, ◌++◌, OnOk};
 ghost use Rattle.std.specs.List.{slice_get};
 ghost use Rattle.std.specs.Option.{option_copied};
 ghost use Rattle.he_reading.specs.Parts.{lines_of};
-ghost use Rattle.he_check.specs.Clauses.{is_of_words, line_at, line_meant};
+ghost use Rattle.he_check.specs.Clauses.{is_of_words, line_at, line_meant, words_meant};
 ghost use Rattle.he_check.specs.Sentences.{meaning_of, meant_text};
 ghost use Rattle.he_check.specs.Steps.{hint_in};
 
 use crate::meant::{Meant, input_meant, meant_of};
 use crate::parts::RestOfInput;
+use he_addr::Memory;
 use he_words::{LINE_END, TOKEN_END, TextFault, TextKind};
-use std::alloc::{AllocError, Allocator};
+use std::alloc::Allocator;
 
-// Appends what was likely meant.
+// Appends the clause.
 pub(crate) fn append_clause<A: Allocator>(
     meant: Option<Meant>,
     text: &mut Vec<u8, A>,
-) -> Result<(), AllocError>
+) -> Result<(), Memory>
     ensures { OnOk result (text.new.items ≡ text.old.items ++ meant_text meant) }
 {
     if let Some(meant) = meant {
@@ -27,8 +28,8 @@ pub(crate) fn append_clause<A: Allocator>(
     Ok(())
 }
 
-// What was likely meant where the input has this fault: by its first bytes, or by the words of the faulty line. The
-// line stands in the part, which is all of the input where that is the first line.
+// The likely meaning of a fault, by the first bytes of the input or by the words of the faulty line. The part has
+// this line, and if this is the input's first line, the part is the whole input.
 pub(crate) fn hint_in(part: RestOfInput<'_>, fault: TextFault) -> Option<Meant>
     ensures { result ≡ hint_in part.entry.lines part.entry.text.now fault }
 {
@@ -44,7 +45,7 @@ pub(crate) fn hint_in(part: RestOfInput<'_>, fault: TextFault) -> Option<Meant>
     }
 }
 
-// Whether a word that no text has makes such a fault.
+// Whether a word that is in no text may cause this kind of fault.
 fn is_of_words(kind: TextKind) -> bool
     ensures { result ≡ is_of_words kind }
 {
@@ -58,16 +59,26 @@ fn is_of_words(kind: TextKind) -> bool
     }
 }
 
-// The first of the line's words of which that can be told.
+// The likely meaning of the first word of the line that has one. The host of a record line has none.
+#[tactic(auto, unfolding(crate::specs::Clauses::line_meant))]
 fn line_meant(line: &[u8]) -> Option<Meant>
     ensures { result ≡ line_meant line.now }
+{
+    if line.starts_with(b"record ") {
+        return None;
+    }
+    words_meant(line)
+}
+
+fn words_meant(line: &[u8]) -> Option<Meant>
+    ensures { result ≡ words_meant line.now }
 {
     line.split(|byte| *byte == TOKEN_END)
         .filter_map(|word| meant_of(word))
         .nth(0)
 }
 
-// The line with this number, counted from 1; empty where there is none.
+// The line with this number, counted from 1; empty if there is none.
 fn line_at(number: u64, input: &[u8]) -> &[u8]
     ensures { result.now ≡ line_at number input.now }
 {
@@ -80,7 +91,7 @@ fn nth_line(input: &[u8], at: usize) -> Option<&[u8]>
     input.split(|byte| *byte == LINE_END).nth(at)
 }
 
-// What to do.
+// The text of the clause.
 fn meaning(meant: Meant) -> &'static [u8]
     ensures { result.now ≡ meaning_of meant }
 {

@@ -1,4 +1,4 @@
-// How far a check of an input has come: race by race, and after a faulty one from the next race on.
+// The progress of a check: race by race, and after a faulty race from the next part on.
 ghost use Rattle.std.specs.Prelude.{◌≡◌, ◌++◌, ◌^◌, ◌≤◌, ◌+◌, length, false, true, IfOk, IsSome, OnOk};
 ghost use Rattle.he_inputs.specs.RaceReading.{IsWithin};
 ghost use Rattle.he_inputs.specs.declared.race_reader.Ending.{Ending};
@@ -8,30 +8,31 @@ ghost use Rattle.he_check.specs.Steps.{HasGone, HasStepped, HasStopped, IsCounte
 use crate::all_faults::Told;
 use crate::form::Form;
 use crate::input::Checked;
-use crate::parts::{RACE_LINE, RestOfInput, begins_race};
+use crate::parts::{PART_START, RestOfInput, begins_part, records_before};
 use crate::slips::{Slip, Warning, add_if, add_warnings};
 use he_addr::Memory;
-use he_inputs::laws::first_faults;
+use he_inputs::laws::first_recorded_faults;
 use he_inputs::{Ending, InputFault, RaceReader, RaceReaderFault, StreamFault};
 use he_timeline::Timeline;
 use he_words::LINE_END;
 use memchr::memchr;
-use std::alloc::{AllocError, Allocator};
+use std::alloc::Allocator;
 use std::mem::drop;
 
-// How far a check has come in the bytes that are there of an input, and what it found before that.
+// The position of a check in the bytes of an input that are in memory, and its findings so far.
 #[derive(Drop)]
 pub(crate) struct Counted<A: Allocator> {
     pub(crate) reader: RaceReader,
-    // Whether the next race is sought: the reader stands after the beginning of a faulty one.
+    // Whether the next part is searched for. The reader is then after the first line or the record lines of a faulty
+    // race.
     pub(crate) is_seeking: bool,
-    // Those of the races before the first faulty one.
+    // The warnings of the races before the first faulty one.
     pub(crate) warnings: Vec<Warning, A>,
     pub(crate) told: Told<A>,
 }
 
 impl<A: Allocator + Copy> Counted<A> {
-    // At the front of an input, of whose faults all are asked for, or the first one alone, in this form.
+    // A check at the start of an input, for all faults or the first one alone, with the report in this form.
     pub(crate) fn new(alloc: A, is_all: bool, form: Form) -> Counted<A>
         ensures { IsNew is_all form result }
     {
@@ -43,8 +44,7 @@ impl<A: Allocator + Copy> Counted<A> {
         }
     }
 
-    // Goes on in the bytes, up to where it depends on what follows them, or, where the first fault alone is asked for,
-    // up to that.
+    // Continues in the bytes, until the next bytes decide or, if only the first fault is asked for, up to this fault.
     pub(crate) fn go_on(&mut self, alloc: A, bytes: &[u8], ending: Ending) -> Result<(), Memory>
         requires may { MayGo ending bytes.now self.old }
         requires more { IsOpen self.old }
@@ -58,8 +58,8 @@ impl<A: Allocator + Copy> Counted<A> {
         }
     }
 
-    // Passes the next race or finds its fault; or passes the rest of a line, where the next race is sought. Whether
-    // there is more to do.
+    // Passes the next race or finds its fault; while it searches for the next part, passes the rest of a line.
+    // Returns whether there is more to do.
     fn step(&mut self, alloc: A, bytes: &[u8], ending: Ending) -> Result<bool, Memory>
         requires may { MayGo ending bytes.now self.old }
         requires more { IsOpen self.old }
@@ -78,7 +78,7 @@ impl<A: Allocator + Copy> Counted<A> {
         requires reads { self.old.is_seeking ≡ false }
         ensures { IfOk result (HasStepped ending bytes.now self.old self.new) }
     {
-        first_faults();
+        first_recorded_faults();
         let line = self.reader.lines + 1;
         match self.reader.next(alloc, bytes, ending) {
             Ok(Some(race)) => {
@@ -95,6 +95,9 @@ impl<A: Allocator + Copy> Counted<A> {
                     lines: self.reader.lines,
                 };
                 self.told.add(alloc, part, fault)?;
+                let passed = records_before(self.told.is_all, part, fault.line);
+                self.reader.end += passed.bytes;
+                self.reader.lines += passed.lines;
                 self.is_seeking = self.told.is_all;
                 Ok(self.is_seeking)
             }
@@ -102,7 +105,7 @@ impl<A: Allocator + Copy> Counted<A> {
         }
     }
 
-    // Passes the rest of a line, if it ends in the bytes and enough stands after it to tell whether a race begins.
+    // Passes the rest of a line, if it ends in the bytes and the bytes after it decide whether a part begins there.
     fn seek(&mut self, bytes: &[u8]) -> bool
         requires within { IsWithin bytes.now self.old.reader }
         requires seeks { self.old.is_seeking ≡ true }
@@ -116,20 +119,20 @@ impl<A: Allocator + Copy> Counted<A> {
             return false;
         };
         let next = &rest[at + 1..];
-        if next.len() < RACE_LINE {
+        if next.len() < PART_START {
             self.reader.end += at;
             return false;
         }
         self.reader.end += at + 1;
         self.reader.lines += 1;
-        if begins_race(next) {
+        if begins_part(next) {
             self.reader.races = 0;
             self.is_seeking = false;
         }
         true
     }
 
-    // Whether no more is asked for: the first fault alone, and it is found.
+    // Whether the check is complete: only the first fault is asked for, and it is found.
     pub(crate) fn is_done(&self) -> bool
         ensures more { result ≡ false → IsOpen self.now }
         ensures done { result ≡ true → (self.now.told.is_all ≡ false) × IsSome self.now.told.first }
@@ -137,7 +140,7 @@ impl<A: Allocator + Copy> Counted<A> {
         !self.told.is_all && self.told.first.is_some()
     }
 
-    // What is wrong with the input, of which all was looked at: it broke off there or not.
+    // The fault of the input, which is read to its end or to where it broke off.
     pub(crate) fn fault(&self, is_broken: bool) -> Option<StreamFault>
         ensures { result ≡ fault_found self.now.told.first is_broken }
     {
@@ -148,8 +151,8 @@ impl<A: Allocator + Copy> Counted<A> {
         }
     }
 
-    // The races and lines of an input with which nothing is wrong, and its warnings.
-    pub(crate) fn outcome(self) -> Result<(Checked, Vec<Warning, A>), AllocError>
+    // The number of races and lines of an input without a fault, and its warnings.
+    pub(crate) fn outcome(self) -> Result<(Checked, Vec<Warning, A>), Memory>
         ensures { IfOk result (λ found. IsCounted self found.0 found.1.items) }
     {
         let reader = self.reader;
@@ -163,13 +166,13 @@ impl<A: Allocator + Copy> Counted<A> {
     }
 }
 
-// Appends the warnings of a race that begins with this line, where no race before it has a fault.
+// Appends the warnings of a race that begins on this line, unless a race before it has a fault.
 fn warn<A: Allocator, B: Allocator>(
     has_fault: bool,
     race: &Timeline<B>,
     line: u64,
     warnings: &mut Vec<Warning, A>,
-) -> Result<(), AllocError>
+) -> Result<(), Memory>
     ensures { OnOk result (has_fault ≡ false → warnings.new.items ≡ warnings.old.items ++ warnings_of line race.now) }
 {
     if has_fault {

@@ -1,4 +1,4 @@
-//! What is said of a fault: the line, the mark below it, and what was expected there.
+//! The explanation of a fault: the line, a mark below the wrong part, and a sentence with the form expected.
 ghost use Rattle.std.specs.Prelude.{◌≡◌, ◌++◌, ℕ, List, IfOk, OnErr, OnOk};
 ghost use Rattle.std.specs.Io.{StartsWith};
 ghost use Rattle.he_check.specs.Clauses.{EndsInClause};
@@ -13,25 +13,26 @@ use crate::parts::RestOfInput;
 use crate::place::find_line;
 use crate::sentence::Sentence;
 use crate::showing::show_line;
+use he_addr::Memory;
 use he_words::TextFault;
-use std::alloc::{AllocError, Allocator};
+use std::alloc::Allocator;
 
-/// Appends what is said of a fault of the text `input`: its line, printed after two spaces with a mark `^` below the
-/// part that is wrong, and a sentence of what was expected there, each with a line end. Where a word of the line, or
-/// the first bytes of the input, show what was meant (a comment, a host name, a compressed file), the sentence ends in
-/// a clause of it. Of a long line what stands around the mark is shown, with `..` for the rest. Tab, CR, `\` and bytes
-/// that cannot be printed are shown as `\t`, `\r`, `\\` and `\xNN`. An empty line is not shown. Of a fault that is not
-/// the first one of the text, what is said may be wrong.
+/// Appends the explanation of a fault of the text `input`: the line, indented by two spaces, a mark `^` below the
+/// part that is wrong, and a sentence with the form expected, each with a line end. If a word of the line, or the
+/// first bytes of the input, show the likely meaning (a comment, a host name, a compressed file), the sentence ends
+/// in a clause with it. Of a long line the part around the mark is printed, with `..` for the rest. Tab, CR, `\` and
+/// unprintable bytes are printed as `\t`, `\r`, `\\` and `\xNN`. An empty line is not printed. For a fault that is
+/// not the first one of the text, the explanation may be wrong.
 ///
 /// # Errors
 ///
-/// `AllocError` where an allocation was refused; the vector is then as it was.
+/// `Memory` if an allocation failed; the vector is unchanged.
 pub fn explain_fault<A: Allocator + Copy>(
     alloc: A,
     input: &[u8],
     fault: TextFault,
     explanation: &mut Vec<u8, A>,
-) -> Result<(), AllocError>
+) -> Result<(), Memory>
     ensures ok { OnOk result (StartsWith explanation.new.items explanation.old.items) }
     ensures clause { OnOk result (EndsInClause input.now fault explanation.old.items explanation.new.items) }
     ensures err { OnErr result (explanation.new.items ≡ explanation.old.items) }
@@ -44,13 +45,13 @@ pub fn explain_fault<A: Allocator + Copy>(
     explanation.extend_from_slice(said.as_slice())
 }
 
-// What is said of a fault. A race begins with the part, before the faulty line or on it, and the lines between them
+// The explanation of a fault. The part begins with a race, the faulty line is in the part, and the lines before it
 // are right.
 pub(crate) fn explanation_of<A: Allocator + Copy>(
     alloc: A,
     part: RestOfInput<'_>,
     fault: TextFault,
-) -> Result<Vec<u8, A>, AllocError>
+) -> Result<Vec<u8, A>, Memory>
     ensures { IfOk result (λ text. EndsIn Lines part.entry.lines part.entry.text.now fault text.items) }
 {
     let place = find_line(part, fault.line);
@@ -62,12 +63,12 @@ pub(crate) fn explanation_of<A: Allocator + Copy>(
     Ok(text)
 }
 
-// The sentence alone, with what was likely meant.
+// The sentence alone, with the clause of the likely meaning.
 pub(crate) fn sentence_of<A: Allocator + Copy>(
     alloc: A,
     part: RestOfInput<'_>,
     fault: TextFault,
-) -> Result<Vec<u8, A>, AllocError>
+) -> Result<Vec<u8, A>, Memory>
     ensures { IfOk result (λ text. (said : List ℕ) × (text.items
         ≡ said ++ meant_text (hint_in part.entry.lines part.entry.text.now fault))) }
 {
@@ -82,7 +83,7 @@ fn append_sentence<A: Allocator + Copy>(
     sentence: Sentence,
     meant: Option<Meant>,
     text: &mut Vec<u8, A>,
-) -> Result<(), AllocError>
+) -> Result<(), Memory>
     ensures { OnOk result ((said : List ℕ) × (text.new.items ≡ text.old.items ++ (said ++ meant_text meant))) }
 {
     let sentence = format!(in alloc; "{sentence}")?;

@@ -1,9 +1,10 @@
-// Why the first fault of a text is one: its line is looked at again, with the checks of its kind in the order in which
-// the text was read.
+// The cause of the first fault of a text: its line is checked again, with the checks of the fault's kind in the order
+// of reading.
 
 use crate::flaws::{NO_TICK, find_flaw, is_answered};
 use crate::forms::{form, least_tokens, most_tokens};
 use crate::place::{Place, WrongPart, first_word, token, token_count};
+use crate::record_lines::{is_before_race, is_record, record_sentence};
 use crate::repeats::find_repeat;
 use crate::sentence::{HighFloor, Sentence, SharedPrecedence};
 use he_addr::read_number;
@@ -25,7 +26,8 @@ const TOO_MANY_RACES: &str = "races: name several files, or split the text after
 
 type Found = (WrongPart, Sentence);
 
-// What is wrong with the line, by the kind of its fault. Where no check tells, it is what is said of that kind.
+// The sentence for the line, by the kind of its fault. If no check finds the cause, it is the general sentence of
+// this kind.
 pub(crate) fn find_sentence(place: Place<'_>, kind: TextKind) -> Found {
     let found = kind_sentence(place, kind);
     let (mark, sentence) = found.unwrap_or((
@@ -36,6 +38,13 @@ pub(crate) fn find_sentence(place: Place<'_>, kind: TextKind) -> Found {
 }
 
 fn kind_sentence(place: Place<'_>, kind: TextKind) -> Option<Found> {
+    if is_record(place.line) && place.line.len() <= MAX_LINE && is_before_race(place) {
+        return record_sentence(place, kind).or(race_sentence(place, kind));
+    }
+    race_sentence(place, kind)
+}
+
+fn race_sentence(place: Place<'_>, kind: TextKind) -> Option<Found> {
     match kind {
         TextKind::Header => header_sentence(place.line),
         TextKind::Word => word_sentence(place),
@@ -43,7 +52,7 @@ fn kind_sentence(place: Place<'_>, kind: TextKind) -> Option<Found> {
         TextKind::Range => flaw_sentence(place).or(later_range_sentence(place)),
         TextKind::Repeated => repeat_sentence(place),
         TextKind::TooMany => many_sentence(place),
-        TextKind::Unfinished => unfinished_sentence(place.line),
+        TextKind::Unfinished => unfinished_sentence(place),
         TextKind::Policy(fault) => policy_sentence(place, fault),
         TextKind::Memory => None,
     }
@@ -65,7 +74,7 @@ fn general_sentence(kind: TextKind) -> &'static str {
     }
 }
 
-// A line end, a space or an empty line that makes the part wrong.
+// The sentence for a line end, a space or an empty line that makes the part wrong.
 fn spacing_sentence(line: &[u8], kind: TextKind, mark: WrongPart) -> Option<Found> {
     match kind {
         TextKind::Header
@@ -99,7 +108,7 @@ fn spacing_sentence(line: &[u8], kind: TextKind, mark: WrongPart) -> Option<Foun
     }
 }
 
-// The place of the first token without a byte.
+// The place of the first empty token.
 fn empty_token(line: &[u8]) -> Option<usize> {
     line.split(|byte| *byte == TOKEN_END)
         .position(|text| text.is_empty())
@@ -137,7 +146,7 @@ fn word_sentence(place: Place<'_>) -> Option<Found> {
         .or(flaw_sentence(place))
 }
 
-// A setting in one word, or an answer without its tick.
+// The sentence for a setting in one word, or an answer without its tick.
 fn meant_sentence(line: &[u8], word: Word) -> Option<Found> {
     let text = token(line, 1);
     match word {
@@ -150,7 +159,7 @@ fn meant_sentence(line: &[u8], word: Word) -> Option<Found> {
     }
 }
 
-// A setting as command lines have it, `attempt=100`.
+// The sentence for a setting in the form of a command line, `attempt=100`.
 fn joined_setting(text: &[u8]) -> Option<Sentence> {
     let at = memchr(b'=', text)?;
     let name = Name::read(&text[..at])?;
@@ -169,7 +178,7 @@ fn spelling(name: Name) -> &'static str {
 }
 
 fn no_word(place: Place<'_>) -> &'static str {
-    if token(place.line, 0) == b"race".as_slice() {
+    if token(place.line, 0) == b"race".as_slice() || is_record(place.line) {
         "the race above has no line `end`"
     } else if place.is_newer() {
         "no such word: lines begin with set, policy, source, route, aaaa, a, rtt, used, connect, pause or end"
@@ -178,7 +187,7 @@ fn no_word(place: Place<'_>) -> &'static str {
     }
 }
 
-// The word of the line before, if the race has one that begins with a word.
+// The word of the last line before this one that begins with a word, if there is one in the race.
 fn last_word(place: Place<'_>) -> Option<Word> {
     let mut last = None;
     for line in place.before.split(|byte| *byte == LINE_END) {
@@ -187,7 +196,7 @@ fn last_word(place: Place<'_>) -> Option<Word> {
     last
 }
 
-// Too few or too many tokens, for an empty one where there is one.
+// The sentence for too few or too many tokens, or for an empty token, if there is one.
 fn form_sentence(line: &[u8], word: Word) -> Option<Found> {
     let count = token_count(line);
     let is_short = count < least_tokens(word);
@@ -208,7 +217,7 @@ fn flaw_sentence(place: Place<'_>) -> Option<Found> {
     Some((WrongPart::Token(at), sentence))
 }
 
-// Numbers that are in their ranges, and not in order.
+// The sentence for numbers that are in their ranges, but not in order.
 fn later_range_sentence(place: Place<'_>) -> Option<Found> {
     match first_word(place.line)? {
         Word::Set => floor_sentence(place),
@@ -217,7 +226,7 @@ fn later_range_sentence(place: Place<'_>) -> Option<Found> {
     }
 }
 
-// A floor above the attempt delay, where the line is the last setting of its race.
+// The sentence for a floor above the attempt delay, if the line is the last setting of its race.
 fn floor_sentence(place: Place<'_>) -> Option<Found> {
     let (floor, line) = setting(place, Name::Floor)?;
     let attempt = match setting(place, Name::Attempt) {
@@ -236,10 +245,10 @@ fn floor_sentence(place: Place<'_>) -> Option<Found> {
     Some((mark, Sentence::HighFloor(high)))
 }
 
-// The number that the race's lines up to this one give the setting, and the number of the line that does.
+// The value that the race's lines up to this one give the setting, and the number of the line with it.
 fn setting(place: Place<'_>, name: Name) -> Option<(u64, u64)> {
     for (at, earlier) in place.before.split(|byte| *byte == LINE_END).enumerate() {
-        // after the last line end stands the line itself
+        // the last, empty part is this line itself
         let line = if earlier.is_empty() {
             place.line
         } else {
@@ -252,7 +261,7 @@ fn setting(place: Place<'_>, name: Name) -> Option<(u64, u64)> {
     None
 }
 
-// A pause that does not end after it begins, or begins before the end of the one above.
+// The sentence for a pause that does not end after its start, or begins before the end of the pause above.
 fn pause_sentence(place: Place<'_>) -> Option<Found> {
     let from = read_number(token(place.line, 1))?;
     let last = last_pause_end(place);
@@ -265,7 +274,7 @@ fn pause_sentence(place: Place<'_>) -> Option<Found> {
     ))
 }
 
-// The end of the last pause above; 0 where there is none.
+// The end of the last pause above; 0 if there is none.
 fn last_pause_end(place: Place<'_>) -> u64 {
     let mut last = 0;
     for line in place.before.split(|byte| *byte == LINE_END) {
@@ -307,13 +316,15 @@ fn many_sentence(place: Place<'_>) -> Option<Found> {
     }
 }
 
-fn unfinished_sentence(line: &[u8]) -> Option<Found> {
-    let sentence = if line.is_empty() {
-        "the text ends inside a race; a race ends with the line `end`"
-    } else {
+fn unfinished_sentence(place: Place<'_>) -> Option<Found> {
+    let sentence = if !place.line.is_empty() {
         "the text ends inside this line; each line ends with a line feed"
+    } else if is_before_race(place) {
+        "the text ends after record lines; their race follows them"
+    } else {
+        "the text ends inside a race; a race ends with the line `end`"
     };
-    Some((WrongPart::From(line.len()), Sentence::Plain(sentence)))
+    Some((WrongPart::From(place.line.len()), Sentence::Plain(sentence)))
 }
 
 fn policy_sentence(place: Place<'_>, fault: PolicyFault) -> Option<Found> {
@@ -335,7 +346,7 @@ fn policy_sentence(place: Place<'_>, fault: PolicyFault) -> Option<Found> {
     }
 }
 
-// Two rows of the table that share a precedence, by their places in it.
+// The sentence for two rows of the table with one precedence, by their places in it.
 fn shared_sentence(place: Place<'_>, row: usize, later: usize) -> Option<Found> {
     let head = lines_before_table(place);
     let row_line = place.number(head).saturating_add(row as u64);
@@ -353,7 +364,7 @@ fn shared_sentence(place: Place<'_>, row: usize, later: usize) -> Option<Found> 
     ))
 }
 
-// How many lines of the race stand before the first row of its policy table.
+// The number of lines of the race before the first row of its policy table.
 fn lines_before_table(place: Place<'_>) -> usize {
     place
         .before
@@ -362,7 +373,7 @@ fn lines_before_table(place: Place<'_>) -> usize {
         .count()
 }
 
-// The precedence on the line that stands so many lines after the race's first one.
+// The precedence on the line `at` lines after the race's first one.
 fn precedence_of(place: Place<'_>, at: usize) -> Option<u64> {
     let line = place.before.split(|byte| *byte == LINE_END).nth(at)?;
     read_number(token(line, 2))

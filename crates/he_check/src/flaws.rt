@@ -1,4 +1,4 @@
-// What is wrong with one token of a line.
+// The faults of single tokens.
 
 use crate::place::{Place, first_word, token, token_count};
 use crate::sentence::{Numbers, Sentence};
@@ -9,7 +9,7 @@ use he_words::{LINE_END, Name, TOKEN_END, Word};
 
 const MILLISECONDS: &str = " milliseconds";
 
-// What is said of an answer whose addresses begin where its tick belongs.
+// The sentence for an answer whose addresses begin at the place of its tick.
 pub(crate) const NO_TICK: &str =
     "the tick is missing: an answer is `a TICK ADDRESS ..` or `aaaa TICK ADDRESS ..`";
 
@@ -69,7 +69,7 @@ const PAUSE_TO: Numbers = Numbers {
     unit: MILLISECONDS,
 };
 
-// The first token of the line that is wrong by itself, from left to right, and what is wrong with it.
+// The place of the first token from the left that is wrong by itself, and its sentence.
 pub(crate) fn find_flaw(place: Place<'_>, word: Word) -> Option<(usize, Sentence)> {
     for (at, text) in place.line.split(|byte| *byte == TOKEN_END).enumerate() {
         if let Some(sentence) = token_flaw(place, word, at, text) {
@@ -79,7 +79,7 @@ pub(crate) fn find_flaw(place: Place<'_>, word: Word) -> Option<(usize, Sentence
     None
 }
 
-// What is wrong with the token at a place of the line, counted from 0.
+// The sentence for the token at a place of the line, counted from 0; None if it is right.
 fn token_flaw(place: Place<'_>, word: Word, at: usize, text: &[u8]) -> Option<Sentence> {
     match (word, at) {
         (_, 0) | (Word::End, _) => None,
@@ -105,7 +105,7 @@ fn token_flaw(place: Place<'_>, word: Word, at: usize, text: &[u8]) -> Option<Se
     }
 }
 
-// The number of a line `set NAME NUMBER`, by its name.
+// The range of the number of a line `set NAME NUMBER`, by its name.
 fn setting_of(line: &[u8]) -> Option<Numbers> {
     let name = Name::read(token(line, 1))?;
     let (what, unit) = match name {
@@ -139,7 +139,7 @@ fn name_flaw(place: Place<'_>, text: &[u8]) -> Option<Sentence> {
     }
 }
 
-fn number_flaw(numbers: Numbers, text: &[u8]) -> Option<Sentence> {
+pub(crate) fn number_flaw(numbers: Numbers, text: &[u8]) -> Option<Sentence> {
     match read_number(text) {
         None if has_fraction(text) => Some(Sentence::Fraction(numbers)),
         None => Some(Sentence::NoNumber(numbers)),
@@ -163,7 +163,7 @@ fn has_fraction(text: &[u8]) -> bool {
     points == 1
 }
 
-// Whether the text is what an answer has after its tick: an address, or `none`.
+// Whether the text may follow the tick of an answer: an address, or `none`.
 pub(crate) fn is_answered(text: &[u8]) -> bool {
     text == b"none".as_slice() || read_ip(text).is_some()
 }
@@ -227,7 +227,7 @@ fn address_flaw(family: Family, line: &[u8], text: &[u8]) -> Option<Sentence> {
     }))
 }
 
-// An address of which something is told: one of an answer.
+// The address of a line `rtt`, `used` or `connect`: it must be in an answer above.
 fn known_flaw(place: Place<'_>, text: &[u8]) -> Option<Sentence> {
     let Some(ip) = read_ip(text) else {
         return Some(Sentence::Plain("this is no address"));

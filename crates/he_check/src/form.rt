@@ -1,6 +1,6 @@
-// How the faults of an input are told.
+// The form of the report of an input's faults.
 
-/// In lines that a person reads, or as objects of JSON.
+/// Lines for a person to read, or JSON objects.
 #[derive(Clone, Copy)]
 pub(crate) enum Form {
     Lines,

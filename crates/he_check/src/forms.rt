@@ -1,4 +1,4 @@
-// What the lines look like, by the word that begins them.
+// The form of its lines, by the word that begins them.
 
 use he_words::Word;
 use he_words::limits::{ROUTE_MARKS, SOURCE_MARKS};
@@ -21,7 +21,7 @@ pub(crate) fn form(word: Word) -> &'static str {
     }
 }
 
-// The most tokens of its lines, the word included.
+// The maximum number of tokens of its lines, with the word.
 pub(crate) fn most_tokens(word: Word) -> Option<usize> {
     match word {
         Word::Set | Word::Rtt | Word::Pause => Some(3),
@@ -34,7 +34,7 @@ pub(crate) fn most_tokens(word: Word) -> Option<usize> {
     }
 }
 
-// The least tokens of its lines, the word included.
+// The minimum number of tokens of its lines, with the word.
 pub(crate) fn least_tokens(word: Word) -> usize {
     match word {
         Word::Policy | Word::Connect => 4,

@@ -1,4 +1,4 @@
-//! What an input has: races and lines, or a fault.
+//! The result of a check: the numbers of races and lines, or a fault.
 ghost use Rattle.std.specs.Prelude.{IfErr, IfOk};
 ghost use Rattle.he_check.specs.Checked.{IsRight, IsWrong};
 ghost use Rattle.he_check.specs.Slips.{HasWarnings};
@@ -9,24 +9,25 @@ use crate::slips::Warning;
 use he_inputs::{Ending, StreamFault};
 use std::alloc::Allocator;
 
-/// What a right input has.
+/// The numbers of races and lines of an input without a fault.
 #[derive(Clone, Copy, Debug, PartialEq, Eq)]
 pub struct Checked {
-    /// Its races.
+    /// The number of races.
     pub races: u64,
-    /// Its lines.
+    /// The number of lines.
     pub lines: u64,
 }
 
-/// Reads the races of an input one by one, counts them and the input's lines, and warns of each slip of a race, in the
-/// order of the races, and where the input has none. `is_broken` says that the input broke off after these bytes.
+/// Reads the races of an input one by one, counts them and the input's lines, and returns a warning for each slip of
+/// a race, in the order of the races, or for an input without races. `is_broken`: the input broke off after these
+/// bytes.
 ///
 /// # Errors
 ///
-/// - `Text` with the first fault of the text, its line counted over the whole input from 1; of an input with more
-///   than 4,096 races that is `TooMany` at the first line of the next one.
-/// - `Read` where the input broke off and its text has no fault before that.
-/// - `Memory` where an allocation was refused.
+/// - `Text` with the first fault of the text. Its line is counted over the whole input, from 1. With more than 4,096
+///   races, the fault is `TooMany` at the first line after the 4,096th.
+/// - `Read` if the input broke off and its text has no fault before that.
+/// - `Memory` if an allocation failed.
 pub fn check_input<A: Allocator + Copy>(
     alloc: A,
     input: &[u8],

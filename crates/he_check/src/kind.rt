@@ -1,4 +1,4 @@
-// The words for what is wrong with a line.
+// The words for the kinds of faults.
 ghost use Rattle.std.specs.Prelude.{◌≡◌, ◌++◌, OnOk};
 ghost use Rattle.he_check.specs.Kinds.{kind_text, rows_of, word_of};
 
@@ -18,7 +18,7 @@ pub(crate) fn append_kind<A: Allocator + Copy>(
     append_rows(kind, text)
 }
 
-// Its words, up to the rows of a policy table.
+// The words of a kind, without the rows of a policy table.
 fn word(kind: TextKind) -> &'static [u8]
     ensures { result.now ≡ word_of kind }
 {
@@ -41,7 +41,7 @@ fn word(kind: TextKind) -> &'static [u8]
     }
 }
 
-// Appends the rows of a policy table, and what is wrong with them.
+// Appends the rows of a policy table that a fault names, and its words.
 fn append_rows<A: Allocator + Copy>(kind: TextKind, text: &mut Vec<u8, A>) -> Result<(), Memory>
     ensures { OnOk result (text.new.items ≡ text.old.items ++ rows_of kind) }
 {

@@ -1,28 +1,28 @@
-//! Checks of timeline texts, with an explanation of the first fault, or of those of all parts of a text.
+//! Checks of timeline texts, with an explanation of the first fault, or of the first fault of each part of a text.
 //!
-//! [`check_input`] counts the races and lines of an input, and warns of what is allowed in them and surely not meant
-//! ([`Slip`]), or answers the input's first fault. [`check`] does so for a stream, writes the numbers to an output,
-//! and writes each warning in a line; where all faults are asked for it goes on after a faulty race, at the next line
-//! that is `race 1` or `race 2`. [`explain_fault`] says of a fault what a compiler would: the line, a mark below the
-//! part that is wrong, and what was expected there. [`check_json`] writes what [`check`] reports as an object of JSON
-//! (`objects.rt`).
+//! [`check_input`] counts the races and lines of an input and warns of entries that are allowed, but surely not meant
+//! ([`Slip`]), or returns the input's first fault. [`check`] does this for a stream: it writes the numbers to an
+//! output, and each warning as a line. If all faults are asked for, it continues after a faulty race, at the next
+//! line that is `race 1` or `race 2` or a record line. [`explain_fault`] explains a fault as a compiler does: the
+//! line, a mark below the wrong part, and the form expected. [`check_json`] writes the report of [`check`] as a JSON
+//! object (`objects.rt`).
 //!
-//! Proved: a check reports the input's first fault, by kind and line (`HasRaces` of he_inputs, `specs/Inputs`), and
-//! where there is none the number of its races and lines (`specs/Checked`), and exactly the slips of its races as
-//! warnings, each with the race's first line (`specs/Slips`) and its sentence (`specs/Sentences`). A replay goes
-//! through its input by the same definition, so both report one fault. Over streams, whatever they do
-//! (`specs/Stream`): the whole input is read, the numbers are written and flushed where nothing is wrong, and else
-//! nothing is written; after a write or flush that failed, a first part. What is explained stands after what the
-//! vector held, and a refused growth leaves it as it was. It ends in the clause of what was likely meant by a word of
-//! the line or by the input's first bytes (`specs/Clauses`, `specs/Meant`), exactly where one of them is such. A check
+//! Proved: a check reports the input's first fault, by kind and line (`HasRaces` of he_inputs, `specs/Inputs`). If
+//! there is none, it reports the number of its races and lines (`specs/Checked`), and exactly the slips of its races
+//! as warnings, each with the race's first line (`specs/Slips`) and its sentence (`specs/Sentences`). A replay reads
+//! its input by the same definition, so both report one fault. Over streams, whatever they do (`specs/Stream`): the
+//! whole input is read; the numbers are written and flushed if there is no fault, and otherwise nothing is written;
+//! after a write or flush that failed, a first part is written. The explanation is appended to the vector, and a
+//! failed allocation leaves the vector unchanged. It ends in the clause of the likely meaning of a word of the line
+//! or of the input's first bytes (`specs/Clauses`, `specs/Meant`), exactly if one of them has such a meaning. A check
 //! for all faults reports the first fault of each part of an input, in order, with its line counted over the whole
-//! input and its clause, and last that the input broke off (`specs/AllFaults`); the first of them is the fault that it
-//! answers. What is written as JSON is the object of the same (`IsObject` of `specs/Stream`, `specs/Objects`), in
-//! which names and sentences are strings (`he_print`).
+//! input and its clause, and last that the input broke off (`specs/AllFaults`); it returns the first of these faults.
+//! The JSON object has the same contents (`IsObject` of `specs/Stream`, `specs/Objects`), with names and sentences as
+//! strings (`he_print`).
 //!
-//! Only tested: what else an explanation says. The line is looked at again for it, by checks of its own
-//! (`finding.rt`), so a wrong one would mislead, but leaves the fault's line and kind as they are. Of a fault whose
-//! cause these checks don't find, a sentence says what faults of its kind are.
+//! Only tested: the rest of an explanation. Checks of its own read the line again for it (`finding.rt`): a wrong one
+//! would mislead, but does not change the fault's line and kind. If these checks don't find a fault's cause, the
+//! sentence is the general one of its kind.
 #![tactic(auto)]
 
 mod all_faults;
@@ -41,6 +41,7 @@ mod meant;
 mod objects;
 mod parts;
 mod place;
+mod record_lines;
 mod repeats;
 mod sentence;
 mod showing;

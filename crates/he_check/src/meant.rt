@@ -1,11 +1,11 @@
-// What a person likely meant by a word that no text has, and by an input that is none.
+// The likely meaning of a word that is in no text, and of an input that is no text.
 
 ghost use Rattle.std.specs.Prelude.{◌≡◌};
 ghost use Rattle.std.specs.Char.{is_ascii_alphabetic, is_ascii_digit, is_ascii_uppercase};
 ghost use Rattle.std.specs.List.{list_all, list_any};
 ghost use Rattle.he_check.specs.Meant.{as_address, as_ip_prints, as_mark, as_number, input_meant, is_capture, is_device, is_ip_word, is_name, is_of_name, is_of_time, meant_of};
 
-// What was likely meant.
+// The likely meaning.
 #[derive(Clone, Copy)]
 pub(crate) enum Meant {
     // A comment, which begins with `#`.
@@ -16,7 +16,7 @@ pub(crate) enum Meant {
     Capitals,
     // An address with a zone, as `fe80::1%eth0`.
     Zone,
-    // An address in brackets, as it stands before a port.
+    // An address in brackets, as before a port.
     Brackets,
     // A comma between addresses or in a number.
     Comma,
@@ -34,7 +34,7 @@ pub(crate) enum Meant {
     Sign,
     // A compressed file.
     Packed,
-    // A text of two bytes a character.
+    // A text in UTF-16.
     Wide,
     // A packet capture.
     Capture,
@@ -42,7 +42,7 @@ pub(crate) enum Meant {
     Json,
 }
 
-// What was likely meant by the word, if it is one that stands in no text.
+// The likely meaning of the word, if it is one that is in no text.
 #[tactic(auto, unfolding(crate::specs::Meant::meant_of))]
 pub(crate) fn meant_of(word: &[u8]) -> Option<Meant>
     ensures { result ≡ meant_of word.now }
@@ -113,7 +113,7 @@ fn as_address(word: &[u8]) -> Option<Meant>
     }
 }
 
-// A word that stands in what `ip` prints of routes and addresses.
+// A word of the output of `ip route` and `ip address`.
 #[tactic(auto, unfolding(crate::specs::Meant::is_ip_word))]
 fn is_ip_word(word: &[u8]) -> bool
     ensures { result ≡ is_ip_word word.now }
@@ -197,7 +197,7 @@ fn is_of_time(byte: u8) -> bool
     byte.is_ascii_digit() || b".ms".contains(&byte)
 }
 
-// What was likely meant by an input with these first bytes.
+// The likely meaning of an input with these first bytes.
 #[tactic(auto, unfolding(crate::specs::Meant::input_meant))]
 pub(crate) fn input_meant(input: &[u8]) -> Option<Meant>
     ensures { result ≡ input_meant input.now }

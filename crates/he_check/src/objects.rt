@@ -1,4 +1,4 @@
-// What is told of an input as an object of JSON.
+// The report of an input as a JSON object.
 ghost use Rattle.std.specs.Prelude.{◌≡◌, ◌++◌, drop, option_map, IfOk, OnOk};
 ghost use Rattle.std.specs.List.{flat_map};
 ghost use Rattle.he_check.specs.Objects.{end_member, entry_text, faults_member, file_text, list_text, more_member, object_text, right_members, slip_word, warning_entry};
@@ -10,7 +10,7 @@ use he_addr::{Memory, write_number};
 use he_print::write_string;
 use std::alloc::Allocator;
 
-// The object of an input, from the file of this name or from none, with these members after that.
+// The object of an input: the name of its file, or null, and then these members.
 pub(crate) fn object_of<A: Allocator + Copy>(
     alloc: A,
     file: Option<&str>,
@@ -38,7 +38,7 @@ fn write_file<A: Allocator>(file: Option<&str>, text: &mut Vec<u8, A>) -> Result
     }
 }
 
-// The members of an input with which nothing is wrong.
+// The members of an input without a fault.
 pub(crate) fn right_members<A: Allocator + Copy>(
     alloc: A,
     checked: Checked,
@@ -97,8 +97,7 @@ fn slip_word(slip: Slip) -> &'static [u8]
     }
 }
 
-// The members of an input that has faults: the entries of those that are told, how many more there are, and whether it
-// broke off.
+// The members of an input with faults: the entries, the number of further faults, and whether the input broke off.
 pub(crate) fn faults_member<A: Allocator + Copy>(
     alloc: A,
     entries: &[u8],
@@ -135,7 +134,7 @@ fn write_end<A: Allocator>(is_broken: bool, text: &mut Vec<u8, A>) -> Result<(),
     Ok(())
 }
 
-// Entries as a list. Each stands after a comma, and the first comma is left out.
+// Appends the entries as a list. Each entry begins with a comma; the first comma is left out.
 fn write_list<A: Allocator>(entries: &[u8], text: &mut Vec<u8, A>) -> Result<(), Memory>
     ensures { OnOk result (text.new.items ≡ text.old.items ++ list_text entries.now) }
 {

@@ -1,4 +1,4 @@
-// Where a fault stands: a line, and the lines of its race before it.
+// The place of a fault: a line, and the lines of its race before it.
 
 use crate::parts::RestOfInput;
 use he_words::{LINE_END, TOKEN_END, Version, Word};
@@ -21,7 +21,7 @@ pub(crate) enum WrongPart {
     Line,
     // The token at this place, counted from 0.
     Token(usize),
-    // What stands from this byte on.
+    // All from this byte on.
     From(usize),
 }
 
@@ -41,7 +41,7 @@ impl WrongPart {
     }
 }
 
-// A line, and the whole lines of its race before it, of which the first has this number.
+// A line, and the whole lines of its race before it. `first` is the number of the first of these lines.
 #[derive(Clone, Copy)]
 pub(crate) struct Place<'t> {
     pub(crate) line: &'t [u8],
@@ -49,8 +49,8 @@ pub(crate) struct Place<'t> {
     pub(crate) first: u64,
 }
 
-// The line with this number, which stands in the part. The part begins with a race, and its lines before this one are
-// to be right, so that a race ends with each of them that is `end`.
+// The line with this number, which must be in the part. The part begins with a race, and its lines before this one
+// must be right, so that each line `end` ends a race.
 pub(crate) fn find_line(part: RestOfInput<'_>, number: u64) -> Place<'_> {
     let mut rest = part.text;
     let mut race = part.text;
@@ -83,18 +83,23 @@ fn cut_line(text: &[u8]) -> (&[u8], &[u8]) {
 }
 
 impl Place<'_> {
-    // The number of the line that stands so many lines after the race's first one.
+    // The number of the line `at` lines after the race's first one.
     pub(crate) fn number(self, at: usize) -> u64 {
         self.first.saturating_add(at as u64)
     }
 
-    // Whether the race begins as one of version 2.
+    // Whether the race has version 2.
     pub(crate) fn is_newer(self) -> bool {
-        cut_line(self.before).0 == Version::Two.header()
+        for line in self.before.split(|byte| *byte == LINE_END) {
+            if line == Version::Two.header() {
+                return true;
+            }
+        }
+        false
     }
 }
 
-// The token at a place of the line, counted from 0; empty where there is none.
+// The token at a place of the line, counted from 0; empty if there is none.
 pub(crate) fn token(line: &[u8], at: usize) -> &[u8] {
     line.split(|byte| *byte == TOKEN_END)
         .nth(at)
@@ -106,12 +111,12 @@ pub(crate) fn first_word(line: &[u8]) -> Option<Word> {
     Word::read(token(line, 0))
 }
 
-// How many tokens a line has.
+// The number of tokens of a line.
 pub(crate) fn token_count(line: &[u8]) -> usize {
     line.iter().filter(|byte| **byte == TOKEN_END).count() + 1
 }
 
-// Where the token at a place of the line stands; the end of the line where there is none.
+// The span of the token at a place of the line; the end of the line if there is none.
 pub(crate) fn token_span(line: &[u8], at: usize) -> Span {
     let mut left = at;
     let mut start = 0;

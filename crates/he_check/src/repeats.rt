@@ -1,11 +1,11 @@
-// What is given twice.
+// Repeated entries.
 
 use crate::place::{Place, first_word, token, token_count};
 use crate::sentence::Sentence;
 use he_addr::{read_ip, read_prefix, read_source};
 use he_words::{LINE_END, Word};
 
-// The token of the line that is given a second time, by its place from 0 on.
+// The place of the repeated token, counted from 0, and its sentence.
 pub(crate) fn find_repeat(place: Place<'_>, word: Word) -> Option<(usize, Sentence)> {
     match word {
         Word::Aaaa | Word::A => find_answer(place, word),
@@ -28,7 +28,7 @@ fn given_above(word: Word) -> &'static str {
     }
 }
 
-// The number of the earlier line of the word whose first token after it says the same.
+// The number of the earlier line of the word with an equal first token after it.
 fn find_earlier(place: Place<'_>, word: Word) -> Option<u64> {
     for (at, line) in place.before.split(|byte| *byte == LINE_END).enumerate() {
         if first_word(line) == Some(word) && is_same(word, token(line, 1), token(place.line, 1)) {
@@ -38,7 +38,7 @@ fn find_earlier(place: Place<'_>, word: Word) -> Option<u64> {
     None
 }
 
-// Whether the first tokens after the word say the same.
+// Whether the first tokens after the word are equal, by value if they are addresses or prefixes.
 fn is_same(word: Word, one: &[u8], other: &[u8]) -> bool {
     match word {
         Word::Policy | Word::Route => read_prefix(one) == read_prefix(other),
@@ -51,7 +51,7 @@ fn is_same(word: Word, one: &[u8], other: &[u8]) -> bool {
     }
 }
 
-// A second answer of the family, or an address that stands twice in one.
+// The sentence for a second answer of the family, or an address that is twice in an answer.
 fn find_answer(place: Place<'_>, word: Word) -> Option<(usize, Sentence)> {
     for (at, line) in place.before.split(|byte| *byte == LINE_END).enumerate() {
         if first_word(line) == Some(word) {
@@ -69,7 +69,7 @@ fn find_answer(place: Place<'_>, word: Word) -> Option<(usize, Sentence)> {
     ))
 }
 
-// The place of the first address of an answer that stands before it in the same answer.
+// The place of the first address of an answer that is earlier in the answer too.
 fn find_twin(line: &[u8]) -> Option<usize> {
     for at in 2..token_count(line) {
         if has_before(line, at) {
@@ -79,7 +79,7 @@ fn find_twin(line: &[u8]) -> Option<usize> {
     None
 }
 
-// Whether the address at this place stands at an earlier one too.
+// Whether the address at this place is at an earlier one too.
 fn has_before(line: &[u8], at: usize) -> bool {
     let ip = read_ip(token(line, at));
     for earlier in 2..at {

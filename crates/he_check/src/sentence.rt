@@ -1,8 +1,8 @@
-// What is wrong with a line, in a sentence.
+// Sentences for faulty lines.
 
 use std::fmt;
 
-// A number of a line: what it is, from its least to its greatest value, and in which unit, a space before it.
+// A number of a line: its name, its minimum and maximum, and its unit after a space.
 #[derive(Clone, Copy)]
 pub(crate) struct Numbers {
     pub(crate) what: &'static str,
@@ -11,7 +11,7 @@ pub(crate) struct Numbers {
     pub(crate) unit: &'static str,
 }
 
-// What was expected, and what stands there instead.
+// The form expected, and the text found instead.
 #[derive(Clone, Copy)]
 pub(crate) enum Sentence {
     // This sentence.
@@ -24,21 +24,25 @@ pub(crate) enum Sentence {
     OutOfRange(Numbers),
     // A setting in one word, as `attempt=100`: its name and its number.
     Joined(&'static str, u64),
-    // This thing stands on an earlier line, with this number.
+    // An earlier line, with this number, has this already.
     Above(&'static str, u64),
-    // There may be at most so many, by the words before and after the number.
+    // At most this number is allowed, with the words before and after it.
     Most(&'static str, u64, &'static str),
-    // A race may have at most so many lines that begin with the word.
+    // A race may have at most this number of lines that begin with the word.
     MostLines(u64, &'static str),
     // A line with the first word comes after one with the second.
     Order(&'static str, &'static str),
-    // The pause before this one ends only at this tick.
+    // A record may have at most this number of lines of the word.
+    MostRecords(u64, &'static str),
+    // A record line with the first word comes after one with the second.
+    RecordOrder(&'static str, &'static str),
+    // The pause before this one ends at this tick.
     PauseAbove(u64),
-    // A word or a setting of version 2 stands in a race of version 1.
+    // A word or a setting of version 2 in a race of version 1.
     Newer(&'static str),
     // The floor after failures is above the attempt delay.
     HighFloor(HighFloor),
-    // Two rows of a policy table share a precedence.
+    // Two rows of a policy table have one precedence.
     Shared(SharedPrecedence),
 }
 
@@ -79,6 +83,13 @@ impl fmt::Display for Sentence {
             Sentence::Order(word, last) => write!(
                 f,
                 "the {word} lines of a race stand before its {last} lines"
+            ),
+            Sentence::MostRecords(most, word) => {
+                write!(f, "a race has at most {most} record {word} lines")
+            }
+            Sentence::RecordOrder(word, last) => write!(
+                f,
+                "the record {word} lines of a race stand before its record {last} lines"
             ),
             Sentence::PauseAbove(end) => write!(
                 f,

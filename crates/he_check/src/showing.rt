@@ -1,23 +1,24 @@
-// A line as it is shown, with a mark below it.
+// A line as it is printed, with a mark below it.
 
 use crate::limits::{MOST_SHOWN, SHOWN_BEFORE};
 use crate::place::Span;
-use std::alloc::{AllocError, Allocator};
+use he_addr::Memory;
+use std::alloc::Allocator;
 
-// What stands before a line that is shown.
+// The indentation of a printed line.
 const INDENT: &[u8] = b"  ";
 
-// What stands in place of the part of a line that isn't shown.
+// Replaces the part of a line that isn't printed.
 const LEFT_OUT: &[u8] = b"..";
 
 const DIGITS: &[u8; 16] = b"0123456789abcdef";
 
-// Appends the line and a line with the mark below the part. Of an empty line nothing is shown.
+// Appends the line, and a line with the mark below the part. An empty line is not printed.
 pub(crate) fn show_line<A: Allocator>(
     line: &[u8],
     part: Span,
     text: &mut Vec<u8, A>,
-) -> Result<(), AllocError> {
+) -> Result<(), Memory> {
     if line.is_empty() {
         return Ok(());
     }
@@ -26,7 +27,7 @@ pub(crate) fn show_line<A: Allocator>(
     show_mark(line, shown, part, text)
 }
 
-// The part of a line of this length that is shown, where the mark begins at this byte.
+// The part that is printed of a line of this length with a mark that begins at byte `mark`.
 fn shown_part(len: usize, mark: usize) -> Span {
     if len <= MOST_SHOWN {
         return Span { start: 0, end: len };
@@ -38,11 +39,7 @@ fn shown_part(len: usize, mark: usize) -> Span {
     }
 }
 
-fn show_bytes<A: Allocator>(
-    line: &[u8],
-    shown: Span,
-    text: &mut Vec<u8, A>,
-) -> Result<(), AllocError> {
+fn show_bytes<A: Allocator>(line: &[u8], shown: Span, text: &mut Vec<u8, A>) -> Result<(), Memory> {
     text.extend_from_slice(INDENT)?;
     if shown.start > 0 {
         text.extend_from_slice(LEFT_OUT)?;
@@ -57,13 +54,13 @@ fn show_bytes<A: Allocator>(
     Ok(())
 }
 
-// The bytes from one place to another; none where they don't stand in the line.
+// The bytes from `start` to `end`; none if they are not in the line.
 fn part_of(line: &[u8], start: usize, end: usize) -> &[u8] {
     line.get(start..end).unwrap_or(b"".as_slice())
 }
 
-// A byte that can be printed stands for itself.
-fn show_byte<A: Allocator>(byte: u8, text: &mut Vec<u8, A>) -> Result<(), AllocError> {
+// Appends a byte: as it is if it is printable, else as an escape.
+fn show_byte<A: Allocator>(byte: u8, text: &mut Vec<u8, A>) -> Result<(), Memory> {
     match byte {
         b'\t' => text.extend_from_slice(b"\\t")?,
         b'\r' => text.extend_from_slice(b"\\r")?,
@@ -78,7 +75,7 @@ fn show_byte<A: Allocator>(byte: u8, text: &mut Vec<u8, A>) -> Result<(), AllocE
     Ok(())
 }
 
-// How many columns the byte takes.
+// The number of columns of the byte.
 fn width(byte: u8) -> usize {
     match byte {
         b'\t' | b'\r' | b'\\' => 2,
@@ -87,13 +84,13 @@ fn width(byte: u8) -> usize {
     }
 }
 
-// The mark: below each byte of the part that is shown, or, where the part is empty, below the place where it stands.
+// Appends the mark: below each byte of the part that is printed or, if the part is empty, below its place.
 fn show_mark<A: Allocator>(
     line: &[u8],
     shown: Span,
     part: Span,
     text: &mut Vec<u8, A>,
-) -> Result<(), AllocError> {
+) -> Result<(), Memory> {
     text.extend_from_slice(INDENT)?;
     if shown.start > 0 {
         push_times(b' ', LEFT_OUT.len(), text)?;
@@ -112,11 +109,7 @@ fn show_mark<A: Allocator>(
     Ok(())
 }
 
-fn push_times<A: Allocator>(
-    byte: u8,
-    times: usize,
-    text: &mut Vec<u8, A>,
-) -> Result<(), AllocError> {
+fn push_times<A: Allocator>(byte: u8, times: usize, text: &mut Vec<u8, A>) -> Result<(), Memory> {
     for _ in 0..times {
         text.push(byte)?;
     }

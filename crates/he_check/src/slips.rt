@@ -1,4 +1,4 @@
-//! What is allowed in a race, and surely not meant.
+//! Entries of a race that are allowed, but surely not meant.
 ghost use Rattle.std.specs.Prelude.{◌≡◌, ◌++◌, map, OnOk};
 ghost use Rattle.std.specs.List.{list_any};
 ghost use Rattle.he_addr.specs.Ip.{is_of, is_usable};
@@ -6,51 +6,51 @@ ghost use Rattle.he_timeline.specs.Race.{reply_of};
 ghost use Rattle.he_check.specs.Slips.{answer_slips, are_unusable, has_route, has_source, is_floor_idle, is_longer, lacks_route, serves, slip_if, warning_at, warnings_of};
 ghost use Rattle.he_check.specs.declared.slips.Slip.TheVariants.{NoRoute};
 
-use he_addr::{Family, Ip, Prefix};
+use he_addr::{Family, Ip, Memory, Prefix};
 use he_select::{Host, Route, Source};
 use he_timeline::{Outcome, Settings, Timeline};
-use std::alloc::{AllocError, Allocator};
+use std::alloc::Allocator;
 
-/// What is allowed in a race, and surely not meant. It is no fault: the race means what it says.
+/// An entry of a race that is allowed, but surely not meant. It is no fault: the race is replayed as written.
 #[derive(Clone, Copy, Debug, PartialEq, Eq)]
 pub enum Slip {
     /// The input has no race.
     NoRace,
-    /// The race has no source, so that its host reaches no address.
+    /// The race has no source, so its host reaches no address.
     NoSource,
-    /// The floor is the Connection Attempt Delay itself, so that no attempt starts earlier for it.
+    /// The floor equals the Connection Attempt Delay, so no attempt starts earlier for it.
     IdleFloor,
-    /// The host has a source of the family and no route for it, so that it reaches none of its addresses.
+    /// The host has a source of the family and no route for it, so it reaches none of its addresses.
     NoRoute(Family),
-    /// The family is never answered, so that the race can't be exhausted.
+    /// The family has no answer, so the race can't be exhausted.
     NoAnswer(Family),
-    /// The family's answer comes after the limit, so that it is never seen.
+    /// The family's answer comes after the limit, so it is never seen.
     LateAnswer(Family),
-    /// The family's answer has addresses of which none may be tried, so that it counts as one without an address.
+    /// The family's answer has addresses, but none that may be tried, so it counts as an answer without addresses.
     UnusableAnswer(Family),
-    /// The family's answer has an address that may be tried, and the host has sources, but none of the family, so that
-    /// it doesn't reach the address.
+    /// The family's answer has an address that may be tried, and the host has sources, but none of the family, so it
+    /// doesn't reach the address.
     NoSourceOf(Family),
-    /// The family has an outcome that comes after the limit, even of an attempt that starts with the answer, so that
-    /// it is never seen.
+    /// An outcome of the family comes after the limit even if its attempt starts with the answer, so it is never
+    /// seen.
     LateOutcome(Family),
 }
 
 /// A slip of a race of an input.
 #[derive(Clone, Copy, Debug, PartialEq, Eq)]
 pub struct Warning {
-    /// The line with which the race begins, counted over the whole input from 1; 1 where the input has no race.
+    /// The first line of the race, counted over the whole input from 1; 1 if the input has no race.
     pub line: u64,
-    /// What is surely not meant.
+    /// The slip.
     pub slip: Slip,
 }
 
-// Appends a warning for each slip of a race that begins with this line.
+// Appends a warning for each slip of a race that begins on this line.
 pub(crate) fn add_warnings<A: Allocator, B: Allocator>(
     race: &Timeline<B>,
     line: u64,
     warnings: &mut Vec<Warning, A>,
-) -> Result<(), AllocError>
+) -> Result<(), Memory>
     ensures { OnOk result (warnings.new.items ≡ warnings.old.items ++ warnings_of line race.now) }
 {
     let has_no_source = race.host().sources().is_empty();
@@ -72,7 +72,7 @@ fn add_of_routes<A: Allocator, B: Allocator>(
     family: Family,
     line: u64,
     warnings: &mut Vec<Warning, A>,
-) -> Result<(), AllocError>
+) -> Result<(), Memory>
     ensures { OnOk result (warnings.new.items ≡ warnings.old.items ++ map (warning_at line)
         (slip_if (lacks_route host.now family) (NoRoute family))) }
 {
@@ -85,7 +85,7 @@ fn add_of_answer<A: Allocator, B: Allocator>(
     family: Family,
     line: u64,
     warnings: &mut Vec<Warning, A>,
-) -> Result<(), AllocError>
+) -> Result<(), Memory>
     ensures { OnOk result (warnings.new.items ≡ warnings.old.items ++ map (warning_at line)
         (answer_slips race.now family (reply_of race.now family))) }
 {
@@ -113,7 +113,7 @@ pub(crate) fn add_if<A: Allocator>(
     line: u64,
     slip: Slip,
     warnings: &mut Vec<Warning, A>,
-) -> Result<(), AllocError>
+) -> Result<(), Memory>
     ensures { OnOk result (warnings.new.items ≡ warnings.old.items ++ map (warning_at line) (slip_if holds slip)) }
 {
     if holds {
@@ -153,7 +153,7 @@ fn serves(prefix: Prefix, family: Family) -> bool
     }
 }
 
-// Whether an attempt of the family takes longer than so many ticks.
+// Whether an attempt of the family takes longer than `ticks`.
 fn is_any_longer(outcomes: &[(Ip, Outcome)], family: Family, ticks: u64) -> bool
     ensures { result ≡ list_any (is_longer family ticks) outcomes.now }
 {

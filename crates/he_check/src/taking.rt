@@ -1,4 +1,4 @@
-// An input that is checked while it comes.
+// Checking an input as its bytes arrive.
 ghost use Rattle.std.specs.Prelude.{◌≡◌, ◌+◌, ◌-◌, ◌≤◌, ◌^◌, [], drop, length, IfErr, IfOk, OnOk};
 ghost use Rattle.he_stream.specs.Input.{Gives, GivesSoFar};
 ghost use Rattle.he_inputs.specs.RaceReading.{ending_of};
@@ -20,19 +20,19 @@ use he_words::limits::MAX_LINE;
 use memchr::memrchr;
 use std::alloc::Allocator;
 
-// What is held of an input: its bytes after the last race that was passed. That is no more than the text of one race
-// may have, and as much again before that is looked at once more, and what one step gives.
+// The bytes held of an input, after the last race passed: at most twice the maximum length of a race's text, and the
+// bytes of one step.
 #[derive(Drop)]
 struct Held<A: Allocator> {
     input: HeldInput<A>,
-    // How many of its bytes were looked at.
+    // The number of these bytes that were checked.
     tried: usize,
-    // How far the check has come in them.
+    // The progress of the check in them.
     counted: Counted<A>,
 }
 
 impl<A: Allocator + Copy> Held<A> {
-    // Nothing is taken yet.
+    // A check that has taken nothing.
     fn new(alloc: A, is_all: bool, form: Form) -> Held<A>
         ensures none { (result.input ≡ record { bytes = []; steps = 0 }) × (result.tried ≡ 0) }
         ensures counted { IsNew is_all form result.counted }
@@ -44,7 +44,7 @@ impl<A: Allocator + Copy> Held<A> {
         }
     }
 
-    // Checks what is whole of the bytes, after more of them were taken, and lets go what was passed.
+    // Checks the whole races among the bytes, after more were taken, and drops the bytes passed.
     fn gain(&mut self, alloc: A) -> Result<(), Memory>
         requires held { IsHeld self.old }
         requires more { IsOpen self.old.counted }
@@ -67,7 +67,7 @@ impl<A: Allocator + Copy> Held<A> {
         Ok(())
     }
 
-    // Lets go what the reader passed.
+    // Drops the bytes that the reader passed.
     fn forget(&mut self)
         requires tried { self.old.tried ≤ length self.old.input.bytes }
         requires place { self.old.counted.reader.end ≤ self.old.tried }
@@ -82,7 +82,7 @@ impl<A: Allocator + Copy> Held<A> {
         self.counted.reader.end = 0;
     }
 
-    // Checks what is left, where nothing follows: the input ended, or broke off.
+    // Checks the rest of an input that ended or broke off.
     fn finish(&mut self, alloc: A, is_broken: bool) -> Result<(), Memory>
         requires held { IsHeld self.old }
         requires more { IsOpen self.old.counted }
@@ -96,7 +96,8 @@ impl<A: Allocator + Copy> Held<A> {
             .go_on(alloc, self.input.bytes(), Ending::of(is_broken))
     }
 
-    // What the check comes to: races and lines, and the warnings, or a fault. What is said of the faults is appended.
+    // The result of the check: the numbers of races and lines and the warnings, or a fault. Appends the report of the
+    // faults.
     fn conclude(
         self,
         alloc: A,
@@ -118,7 +119,7 @@ impl<A: Allocator + Copy> Held<A> {
         Err(fault)
     }
 
-    // What is said of the faults.
+    // The report of the faults.
     fn said(&self, alloc: A, is_broken: bool) -> Result<Vec<u8, A>, Memory>
         requires { self.now.counted.reader.end ≤ length self.now.input.bytes }
         ensures { IfOk result (λ text. IsSaidOf self.now.input.bytes is_broken self.now.counted text.items) }
@@ -138,8 +139,8 @@ impl<A: Allocator + Copy> Held<A> {
     }
 }
 
-// Where the whole lines of the bytes end; their own end, where what stands after them is too long for a line, and
-// enough of it is there to be shown.
+// The end of the whole lines of the bytes; the end of the bytes, if the rest after these lines is too long for a line
+// and long enough to be printed.
 fn lines_end(bytes: &[u8]) -> usize
     ensures { result ≤ length bytes.now }
 {
@@ -154,8 +155,8 @@ fn lines_end(bytes: &[u8]) -> usize
     }
 }
 
-// Takes an input, and checks it as it comes: to its end, or, where the first fault alone is asked for, up to one that
-// nothing mends which follows. What is said of faults in this form is appended.
+// Takes an input and checks it as its bytes arrive: to its end or, if only the first fault is asked for, up to a
+// fault that no later bytes mend. Appends the report of the faults in this form.
 pub(crate) fn take_checked<A: Allocator + Copy, I: InputStream>(
     alloc: A,
     is_all: bool,

@@ -1,4 +1,4 @@
-// What is said of the slips of an input.
+// The warnings of an input.
 ghost use Rattle.std.specs.Prelude.{◌≡◌, ◌++◌, IfOk, OnOk};
 ghost use Rattle.std.specs.List.{flat_map};
 ghost use Rattle.he_check.specs.Sentences.{sentence_of, warning_text};
@@ -7,7 +7,7 @@ use crate::slips::{Slip, Warning};
 use he_addr::{Family, Memory, write_number};
 use std::alloc::Allocator;
 
-// A line for each of the warnings.
+// Appends a line for each warning.
 pub(crate) fn tell_warnings<A: Allocator + Copy>(
     alloc: A,
     warnings: &[Warning],
@@ -35,7 +35,7 @@ fn append_warning<A: Allocator + Copy>(
     Ok(())
 }
 
-// What the slip comes to, and what to do.
+// The consequence of the slip, and the remedy.
 pub(crate) fn sentence(slip: Slip) -> &'static [u8]
     ensures { result.now ≡ sentence_of slip }
 {

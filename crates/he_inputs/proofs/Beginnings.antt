@@ -1,4 +1,4 @@
--- What is wrong with a text is wrong with each longer one, unless what follows may mend it.
+-- What is wrong with the text of a race is wrong with each longer one, unless what follows may mend it.
 use Rattle.std.proofs.Common.{◌≡◌, ℕ, ◌+◌, ◌<◌, ◌≤◌, Bool, true, false, cond, ltb, eqb, List, [], ◌∷◌, ◌++◌, length, Option, Some, None, Result, Ok, Err, refl, sym, ◌∙◌, ap, subst, inl, inr, arith, append_assoc}
 use Rattle.std.specs.Prelude.{◌⊎◌, MatchOption}
 use Rattle.std.specs.List.{onto_first}
@@ -13,7 +13,7 @@ use Rattle.he_words.specs.declared.fault.TextKind.TheVariants as kinds
 use Rattle.he_words.specs.declared.limits.TheConstants.{MAX_LINE}
 use Rattle.he_words.specs.declared.words.Version.{Version}
 use Rattle.he_words.specs.declared.words.Word.{Word}
-use Rattle.he_inputs.specs.Beginnings.{FaultStands, IsGroupFaultAtEnd, MayBecome, MayChange, awaited}
+use Rattle.he_inputs.specs.Beginnings.{IsGroupFaultAtEnd, MayBecome, MayChange, awaited}
 use Rattle.he_reading.specs.Faults.{test, first_fault, last_group, known_to, said_before, too_long, unfinished, wrong_header, wrong_word, too_often, wrong_bounds, repeated, is_next, group_fault, wrong_group, of_said, header_fault, version_on, line_fault, ends}
 use Rattle.he_reading.specs.FaultSearch.{at_line_number, fault_from, fault_in, fault_of}
 use Rattle.he_reading.specs.Forms.{version_word, said_from}
@@ -23,6 +23,10 @@ use Rattle.he_reading.specs.Text.{IsRaceText}
 use Rattle.he_reading.proofs.CompleteTexts.{no_longer}
 use Rattle.he_inputs.proofs.GroupFaults.{IsGroupFault, is_group_fault}
 use Rattle.he_inputs.proofs.OpenLines.{Open, both_last, may_become_or_not, one_in_front, open_lacks, open_of}
+
+-- the fault of every text of a race that begins with these bytes
+abbrev pub RaceFaultStands : List ℕ → ℕ → TextKind → Type 0
+RaceFaultStands text n kind = (more : List ℕ) → fault_of (text ++ more) ≡ Some (n, kind)
 
 -- the lines of a longer text: the last one goes on, and others may follow
 abbrev pub GoOn : List (List ℕ) → List (List ℕ) → Type 0
@@ -173,7 +177,7 @@ longer_line last line longer long =
     let above = ltb-true MAX_LINE (length last) long in
     ap (λ b. test b kinds.TooMany) (lt-ltb MAX_LINE (length line) (omega arith))
 
-last_line : (v : Version) → (before : List (List ℕ)) (last line : List ℕ) (more : List (List ℕ)) → length last ≤ length line
+pub last_line : (v : Version) → (before : List (List ℕ)) (last line : List ℕ) (more : List (List ℕ)) → length last ≤ length line
     → ((line_fault v before last [] ≡ Some kinds.TooMany) × (line_fault v before line more ≡ Some kinds.TooMany)) ⊎ (line_fault v before last [] ≡ Some kinds.Unfinished)
 unfolding line_fault
 last_line v before last line more longer = elim (long_or_open (ltb MAX_LINE (length last)) (later_checks v before last [])) [
@@ -234,7 +238,7 @@ pub number_is : (n m : ℕ) (k kind : TextKind) → ◌≡◌ {A = Option (ℕ �
 number_is n m k kind h =
     (ap (λ (o : Option (ℕ × TextKind)). option_map_or (λ p. p.0) o 0) h, ap (λ (o : Option (ℕ × TextKind)). option_map_or (λ p. p.1) o kinds.Header) h)
 
-only : (n m : ℕ) (k kind : TextKind) (o : Option TextKind) (later : Option (ℕ × TextKind)) → o ≡ Some k → at_line_number n o later ≡ Some (m, kind) → ◌≡◌ {A = Option (ℕ × TextKind)} (Some (n, k)) (Some (m, kind))
+pub only : (n m : ℕ) (k kind : TextKind) (o : Option TextKind) (later : Option (ℕ × TextKind)) → o ≡ Some k → at_line_number n o later ≡ Some (m, kind) → ◌≡◌ {A = Option (ℕ × TextKind)} (Some (n, k)) (Some (m, kind))
 only n m k kind o later e h = ap (λ f. at_line_number n f later) (sym e) ∙ h
 
 from_stands : (v : Version) → (n : ℕ) (before lines longer : List (List ℕ)) (m : ℕ) (kind : TextKind) → GoOn lines longer → fault_from v n before lines ≡ Some (m, kind)
@@ -328,7 +332,7 @@ more_follow line [] (next ∷ more) on = refl
 more_follow line (other ∷ lines) [] on = absurd on
 more_follow line (other ∷ lines) (next ∷ more) on = refl
 
-last_header : (last line : List ℕ) (more : List (List ℕ)) → length last ≤ length line
+pub last_header : (last line : List ℕ) (more : List (List ℕ)) → length last ≤ length line
     → ((header_fault last [] ≡ Some kinds.TooMany) × (header_fault line more ≡ Some kinds.TooMany)) ⊎ (header_fault last [] ≡ Some kinds.Unfinished)
 last_header last line more longer = elim (long_or_open (ltb MAX_LINE (length last)) (wrong_header last ∷ [])) [
   | inl long ↦ inl (long.1, ap (λ o. first_fault (o ∷ unfinished more ∷ wrong_header line ∷ [])) (longer_line last line longer long.0))
@@ -381,7 +385,7 @@ in_later (line ∷ next ∷ lines) (other ∷ more) m kind on h =
     by_fault None found = from_later (version_on line) 2 [] (next ∷ lines) more m kind on.1 found
 
 -- whether what follows may mend the fault
-by_kind : (kind : TextKind) → (kind ≡ kinds.Unfinished) ⊎ (kind ≡ kinds.Unfinished → ⊥)
+pub by_kind : (kind : TextKind) → (kind ≡ kinds.Unfinished) ⊎ (kind ≡ kinds.Unfinished → ⊥)
 by_kind kinds.Header = inr (λ e. cc)
 by_kind kinds.Word = inr (λ e. cc)
 by_kind kinds.Number = inr (λ e. cc)
@@ -477,7 +481,7 @@ may_or_not text n kind = elim (by_kind kind) [
   ]
 ]
 
-pub stands : (text : List ℕ) (n : ℕ) (kind : TextKind) → fault_of text ≡ Some (n, kind) → MayChange text n kind ⊎ FaultStands text n kind
+pub stands : (text : List ℕ) (n : ℕ) (kind : TextKind) → fault_of text ≡ Some (n, kind) → MayChange text n kind ⊎ RaceFaultStands text n kind
 stands text n kind h = elim (may_or_not text n kind) [
   | inl may ↦ inl may
   | inr never ↦ inr (λ more. elim (in_stands (lines_of text) (lines_of (text ++ more)) n kind (parts_go_on 10 text more) h) [

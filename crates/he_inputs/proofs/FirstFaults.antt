@@ -81,20 +81,20 @@ nothing_before after = λ front line more h. absurd (no_line line more front h)
     no_line line more [] h = cc
     no_line line more (f ∷ front) h = cc
 
-pub first_fault_is : (text : List ℕ) (m : ℕ) (kind : TextKind) → fault_of text ≡ Some (m, kind) → IsFirstFaultOf text m kind
+pub first_fault_in : (lines : List (List ℕ)) (m : ℕ) (kind : TextKind) → 0 < length lines → fault_in lines ≡ Some (m, kind) → IsFirstFault lines m kind
 unfolding fault_in
-first_fault_is text m kind h = by_lines (lines_of text) (omega (arith, length-slice_split (λ b. b == 10) text)) h
+first_fault_in [] m kind some h = absurd (omega arith)
+first_fault_in (line ∷ after) m kind some h = by_fault (header_fault line after) refl h
   where
-    by_fault : (line : List ℕ) (after : List (List ℕ)) (o : Option TextKind) → header_fault line after ≡ o → at_line_number 1 o (fault_from (version_on line) 2 [] after) ≡ Some (m, kind) → IsFirstFault (line ∷ after) m kind
-    by_fault line after None e found =
+    by_fault : (o : Option TextKind) → header_fault line after ≡ o → at_line_number 1 o (fault_from (version_on line) 2 [] after) ≡ Some (m, kind) → IsFirstFault (line ∷ after) m kind
+    by_fault None e found =
         from_first 2 line [] after (line ∷ after) m kind refl refl (header_follows line after e) (right_more [] line after (nothing_before (line ∷ after)) e refl) found
-    by_fault line after (Some k) e found =
+    by_fault (Some k) e found =
         let same = number_is 1 m k kind found in
         record { before = []; line = line; after = after; parts = refl; number = sym same.0; right = nothing_before (line ∷ after); fails = e ∙ ap Some same.1 }
 
-    by_lines : (lines : List (List ℕ)) → 0 < length lines → fault_in lines ≡ Some (m, kind) → IsFirstFault lines m kind
-    by_lines [] some e = absurd (omega arith)
-    by_lines (line ∷ after) some e = by_fault line after (header_fault line after) refl e
+pub first_fault_is : (text : List ℕ) (m : ℕ) (kind : TextKind) → fault_of text ≡ Some (m, kind) → IsFirstFaultOf text m kind
+first_fault_is text m kind h = first_fault_in (lines_of text) m kind (omega (arith, length-slice_split (λ b. b == 10) text)) h
 
 -- and back
 at_fault : (n : ℕ) (o : Option TextKind) (kind : TextKind) (later : Option (ℕ × TextKind)) → o ≡ Some kind → at_line_number n o later ≡ Some (n, kind)
@@ -118,9 +118,9 @@ from_back n first passed (l ∷ before) line after kind right fails =
     ∙ from_back (n + 1) first (passed ++ l ∷ []) before line after kind (subst R more right) (subst F more fails)
     ∙ ap (λ (k : ℕ). Some (k, kind)) size
 
-pub is_first_fault : (text : List ℕ) (m : ℕ) (kind : TextKind) → IsFirstFaultOf text m kind → fault_of text ≡ Some (m, kind)
+pub in_first_fault : (lines : List (List ℕ)) (m : ℕ) (kind : TextKind) → IsFirstFault lines m kind → fault_in lines ≡ Some (m, kind)
 unfolding fault_in
-is_first_fault text m kind is = ap fault_in is.parts ∙ by_before is.before is.right is.fails ∙ ap (λ (k : ℕ). Some (k, kind)) (sym is.number)
+in_first_fault lines m kind is = ap fault_in is.parts ∙ by_before is.before is.right is.fails ∙ ap (λ (k : ℕ). Some (k, kind)) (sym is.number)
   where
     by_before : (before : List (List ℕ)) → GoOnRight before (is.line ∷ is.after) → fault_on before is.line is.after ≡ Some kind → fault_in (before ++ is.line ∷ is.after) ≡ Some (length before + 1, kind)
     by_before [] right fails = at_fault 1 (header_fault is.line is.after) kind _ fails
@@ -130,3 +130,6 @@ is_first_fault text m kind is = ap fault_in is.parts ∙ by_before is.before is.
         ap (λ o. at_line_number 1 o (fault_from (version_on first) 2 [] (before ++ is.line ∷ is.after))) here.0
         ∙ from_back 2 first [] before is.line is.after kind right fails
         ∙ ap (λ (k : ℕ). Some (k, kind)) size
+
+pub is_first_fault : (text : List ℕ) (m : ℕ) (kind : TextKind) → IsFirstFaultOf text m kind → fault_of text ≡ Some (m, kind)
+is_first_fault text m kind is = in_first_fault (lines_of text) m kind is

@@ -8,5 +8,8 @@ mod Mending
 mod OneInput
 mod OneRaceLaws
 mod OpenLines
+mod PlainTexts
 pub mod RaceReadingLaws
 pub mod RaceStreamLaws
+mod RecordedFaults
+pub mod RecordedTexts

@@ -1,26 +1,23 @@
--- What may follow a text mends a fault that may change.
-use Rattle.std.proofs.Common.{◌≡◌, ℕ, ◌+◌, ◌<◌, ◌≤◌, Bool, true, false, cond, eqb, List, [], ◌∷◌, ◌++◌, length, replicate, Option, Some, None, Result, Ok, Err, refl, sym, ◌∙◌, ap, subst, inl, inr, arith, append_assoc}
+-- What may follow the text of a race mends the fault of a group; and only the last line is unfinished.
+use Rattle.std.proofs.Common.{◌≡◌, ℕ, ◌+◌, ◌<◌, ◌≤◌, Bool, true, false, cond, eqb, List, [], ◌∷◌, ◌++◌, length, Option, Some, None, Result, Ok, Err, refl, sym, ◌∙◌, ap, subst, inl, inr, arith, append_assoc}
 use Rattle.std.specs.Prelude.{◌⊎◌}
 use Rattle.std.specs.List.{AllByRecursion}
 use Rattle.std.specs.Result.{result_err}
-use Rattle.std.proofs.lemmas.Bool.{lt-ltb}
-use Rattle.std.proofs.lemmas.List.{length-append, length-replicate, get_or-replicate}
-use Rattle.std.proofs.lemmas.List.Splits.{slice_split_none}
+use Rattle.std.proofs.lemmas.List.{length-append}
 use Rattle.he_addr.specs.declared.ip.Ip.{Ip}
 use Rattle.he_words.specs.declared.fault.TextKind.{TextKind}
 use Rattle.he_words.specs.declared.fault.TextKind.TheVariants as kinds
-use Rattle.he_words.specs.declared.limits.TheConstants.{MAX_LINE}
 use Rattle.he_words.specs.declared.words.Version.{Version}
 use Rattle.he_words.specs.declared.words.Word.{Word}
 use Rattle.he_words.specs.declared.words.Word.TheVariants as words
-use Rattle.he_inputs.specs.Beginnings.{FaultChanges, IsGroupFaultAtEnd, MayChange, awaited}
-use Rattle.he_reading.specs.Faults.{test, first_fault, last_group, known_to, lines_with, excess, said_before, too_long, unfinished, wrong_header, version_on, wrong_word, too_often, wrong_bounds, repeated, is_next, wrong_group, of_said, line_fault, ends}
+use Rattle.he_inputs.specs.Beginnings.{IsGroupFaultAtEnd, awaited}
+use Rattle.he_reading.specs.Faults.{test, first_fault, last_group, known_to, lines_with, excess, said_before, too_long, unfinished, header_fault, wrong_header, version_on, wrong_word, too_often, wrong_bounds, repeated, is_next, wrong_group, of_said, line_fault, ends}
 use Rattle.he_reading.specs.FaultSearch.{at_line_number, fault_from, fault_in, fault_of}
 use Rattle.he_reading.specs.Forms.{version_word, said_from}
 use Rattle.he_reading.specs.Parts.{lines_of, tokens_of}
 use Rattle.he_reading.specs.Said.{Said, word_said, Setting, PolicyRow, HostSource, HostRoute, Answer, RoundTrip, UsedBefore, OutcomeOf, Paused, Ended}
 use Rattle.he_words.specs.Words.{group_of, most_lines}
-use Rattle.he_inputs.proofs.Beginnings.{GoOn, NotBefore, early, from_here, group_of_line, later_checks, line_mends, line_passes, number_is, unless_ended, weaker}
+use Rattle.he_inputs.proofs.Beginnings.{GoOn, NotBefore, early, from_here, group_of_line, last_header, last_line, line_mends, line_passes, number_is, only, unless_ended, weaker}
 use Rattle.he_inputs.proofs.FormKinds.{IsOwn}
 use Rattle.he_inputs.proofs.GroupFaults.{IsGroupFault, error_waits, is_group_fault, line_waits, says_own}
 use Rattle.he_inputs.proofs.OpenLines.{Open, both_last, front_part, open_lacks, open_of, some_part}
@@ -229,17 +226,7 @@ mended_in (header ∷ front) line rest first others m kind word le waits is coun
     by_fault (Some k) e found = let same = number_is 1 m k kind found in absurd (omega (arith, same.0))
     by_fault None e found = mended_from (version_on header) 2 [] front line rest first others m kind word le waits is (omega arith) found
 
--- where the last line becomes too long, the text is no more unfinished
-long_line : (line : List ℕ) → MAX_LINE < length line → too_long line ≡ Some kinds.TooMany
-long_line line lt = ap (λ b. test b kinds.TooMany) (lt-ltb MAX_LINE (length line) lt)
-
-long_fault : (v : Version) → (before : List (List ℕ)) (line : List ℕ) (after : List (List ℕ)) → MAX_LINE < length line → line_fault v before line after ≡ Some kinds.TooMany
-unfolding line_fault
-long_fault v before line after long = ap (λ o. first_fault (o ∷ unfinished after ∷ later_checks v before line after)) (long_line line long)
-
-abbrev IsTooLong : Option (ℕ × TextKind) → Type 0
-IsTooLong fault = (line : ℕ) × (fault ≡ Some (line, kinds.TooMany))
-
+-- only the line in which a text ends is unfinished
 not_unfinished : (v : Version) → (before : List (List ℕ)) (line next : List ℕ) (lines : List (List ℕ)) → line_fault v before line (next ∷ lines) ≡ Some kinds.Unfinished → ⊥
 not_unfinished v before line next lines h = elim (line_kinds v before line next lines kinds.Unfinished h) [
   | inl own ↦ absurd own.0
@@ -248,70 +235,50 @@ not_unfinished v before line next lines h = elim (line_kinds v before line next 
       let wrong : None ≡ Some (word_said fault.s) = fault.waits_is in cc
 ]
 
-longer_from : (v : Version) → (n : ℕ) (before whole : List (List ℕ)) (rest longer : List ℕ) (m : ℕ) → length rest ≤ length longer → MAX_LINE < length longer
-    → fault_from v n before (whole ++ rest ∷ []) ≡ Some (m, kinds.Unfinished) → IsTooLong (fault_from v n before (whole ++ longer ∷ []))
+last_from : (v : Version) → (n : ℕ) (before lines : List (List ℕ)) (m : ℕ) → 0 < length lines → fault_from v n before lines ≡ Some (m, kinds.Unfinished) → m + 1 ≡ n + length lines
 unfolding fault_from
-longer_from v n before [] rest longer m le long h = (n, ap (λ o. at_line_number n o (cond (ends longer) None (fault_from v (n + 1) (before ++ longer ∷ []) []))) (long_fault v before longer [] long))
-longer_from v n before (line ∷ whole) rest longer m le long h =
-    let after = some_lines whole rest in
-    by_fault after.0 after.1 after.2 (λ e. longer_from v (n + 1) (before ++ line ∷ []) whole rest longer m le long e) (line_fault v before line (whole ++ rest ∷ [])) refl h
+last_from v n before [] m some h = absurd (omega arith)
+last_from v n before (line ∷ []) m some h = elim (last_line v before line line [] (omega arith)) [
+  | inl long ↦
+      let is = number_is n m kinds.TooMany kinds.Unfinished (only n m kinds.TooMany kinds.Unfinished (line_fault v before line []) _ long.0 h) in
+      let wrong : kinds.TooMany ≡ kinds.Unfinished = is.1 in cc
+  | inr rest ↦ let is = number_is n m kinds.Unfinished kinds.Unfinished (only n m kinds.Unfinished kinds.Unfinished (line_fault v before line []) _ rest h) in omega (arith, is.0)
+]
+last_from v n before (line ∷ next ∷ lines) m some h =
+    by_fault (λ e. last_from v (n + 1) (before ++ line ∷ []) (next ∷ lines) m (omega arith) e) (line_fault v before line (next ∷ lines)) refl h
   where
-    some_lines : (whole : List (List ℕ)) (rest : List ℕ) → (next : List ℕ) × (lines : List (List ℕ)) × (whole ++ rest ∷ [] ≡ next ∷ lines)
-    some_lines [] rest = (rest, [], refl)
-    some_lines (next ∷ whole) rest = (next, whole ++ rest ∷ [], refl)
-
-    by_end : (fault_from v (n + 1) (before ++ line ∷ []) (whole ++ rest ∷ []) ≡ Some (m, kinds.Unfinished) → IsTooLong (fault_from v (n + 1) (before ++ line ∷ []) (whole ++ longer ∷ [])))
-        → (b : Bool) → cond b None (fault_from v (n + 1) (before ++ line ∷ []) (whole ++ rest ∷ [])) ≡ Some (m, kinds.Unfinished)
-        → IsTooLong (cond b None (fault_from v (n + 1) (before ++ line ∷ []) (whole ++ longer ∷ [])))
+    by_end : (fault_from v (n + 1) (before ++ line ∷ []) (next ∷ lines) ≡ Some (m, kinds.Unfinished) → m + 1 ≡ (n + 1) + length (next ∷ lines))
+        → (b : Bool) → cond b None (fault_from v (n + 1) (before ++ line ∷ []) (next ∷ lines)) ≡ Some (m, kinds.Unfinished) → m + 1 ≡ n + length (line ∷ next ∷ lines)
     by_end later true e = cc
-    by_end later false e = later e
+    by_end later false e = let is = later e in omega arith
 
-    by_fault : (next : List ℕ) (lines : List (List ℕ)) → whole ++ rest ∷ [] ≡ next ∷ lines
-        → (fault_from v (n + 1) (before ++ line ∷ []) (whole ++ rest ∷ []) ≡ Some (m, kinds.Unfinished) → IsTooLong (fault_from v (n + 1) (before ++ line ∷ []) (whole ++ longer ∷ [])))
-        → (o : Option TextKind) → line_fault v before line (whole ++ rest ∷ []) ≡ o
-        → at_line_number n o (cond (ends line) None (fault_from v (n + 1) (before ++ line ∷ []) (whole ++ rest ∷ []))) ≡ Some (m, kinds.Unfinished)
-        → IsTooLong (fault_from v n before (line ∷ whole ++ longer ∷ []))
-    by_fault next lines after later None e found =
-        let Q : Option TextKind → Type 0 = λ o. IsTooLong (at_line_number n o (cond (ends line) None (fault_from v (n + 1) (before ++ line ∷ []) (whole ++ longer ∷ [])))) in
-        subst Q (sym (line_passes v before line (whole ++ rest ∷ []) (whole ++ longer ∷ []) (go_on whole rest longer [] le) e)) (by_end later (ends line) found)
-    by_fault next lines after later (Some k) e found =
-        let same = number_is n m k kinds.Unfinished found in
-        absurd (not_unfinished v before line next lines (ap (line_fault v before line) (sym after) ∙ e ∙ ap Some same.1))
+    by_fault : (fault_from v (n + 1) (before ++ line ∷ []) (next ∷ lines) ≡ Some (m, kinds.Unfinished) → m + 1 ≡ (n + 1) + length (next ∷ lines))
+        → (o : Option TextKind) → line_fault v before line (next ∷ lines) ≡ o
+        → at_line_number n o (cond (ends line) None (fault_from v (n + 1) (before ++ line ∷ []) (next ∷ lines))) ≡ Some (m, kinds.Unfinished) → m + 1 ≡ n + length (line ∷ next ∷ lines)
+    by_fault later None e found = by_end later (ends line) found
+    by_fault later (Some k) e found = let same = number_is n m k kinds.Unfinished found in absurd (not_unfinished v before line next lines (e ∙ ap Some same.1))
 
-longer_in : (whole : List (List ℕ)) (rest longer : List ℕ) (m : ℕ) → length rest ≤ length longer → MAX_LINE < length longer → fault_in (whole ++ rest ∷ []) ≡ Some (m, kinds.Unfinished)
-    → IsTooLong (fault_in (whole ++ longer ∷ []))
+pub last_in : (lines : List (List ℕ)) (m : ℕ) → 0 < length lines → fault_in lines ≡ Some (m, kinds.Unfinished) → m ≡ length lines
 unfolding fault_in
-longer_in [] rest longer m le long h = (1, ap (λ o. at_line_number 1 (first_fault (o ∷ unfinished [] ∷ wrong_header longer ∷ [])) (fault_from (version_on longer) 2 [] [])) (long_line longer long))
-longer_in (line ∷ whole) rest longer m le long h =
-    let P : Option TextKind → Type 0 = λ u. at_line_number 1 (first_fault (too_long line ∷ u ∷ wrong_header line ∷ [])) (fault_from (version_on line) 2 [] (whole ++ rest ∷ [])) ≡ Some (m, kinds.Unfinished) in
-    let Q : Option TextKind → Type 0 = λ u. IsTooLong (at_line_number 1 (first_fault (too_long line ∷ u ∷ wrong_header line ∷ [])) (fault_from (version_on line) 2 [] (whole ++ longer ∷ []))) in
-    subst Q (sym (some_follow whole longer [])) (by_fault (first_fault (too_long line ∷ None ∷ wrong_header line ∷ [])) refl (subst P (some_follow whole rest []) h))
+last_in [] m some h = absurd (omega arith)
+last_in (line ∷ []) m some h = elim (last_header line line [] (omega arith)) [
+  | inl long ↦
+      let is = number_is 1 m kinds.TooMany kinds.Unfinished (only 1 m kinds.TooMany kinds.Unfinished (header_fault line []) _ long.0 h) in
+      let wrong : kinds.TooMany ≡ kinds.Unfinished = is.1 in cc
+  | inr rest ↦ let is = number_is 1 m kinds.Unfinished kinds.Unfinished (only 1 m kinds.Unfinished kinds.Unfinished (header_fault line []) _ rest h) in omega (arith, is.0)
+]
+last_in (line ∷ next ∷ lines) m some h = by_fault (first_fault (too_long line ∷ None ∷ wrong_header line ∷ [])) refl h
   where
-    by_fault : (o : Option TextKind) → first_fault (too_long line ∷ None ∷ wrong_header line ∷ []) ≡ o → at_line_number 1 o (fault_from (version_on line) 2 [] (whole ++ rest ∷ [])) ≡ Some (m, kinds.Unfinished)
-        → IsTooLong (at_line_number 1 o (fault_from (version_on line) 2 [] (whole ++ longer ∷ [])))
+    by_fault : (o : Option TextKind) → first_fault (too_long line ∷ None ∷ wrong_header line ∷ []) ≡ o → at_line_number 1 o (fault_from (version_on line) 2 [] (next ∷ lines)) ≡ Some (m, kinds.Unfinished)
+        → m ≡ length (line ∷ next ∷ lines)
     by_fault (Some k) e found = let same = number_is 1 m k kinds.Unfinished found in absurd (header_own line kinds.Unfinished (e ∙ ap Some same.1)).0
-    by_fault None e found = longer_from (version_on line) 2 [] whole rest longer m le long found
+    by_fault None e found = let is = last_from (version_on line) 2 [] (next ∷ lines) m (omega arith) found in omega arith
 
--- more bytes than a line may have, none of them a line end
-filling : List ℕ
-filling = replicate (MAX_LINE + 1) 0
+-- some text of a race that begins with these bytes has not this fault
+abbrev pub RaceFaultChanges : List ℕ → ℕ → TextKind → Type 0
+RaceFaultChanges text n kind = (more : List ℕ) × (fault_of (text ++ more) ≡ Some (n, kind) → ⊥)
 
-filling_lines : lines_of filling ≡ filling ∷ []
-unfolding filling
-filling_lines = slice_split_none (λ b. eqb b 10) filling (λ k d lt. ap (λ b. eqb b 10) (get_or-replicate (MAX_LINE + 1) k 0 d (omega (arith, length-replicate {A = ℕ} (MAX_LINE + 1) 0))))
-
-unfinished_changes : (text : List ℕ) (n : ℕ) → fault_of text ≡ Some (n, kinds.Unfinished) → FaultChanges text n kinds.Unfinished
-unfolding filling
-unfinished_changes text n h =
-    let ending : Open 10 text = open_of 10 text in
-    let longer : lines_of (text ++ filling) ≡ ending.whole ++ (ending.rest ++ filling) ∷ [] =
-    ending.grows filling ∙ ap (λ ps. ending.whole ++ ps) (front_part 10 ending.rest filling filling [] (open_lacks 10 text) filling_lines) in
-    let size = length-append ending.rest filling in
-    let long = length-replicate {A = ℕ} (MAX_LINE + 1) 0 in
-    let told = longer_in ending.whole ending.rest (ending.rest ++ filling) n (omega arith) (omega arith) (sym (ap fault_in ending.parts) ∙ h) in
-    (filling, λ same. let other = number_is told.0 n kinds.TooMany kinds.Unfinished (sym (ap fault_in longer ∙ told.1) ∙ same) in let wrong : kinds.TooMany ≡ kinds.Unfinished = other.1 in cc)
-
-group_changes : (text : List ℕ) (n : ℕ) (kind : TextKind) → IsGroupFaultAtEnd text n kind → fault_of text ≡ Some (n, kind) → FaultChanges text n kind
+pub group_changes : (text : List ℕ) (n : ℕ) (kind : TextKind) → IsGroupFaultAtEnd text n kind → fault_of text ≡ Some (n, kind) → RaceFaultChanges text n kind
 group_changes text n kind fault h = (
   fault.may.0,
   λ same.
@@ -333,9 +300,3 @@ group_changes text n kind fault h = (
       let wrong : n + 1 ≤ n = subst B (sym (ap fault_in longer) ∙ same) later in
       absurd (omega arith),
 )
-
-pub mendable_changes : (text : List ℕ) (n : ℕ) (kind : TextKind) → fault_of text ≡ Some (n, kind) → MayChange text n kind → FaultChanges text n kind
-mendable_changes text n kind h (inl unfinished) =
-    let F : TextKind → Type 0 = FaultChanges text n in
-    subst F (sym unfinished) (unfinished_changes text n (h ∙ ap (λ k. Some (n, k)) unfinished))
-mendable_changes text n kind h (inr fault) = group_changes text n kind fault h

@@ -5,17 +5,16 @@ use Rattle.std.specs.Option.{option_map_or}
 use Rattle.he_timeline.specs.Race.{Race}
 use Rattle.he_words.specs.declared.fault.TextKind.{TextKind}
 use Rattle.he_inputs.specs.declared.input_fault.InputFault.{InputFault}
-use Rattle.he_reading.specs.FaultSearch.{fault_of}
 use Rattle.he_inputs.specs.Inputs.{AreRaceTexts, HasRaces, IsFaultBehind, fault_behind, line_count}
 use Rattle.he_reading.specs.Parts.{lines_of}
 use Rattle.he_words.specs.Ranges.{most_races}
-use Rattle.he_reading.specs.Text.{BeginsWithRace, IsRaceText}
 use Rattle.he_words.specs.Words.{header_of}
+use Rattle.he_inputs.specs.Recorded.{BeginsRecorded, IsRecordedText, recorded_fault}
 
-no_race_in_nothing : BeginsWithRace [] → ⊥
-no_race_in_nothing (front, rest, race, is, text) =
-    let none : length front ≡ 0 = let all = ap length is in omega (arith, length-append front rest) in
-    no_lines front none (header_of text.version) text.lines text.parts
+no_race_in_nothing : BeginsRecorded [] → ⊥
+no_race_in_nothing (front, rest, race, is, (said, text)) =
+    let none : length text.rest ≡ 0 = let all = ap length is in let parts = ap length text.parts in omega (arith, all, parts, length-append front rest, length-append text.front text.rest) in
+    no_lines text.rest none (header_of text.is.version) text.is.lines text.is.parts
   where
     no_lines : (front : List ℕ) → length front ≡ 0 → (header : List ℕ) (lines : List (List ℕ)) → lines_of front ≡ header ∷ lines ++ codes "end" ∷ [] ∷ [] → ⊥
     no_lines [] none header lines parts = let long = ap length parts in omega (arith, length-append lines (codes "end" ∷ [] ∷ []))
@@ -31,20 +30,20 @@ same_fault is_broken count lines (byte ∷ rest) fault other (inr (few, found, i
     told ∙ ap (λ f. Some (fault_behind is_broken lines f)) same ∙ sym other_told
 
 module _
-    (one_first : (front rest other_front other_rest : List ℕ) (race other : Race) → IsRaceText front race → IsRaceText other_front other → front ++ rest ≡ other_front ++ other_rest → (front ≡ other_front) × (race ≡ other))
-    (begins : (text : List ℕ) → BeginsWithRace text ↔ (fault_of text ≡ None))
+    (one_first : (front rest other_front other_rest : List ℕ) (race other : Race) → IsRecordedText front race → IsRecordedText other_front other → front ++ rest ≡ other_front ++ other_rest → (front ≡ other_front) × (race ≡ other))
+    (begins : (text : List ℕ) → BeginsRecorded text ↔ (recorded_fault text ≡ None))
   where
     -- a race may follow only where there are as many as may be
-    closed : (is_broken : Bool) (count lines : ℕ) (rest : List ℕ) (fault : Option InputFault) → IsFaultBehind is_broken count lines rest fault → BeginsWithRace rest → count ≡ most_races
+    closed : (is_broken : Bool) (count lines : ℕ) (rest : List ℕ) (fault : Option InputFault) → IsFaultBehind is_broken count lines rest fault → BeginsRecorded rest → count ≡ most_races
     closed is_broken count lines [] fault is race = absurd (no_race_in_nothing race)
     closed is_broken count lines (byte ∷ rest) fault (inl is) race = is.0
     closed is_broken count lines (byte ∷ rest) fault (inr (few, found, is, told)) race =
-        let none : fault_of (byte ∷ rest) ≡ None = (begins (byte ∷ rest)).0 race in
+        let none : recorded_fault (byte ∷ rest) ≡ None = (begins (byte ∷ rest)).0 race in
         let bad : None ≡ Some found = sym none ∙ is in
         cc
 
     same_races : (n : ℕ) (races others : List Race) (front rest other_front other_rest : List ℕ) → AreRaceTexts races front → AreRaceTexts others other_front → front ++ rest ≡ other_front ++ other_rest
-        → (BeginsWithRace rest → n + length races ≡ most_races) → (BeginsWithRace other_rest → n + length others ≡ most_races) → n + length races ≤ most_races → n + length others ≤ most_races
+        → (BeginsRecorded rest → n + length races ≡ most_races) → (BeginsRecorded other_rest → n + length others ≡ most_races) → n + length races ≤ most_races → n + length others ≤ most_races
         → (races ≡ others) × (front ≡ other_front) × (rest ≡ other_rest)
     same_races n [] [] front rest other_front other_rest none other_none same ends other_ends few other_few =
         (refl, none ∙ sym other_none, ap (λ f. f ++ rest) (sym none) ∙ same ∙ ap (λ f. f ++ other_rest) other_none)

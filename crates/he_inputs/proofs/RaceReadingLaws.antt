@@ -1,8 +1,8 @@
 -- Readers of an input: what they passed, and what is told where they stop.
 use Rattle.std.proofs.Common.{ℕ, ◌≡◌, ◌⊎◌, ◌+◌, ◌-◌, ◌<◌, ◌≤◌, ◌==◌, ◌++◌, List, [], ◌∷◌, length, take, drop, Bool, true, false, Option, Some, None, Result, Ok, Err, sym, ◌∙◌, ap, subst, refl, arith, append_assoc, inl, inr, length-append, length-drop, take-append-drop}
 use Rattle.std.specs.List.{slice_range}
-use Rattle.std.specs.Prelude.{IfErr, IsErr, IsErrAnd}
-use Rattle.std.proofs.lemmas.List.{append-nil, take_rest}
+use Rattle.std.specs.Prelude.{IfErr, IfOk, IsErr, IsErrAnd, map, option_map}
+use Rattle.std.proofs.lemmas.List.{append-nil, length-map, length-take-le, take_rest}
 use Rattle.std.proofs.lemmas.List.Splits.{length-slice_split}
 use Rattle.std.proofs.lemmas.List.Sums.{count_by-le-length, sum_by-append}
 use Rattle.std.proofs.Math.Seq.{take-add}
@@ -15,7 +15,7 @@ use Rattle.he_reading.specs.Parts.{lines_of}
 use Rattle.he_words.specs.Ranges.{most_races}
 use Rattle.he_reading.specs.Reading.{ReadsFirst}
 use Rattle.he_reading.specs.Text.{IsLineOf, IsRaceText, TellsFault}
-use Rattle.he_inputs.specs.RaceReadingSteps.{HasFirst, IsWrong, breaks, not_one}
+use Rattle.he_inputs.specs.RaceReadingSteps.{FailsRecorded, HasFirst, IsWrong, ReadsRecorded, breaks, not_one}
 use Rattle.he_inputs.specs.RaceReading.{EndsAt, HasPassed, IsNextOf, IsReaderFault, IsWithin, MayFollow, PassesRace, ending_of}
 use Rattle.he_words.specs.declared.fault.TextFault.{TextFault}
 use Rattle.he_words.specs.declared.fault.TextKind.{TextKind}
@@ -28,7 +28,16 @@ use Rattle.he_inputs.specs.declared.race_reader.RaceReader.{RaceReader}
 use Rattle.he_inputs.specs.declared.race_reader.RaceReaderFault.{RaceReaderFault}
 use Rattle.he_inputs.specs.declared.race_reader.RaceReaderFault.TheVariants as faults
 use Rattle.he_reading.proofs.FaultTexts.{race_at}
-use Rattle.he_inputs.proofs.Mending.{mendable_changes}
+use Rattle.he_record.specs.FrontSearch.{FailsFront, ReadsFront, front_of}
+use Rattle.he_record.specs.declared.line.RecordLine.{RecordLine}
+use Rattle.he_record.specs.Left.{said_of}
+use Rattle.he_record.specs.Said.{Said}
+use Rattle.he_record.specs.Text.{IsRecordText}
+use Rattle.he_record.proofs.FrontLaws.{as_many}
+use Rattle.he_record.proofs.Stands.{behind_lines}
+use Rattle.he_inputs.specs.Recorded.{IsRecordedAs, IsRecordedText, fault_after, lines_on, recorded_fault}
+use Rattle.he_inputs.proofs.RecordedFaults.{recorded_changes}
+use Rattle.he_inputs.proofs.RecordedTexts.{record_lines}
 use Rattle.he_reading.proofs.PartLaws.{parts_counted}
 use Rattle.he_reading.proofs.RaceTexts.{begins_with_race}
 
@@ -41,9 +50,9 @@ not_memory text n kind may memory =
     ]
 
 -- what is told of a text and may change depends on what follows
-goes_on : (text : List ℕ) (line : ℕ) (kind : TextKind) → TellsFault line kind (fault_of text) → MayChange text line kind → MayGoOn text
-goes_on text line kind (inl memory) may = absurd (not_memory text line kind may memory.0)
-goes_on text line kind (inr is) may = inr (line, kind, is, mendable_changes text line kind is may)
+goes_on : (text : List ℕ) (line : ℕ) (kind : TextKind) → FailsRecorded text line kind → MayChange text line kind → MayGoOn text
+goes_on text line kind (inl memory) may = absurd (not_memory text line kind may memory)
+goes_on text line kind (inr is) may = inr (line, kind, is, recorded_changes text line kind is may)
 
 pub AreTexts-append : (IsText : List ℕ → Race → Type 0) (races : List Race) (text : List ℕ) → AreTexts IsText races text
     → (others : List Race) (more : List ℕ) → AreTexts IsText others more → AreTexts IsText (races ++ others) (text ++ more)
@@ -76,7 +85,7 @@ passes_on bytes races_before lines_before races old new race before passes =
     let front = take old.end bytes in
     let text = slice_range bytes old.end new.end in
     let split : take new.end bytes ≡ front ++ text = take_to bytes old.end new.end (let past = passes.past in omega arith) in
-    let Are : List ℕ → Type 0 = AreTexts IsRaceText (races ++ race ∷ []) in
+    let Are : List ℕ → Type 0 = AreTexts IsRecordedText (races ++ race ∷ []) in
     let more : line_count (take new.end bytes) ≡ line_count front + line_count text = ap line_count split ∙ line_count-append front text in
     let counted = before.counted in
     let lined = before.lined in
@@ -85,7 +94,7 @@ passes_on bytes races_before lines_before races old new race before passes =
     let longer = length-append races (race ∷ []) in
     record {
       within = passes.within;
-      whole = subst Are (sym split) (AreTexts-snoc IsRaceText races front before.whole race text passes.read);
+      whole = subst Are (sym split) (AreTexts-snoc IsRecordedText races front before.whole race text passes.read);
       counted = omega arith;
       lined = omega arith;
     }
@@ -111,9 +120,9 @@ has_races input more is_broken races reader fault passed few is =
     }
 
 -- a fault that isn't want of memory is the text's
-told_fault : (line : ℕ) (kind : TextKind) (fault : Option (ℕ × TextKind)) → TellsFault line kind fault → (kind ≡ kinds.Memory → ⊥) → fault ≡ Some (line, kind)
-told_fault line kind fault (inl memory) other = absurd (other memory.0)
-told_fault line kind fault (inr is) other = is
+told_fault : (text : List ℕ) (line : ℕ) (kind : TextKind) → FailsRecorded text line kind → (kind ≡ kinds.Memory → ⊥) → recorded_fault text ≡ Some (line, kind)
+told_fault text line kind (inl memory) other = absurd (other memory)
+told_fault text line kind (inr is) other = is
 
 plain_fault : (is_broken : Bool) (lines line : ℕ) (kind : TextKind) → (is_broken ≡ true → kind ≡ kinds.Unfinished → ⊥)
     → fault_behind is_broken lines (line, kind) ≡ Text (record { line = lines + line; kind = kind })
@@ -136,7 +145,7 @@ line_small rest line is = let most = is.1 in omega (arith, length-slice_split (�
 -- what is wrong where a reader stops is the fault of an input with these bytes after it, where that fault stands
 -- there and is told alike
 fault_here : (is_broken breaks : Bool) (races lines : ℕ) (rest more : List ℕ) (fault : TextFault) → IsWrong races rest fault
-    → (TellsFault fault.line fault.kind (fault_of rest) → fault_of (rest ++ more) ≡ Some (fault.line, fault.kind))
+    → (FailsRecorded rest fault.line fault.kind → recorded_fault (rest ++ more) ≡ Some (fault.line, fault.kind))
     → fault_behind breaks lines (fault.line, fault.kind) ≡ fault_behind is_broken lines (fault.line, fault.kind)
     → IsFaultBehind is_broken races lines (rest ++ more) (Some (fault_behind breaks lines (fault.line, fault.kind)))
 fault_here is_broken breaks races lines [] more fault wrong stands alike = let some = wrong.some in absurd (omega arith)
@@ -148,13 +157,13 @@ fault_here is_broken breaks races lines (byte ∷ rest) more fault wrong stands 
 ]
 
 -- what is wrong where a reader stops is the fault of each input that goes on so
-pub fault_stops : ((text : List ℕ) (line : ℕ) (kind : TextKind) → fault_of text ≡ Some (line, kind) → MayChange text line kind ⊎ FaultStands text line kind)
+pub fault_stops : ((text : List ℕ) (line : ℕ) (kind : TextKind) → recorded_fault text ≡ Some (line, kind) → MayChange text line kind ⊎ FaultStands text line kind)
     → (ending : Ending) (races lines : ℕ) (rest : List ℕ) (fault : TextFault) → IsWrong races rest fault → (fault.kind ≡ kinds.Memory → ⊥)
     → (ending ≡ endings.Open → MayChange rest fault.line fault.kind → ⊥) → (more : List ℕ) (is_broken : Bool) → MayFollow ending more is_broken
     → IsFaultBehind is_broken races lines (rest ++ more) (Some (fault_behind (breaks ending) lines (fault.line, fault.kind)))
 fault_stops stand endings.Open races lines rest fault wrong other stays more is_broken follows =
-    let stands : TellsFault fault.line fault.kind (fault_of rest) → fault_of (rest ++ more) ≡ Some (fault.line, fault.kind) = λ tells.
-    elim (stand rest fault.line fault.kind (told_fault fault.line fault.kind (fault_of rest) tells other)) [
+    let stands : FailsRecorded rest fault.line fault.kind → recorded_fault (rest ++ more) ≡ Some (fault.line, fault.kind) = λ tells.
+    elim (stand rest fault.line fault.kind (told_fault rest fault.line fault.kind tells other)) [
       | inl may ↦ absurd (stays refl may)
       | inr far ↦ far more
     ] in
@@ -162,11 +171,11 @@ fault_stops stand endings.Open races lines rest fault wrong other stays more is_
     fault_here is_broken false races lines rest more fault wrong stands (sym plain)
 fault_stops stand endings.Whole races lines rest fault wrong other stays more is_broken (none, whole) =
     let same : rest ++ more ≡ rest = ap (λ m. rest ++ m) none ∙ append-nil rest in
-    fault_here is_broken false races lines rest more fault wrong (λ tells. ap fault_of same ∙ told_fault fault.line fault.kind (fault_of rest) tells other)
+    fault_here is_broken false races lines rest more fault wrong (λ tells. ap recorded_fault same ∙ told_fault rest fault.line fault.kind tells other)
     (ap (λ b. fault_behind b lines (fault.line, fault.kind)) (sym whole))
 fault_stops stand endings.Broken races lines rest fault wrong other stays more is_broken (none, broken) =
     let same : rest ++ more ≡ rest = ap (λ m. rest ++ m) none ∙ append-nil rest in
-    fault_here is_broken true races lines rest more fault wrong (λ tells. ap fault_of same ∙ told_fault fault.line fault.kind (fault_of rest) tells other)
+    fault_here is_broken true races lines rest more fault wrong (λ tells. ap recorded_fault same ∙ told_fault rest fault.line fault.kind tells other)
     (ap (λ b. fault_behind b lines (fault.line, fault.kind)) (sym broken))
 
 -- an input that breaks off after whole races
@@ -220,6 +229,94 @@ passed_here bytes end left lines race inside read fits =
     let longer : length text ≡ length front + length got.rest = ap length parts ∙ length-append front got.rest in
     let rest : length (drop next bytes) ≡ length bytes - next = length-drop next bytes in
     record { past = past; within = ends; read = at.2; lined = lined; few = omega arith }
+
+-- a recorded race that was read at the front of a text, with its record
+pub recorded_first : (text : List ℕ) (front left before lines : ℕ) (said : List Said) (race : Race) → front ≤ length text → IsRecordText (take front text) said → before ≡ length said
+    → ReadsFirst (take (length text - front) (drop front text)) race left lines → IsRace race → ReadsRecorded text said race left (before + lines)
+recorded_first text front left before lines said race within told count read fits =
+    let here = passed_here text front left lines race within read fits in
+    let end : ℕ = length text - left in
+    let past : front < end = here.past in
+    let split : take end text ≡ take front text ++ slice_range text front end = take_to text front end (omega arith) in
+    let all : line_count (take end text) ≡ line_count (take front text) + line_count (slice_range text front end) = ap line_count split ∙ line_count-append (take front text) (slice_range text front end) in
+    let first : line_count (take front text) ≡ length said = record_lines (take front text) said told in
+    let second : lines ≡ line_count (slice_range text front end) = here.lined in
+    record {
+      shorter = omega arith;
+      is = record { front = take front text; rest = slice_range text front end; parts = split; told = told; is = here.read };
+      lined = omega arith;
+    }
+
+-- the faults of a reading
+pub record_fails : (text : List ℕ) (line : ℕ) (kind : TextKind) → FailsFront text line kind → FailsRecorded text line kind
+record_fails text line kind (inl memory) = inl memory.0
+record_fails text line kind (inr is) = inr (ap fault_after is)
+
+pub race_fails : (text : List ℕ) (front before line : ℕ) (said : List Said) (kind : TextKind) → ReadsFront text said front → before ≡ length said
+    → TellsFault line kind (fault_of (drop front text)) → FailsRecorded text (before + line) kind
+race_fails text front before line said kind read count (inl memory) = inl memory.0
+race_fails text front before line said kind read count (inr is) =
+    inr (ap fault_after read ∙ ap (option_map (lines_on (length said))) is ∙ ap (λ (n : ℕ). Some (n + line, kind)) (sym count))
+
+pub line_on : (text : List ℕ) (front before line : ℕ) (said : List Said) → IsRecordText (take front text) said → before ≡ length said → IsLineOf (drop front text) line → IsLineOf text (before + line)
+line_on text front before line said told count (some, most) =
+    let all : lines_of text ≡ told.lines ++ lines_of (drop front text) =
+    ap lines_of (sym (take-append-drop front text)) ∙ behind_lines (take front text) (drop front text) told.lines told.parts in
+    let size : length (lines_of text) ≡ length told.lines + length (lines_of (drop front text)) = ap length all ∙ length-append told.lines (lines_of (drop front text)) in
+    let same : length told.lines ≡ length said = as_many told.lines said told.are.say in
+    (omega arith, omega arith)
+
+-- a recorded race that was read from the place on
+pub record RecordedHere (bytes : List ℕ) (end next lines : ℕ) (said : List Said) (race : Race) : Type 0 where
+  pub past : end < next
+  pub within : next ≤ length bytes
+  pub read : IsRecordedAs (slice_range bytes end next) said race
+  pub lined : lines ≡ line_count (slice_range bytes end next)
+  pub few : lines + length (drop next bytes) ≤ length (drop end bytes)
+
+pub recorded_here : (bytes : List ℕ) (end left lines : ℕ) (said : List Said) (race : Race) → end ≤ length bytes → ReadsRecorded (take (length bytes - end) (drop end bytes)) said race left lines
+    → RecordedHere bytes end (length bytes - left) lines said race
+recorded_here bytes end left lines said race inside read =
+    let text = drop end bytes in
+    let next = length bytes - left in
+    let Reads : List ℕ → Type 0 = λ t. ReadsRecorded t said race left lines in
+    let got : ReadsRecorded text said race left lines = subst Reads (take_rest bytes end) read in
+    let size : length text ≡ length bytes - end = length-drop end bytes in
+    let shorter : left < length text = got.shorter in
+    let count : length text - left ≡ next - end = omega arith in
+    let As : ℕ → Type 0 = λ n. IsRecordedAs (take n text) said race in
+    let lined : lines ≡ line_count (slice_range bytes end next) = got.lined ∙ ap (λ (n : ℕ). line_count (take n text)) count in
+    let few : line_count (slice_range bytes end next) ≤ length (slice_range bytes end next) = count_by-le-length (λ b. b == 10) (slice_range bytes end next) in
+    let long : length (slice_range bytes end next) ≡ next - end = length-take-le (next - end) text (omega arith) in
+    let rest : length (drop next bytes) ≡ length bytes - next = length-drop next bytes in
+    record { past = omega arith; within = omega arith; read = subst As count got.is; lined = lined; few = omega arith }
+
+-- so many lines
+pub lines_said : (lines : List RecordLine) (said : List Said) → map said_of lines ≡ said → length lines ≡ length said
+lines_said lines said same = sym (length-map lines said_of) ∙ ap length same
+
+pub few_lines : (text : List ℕ) (said : List Said) (race : Race) (left lines : ℕ) → ReadsRecorded text said race left lines → lines ≤ length text
+few_lines text said race left lines read =
+    let front : List ℕ = take (length text - left) text in
+    let few : line_count front ≤ length front = count_by-le-length (λ b. b == 10) front in
+    let size : length front ≡ length text - left = length-take-le (length text - left) text (omega arith) in
+    let lined : lines ≡ line_count front = read.lined in
+    omega arith
+
+-- a reader that found no race stands where it was
+pub none_found : {F : Type 0} (race_in : F → Race) (result : Result (Option F) RaceReaderFault) (bytes rest : List ℕ) (ending : Ending) (reader : RaceReader) → rest ≡ drop reader.end bytes
+    → IfOk result (λ found. (found ≡ None) × EndsAt ending rest) → IfOk result (λ found. IsNextOf bytes ending reader reader (option_map race_in found))
+none_found race_in (Ok (Some found)) bytes rest ending reader same is = let wrong = is.0 in cc
+none_found race_in (Ok None) bytes rest ending reader same is = (refl, subst (EndsAt ending) same is.1)
+none_found race_in (Err fault) bytes rest ending reader same is = tt
+
+pub fault_found : {F : Type 0} (result : Result (Option F) RaceReaderFault) (bytes rest : List ℕ) (ending : Ending) (reader : RaceReader) → rest ≡ drop reader.end bytes
+    → IfErr result (IsReaderFault rest ending (record reader { end = 0 })) → IfErr result (IsReaderFault bytes ending reader)
+fault_found (Ok found) bytes rest ending reader same is = tt
+fault_found (Err faults.Memory) bytes rest ending reader same is = tt
+fault_found (Err (faults.Input fault)) bytes rest ending reader same is = λ more is_broken follows.
+    let Rest : List ℕ → Type 0 = λ text. IsFaultBehind is_broken reader.races reader.lines (text ++ more) (Some fault) in
+    subst Rest same (is more is_broken follows)
 
 -- what an input has that is all there
 has_all : (input : List ℕ) (is_broken : Bool) (races : List Race) (reader : RaceReader) (fault : Option InputFault)

@@ -5,7 +5,7 @@ use Rattle.std.specs.Prelude.{IfErr, IfOk}
 use Rattle.std.proofs.lemmas.List.{append-nil, drop-drop}
 use Rattle.std.proofs.lemmas.List.Sums.{count_by-le-length}
 use Rattle.he_timeline.specs.Race.{Race}
-use Rattle.he_reading.specs.Text.{IsRaceText}
+use Rattle.he_inputs.specs.Recorded.{IsRecordedText}
 use Rattle.he_words.specs.Ranges.{most_races}
 use Rattle.he_words.specs.declared.fault.TextFault.{TextFault}
 use Rattle.he_stream.specs.declared.stream.InputStream as inputs
@@ -142,7 +142,7 @@ module _ {I : Type 0} (input : inputs.Ghosts I) where
             passes.text,
             passes.is,
             record {
-              whole = AreTexts-snoc IsRaceText races front has.whole race passes.text passes.is;
+              whole = AreTexts-snoc IsRecordedText races front has.whole race passes.text passes.is;
               counted = omega arith;
               lined = omega arith;
               given = subst (Gave new.steps new.ending) parts (subst Ends (sym passes.ending) (subst Steps (sym passes.steps) has.given));

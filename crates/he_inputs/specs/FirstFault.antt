@@ -1,4 +1,4 @@
--- The fault of a text in words: the first check that fails on the first faulty line, where no race ends before.
+-- The fault of a text in words: the first check that fails on the first faulty line, if no race ends before.
 use Rattle.std.specs.Prelude.{ℕ, ◌≡◌, ◌+◌, ◌++◌, Bool, false, List, [], ◌∷◌, length, Option, Some, None}
 use Rattle.he_words.specs.declared.fault.TextKind.{TextKind}
 use Rattle.he_reading.specs.Faults.{header_fault, version_on, line_fault, ends}
@@ -14,7 +14,7 @@ abbrev pub ends_race : List (List ℕ) → List ℕ → Bool
 ends_race [] line = false
 ends_race (first ∷ before) line = ends line
 
--- on none of the lines a check fails, and with none of them a race ends
+-- every line passes its checks, and none ends a race
 abbrev pub GoOnRight : List (List ℕ) → List (List ℕ) → Type 0
 GoOnRight lines after =
     (front : List (List ℕ)) (line : List ℕ) (more : List (List ℕ)) → lines ≡ front ++ line ∷ more

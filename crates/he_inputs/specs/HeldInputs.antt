@@ -1,4 +1,4 @@
--- What is held of an input that is taken step by step.
+-- The bytes held of an input that is taken step by step.
 use Rattle.std.specs.Prelude.{ℕ, ◌≡◌, ◌≤◌, ◌+◌, ◌*◌, ◌++◌, true, false, List, length, Result, Ok, Err}
 use Rattle.std.specs.Io.KnownBytes.{Consumes}
 use Rattle.he_stream.specs.declared.answer.Taken.{Taken}
@@ -10,12 +10,12 @@ use Rattle.he_stream.specs.Runs.{StepsOn}
 use Rattle.he_inputs.specs.declared.race_reader.Ending.{Ending}
 use Rattle.he_inputs.specs.declared.race_reader.Ending.TheVariants as endings
 
--- the bytes that are held, and how many steps were made
+-- the bytes held, and the number of steps
 pub record HeldBytes : Type 0 where
   pub bytes : List ℕ
   pub steps : ℕ
 
--- these bytes were given between two states of an input: in so many steps, after which it may go on, or up to its end,
+-- the input gave these bytes between two of its states: in `steps` steps, after which it may go on, or up to its end,
 -- or up to where it broke off
 abbrev pub GivesBy : {I : Type 0} → inputs.Ghosts I → I → I → ℕ → Ending → List ℕ → Type 0
 GivesBy input first last steps endings.Open bytes =
@@ -24,7 +24,7 @@ GivesBy input first last steps endings.Open bytes =
 GivesBy input first last steps endings.Whole bytes = Gives input.remaining input.takes first last bytes false
 GivesBy input first last steps endings.Broken bytes = Gives input.remaining input.takes first last bytes true
 
--- more bytes were taken of an input, and are held after those that were held before
+-- more bytes were taken of an input, and appended to those held
 pub record TakesMore {I : Type 0} (input : inputs.Ghosts I) (before after : I) (old new : HeldBytes)
     (ending : Ending) : Type 0 where
   pub more : List ℕ
@@ -35,7 +35,7 @@ pub record TakesMore {I : Type 0} (input : inputs.Ghosts I) (before after : I) (
   pub gives : (first : I) (bytes : List ℕ) → GivesBy input first before old.steps endings.Open bytes
       → GivesBy input first after new.steps ending (bytes ++ more)
 
--- what is known to follow: nothing yet, where memory was refused
+-- the ending after a result: still open if an allocation failed
 abbrev pub ending_told : {E : Type 0} → Result Ending E → Ending
 ending_told (Ok ending) = ending
 ending_told (Err refused) = endings.Open

@@ -1,4 +1,4 @@
--- What an input of races has: races, and what is wrong after them.
+-- The races of an input, and its fault after them.
 use Rattle.std.specs.Prelude.{ℕ, ◌≡◌, ◌≢◌, ◌≤◌, ◌+◌, ◌==◌, ◌++◌, ⊤, Bool, true, false, List, [], ◌∷◌, length, count_by, ◌⊎◌, Option, Some, None, Result, Ok, Err}
 use Rattle.he_timeline.specs.Race.{Race}
 use Rattle.he_words.specs.declared.fault.TextFault.{TextFault}
@@ -8,46 +8,44 @@ use Rattle.he_inputs.specs.declared.input_fault.InputFault.{InputFault}
 use Rattle.he_inputs.specs.declared.input_fault.InputFault.TheVariants.{Text, Read}
 use Rattle.he_inputs.specs.declared.inputs.NotOneRace.{NotOneRace}
 use Rattle.he_inputs.specs.declared.inputs.NotOneRace.TheVariants as faults
-use Rattle.he_reading.specs.FaultSearch.{fault_of}
 use Rattle.he_words.specs.Ranges.{line_end, most_races}
-use Rattle.he_reading.specs.Text.{IsRaceText}
+use Rattle.he_inputs.specs.Recorded.{IsRecordedText, recorded_fault}
 
--- the text is, one after the other, a text of each of the races
+-- the text consists of a text of each race, in this order
 abbrev pub AreTexts : (List ℕ → Race → Type 0) → List Race → List ℕ → Type 0
 AreTexts IsText [] text = text ≡ []
 AreTexts IsText (race ∷ races) text =
     (first : List ℕ) × (more : List ℕ) × (text ≡ first ++ more) × IsText first race × AreTexts IsText races more
 
--- a timeline text of each of the races
+-- a timeline text of each of the races, with its record lines
 abbrev pub AreRaceTexts : List Race → List ℕ → Type 0
-AreRaceTexts races text = AreTexts IsRaceText races text
+AreRaceTexts races text = AreTexts IsRecordedText races text
 
--- how many lines end in the text
+-- the number of lines that end in the text
 abbrev pub line_count : List ℕ → ℕ
 line_count text = count_by (λ byte. byte == line_end) text
 
--- the fault of an input that ends after whole races: it broke off there, or there is none
+-- the fault of an input that ends after whole races: `Read` if it broke off there, else none
 abbrev pub fault_at_end : Bool → Option InputFault
 fault_at_end true = Some Read
 fault_at_end false = None
 
--- a fault of the text after so many lines; where the input broke off, a text that ends inside a race is no fault of
--- its own
+-- a fault of the text after `lines` lines; if the input broke off, a text that ends inside a race is a read error
 abbrev pub fault_behind : Bool → ℕ → ℕ × TextKind → InputFault
 fault_behind true lines (line, kinds.Unfinished) = Read
 fault_behind is_broken lines (line, kind) = Text (record { line = lines + line; kind = kind })
 
--- the fault of what stands after so many races and lines: nothing may follow the last race that an input may have,
--- and what follows other races is no race
+-- the fault of `rest`, after `races` races and `lines` lines: nothing may follow the last race that an input may
+-- have; after fewer races, `rest` does not begin with a race
 abbrev pub IsFaultBehind : Bool → ℕ → ℕ → List ℕ → Option InputFault → Type 0
 IsFaultBehind is_broken races lines [] fault = fault ≡ fault_at_end is_broken
 IsFaultBehind is_broken races lines (byte ∷ rest) fault =
     ((races ≡ most_races) × (fault ≡ Some (Text (record { line = lines + 1; kind = kinds.TooMany }))))
     ⊎ ((races + 1 ≤ most_races)
-    × (found : ℕ × TextKind) × (fault_of (byte ∷ rest) ≡ Some found)
+    × (found : ℕ × TextKind) × (recorded_fault (byte ∷ rest) ≡ Some found)
     × (fault ≡ Some (fault_behind is_broken lines found)))
 
--- the input has these races up to its first fault, and this fault. It broke off after its bytes where `is_broken`.
+-- the input has these races up to its first fault, and this fault; `is_broken`: it broke off after these bytes
 pub record HasRaces (input : List ℕ) (is_broken : Bool) (races : List Race) (fault : Option InputFault) : Type 0 where
   pub before : List ℕ
   pub rest : List ℕ
@@ -56,7 +54,7 @@ pub record HasRaces (input : List ℕ) (is_broken : Bool) (races : List Race) (f
   pub few : length races ≤ most_races
   pub fault_is : IsFaultBehind is_broken (length races) (line_count before) rest fault
 
--- why an input is not one race and nothing else: its first fault, or, where there is none, how many races it has
+-- an input is not one race and nothing else for this reason: its first fault, or its number of races if it has none
 abbrev pub IsNotOne : List ℕ → Bool → NotOneRace → Type 0
 IsNotOne input is_broken (faults.Fault fault) = (races : List Race) × HasRaces input is_broken races (Some fault)
 IsNotOne input is_broken faults.Count = (races : List Race) × HasRaces input is_broken races None × (length races ≢ 1)
@@ -76,14 +74,14 @@ pub record GivesNone (Given : List ℕ → Bool → Type 0) (why : NotOneRace) :
   pub given : Given input is_broken
   pub none : IsNotOne input is_broken why
 
--- of the input these bytes were taken, and no more; no input that begins with them is one race, for this fault
+-- exactly these bytes of the input were taken; no input that begins with them is one race, for this fault
 pub record StopsNone (Taken : List ℕ → Type 0) (fault : TextFault) : Type 0 where
   pub input : List ℕ
   pub taken : Taken input
   pub none : (more : List ℕ) (is_broken : Bool) → IsNotOne (input ++ more) is_broken (faults.Fault (Text fault))
 
--- Given: what the input gave, and whether it broke off after that; Taken: what was taken of an input that was not read
--- further
+-- `Given`: the bytes of the whole input, and whether it broke off after them; `Taken`: the bytes taken of an input
+-- that was not read further
 abbrev pub TakesOne : (List ℕ → Bool → Type 0) → (List ℕ → Type 0) → Result Race NotOneRace → Type 0
 TakesOne Given Taken (Ok race) = GivesOne Given race
 TakesOne Given Taken (Err (faults.Fault (Text fault))) =

@@ -2,8 +2,10 @@ pub mod Beginnings
 pub mod FirstFault
 pub mod HeldInputs
 pub mod Inputs
+pub mod Plain
 pub mod RaceReading
 pub mod RaceReadingSteps
 pub mod RaceStreamSteps
 pub mod RaceStreams
+pub mod Recorded
 pub mod StreamFaults

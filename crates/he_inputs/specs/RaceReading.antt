@@ -1,4 +1,4 @@
--- What a reader of the bytes of an input tells, race by race.
+-- The results of a reader of an input's bytes, race by race.
 use Rattle.std.specs.Prelude.{ℕ, ◌≡◌, ◌<◌, ◌≤◌, ◌+◌, ◌^◌, ◌++◌, Bool, true, false, List, [], length, drop, take, slice_range, Option, Some, None}
 use Rattle.he_timeline.specs.Race.{Race}
 use Rattle.he_inputs.specs.declared.race_reader.Ending.{Ending}
@@ -9,34 +9,34 @@ use Rattle.he_inputs.specs.declared.race_reader.RaceReaderFault.TheVariants as f
 use Rattle.he_inputs.specs.Beginnings.{MayGoOn}
 use Rattle.he_inputs.specs.Inputs.{AreRaceTexts, IsFaultBehind, line_count}
 use Rattle.he_words.specs.Ranges.{most_races}
-use Rattle.he_reading.specs.Text.{IsRaceText}
+use Rattle.he_inputs.specs.Recorded.{IsRecordedText}
 
--- the bytes are all of an input, which broke off after them or not
+-- the ending of an input whose bytes are all known, by whether it broke off after them
 abbrev pub ending_of : Bool → Ending
 ending_of true = endings.Broken
 ending_of false = endings.Whole
 
--- what may follow the bytes, and whether the input broke off after that
+-- `more` may follow the bytes, and `is_broken` says whether the input broke off after that
 abbrev pub MayFollow : Ending → List ℕ → Bool → Type 0
 MayFollow endings.Open more is_broken = Unit {0}
 MayFollow endings.Whole more is_broken = (more ≡ []) × (is_broken ≡ false)
 MayFollow endings.Broken more is_broken = (more ≡ []) × (is_broken ≡ true)
 
--- a reader stands within the bytes, after no more races than an input may have, and their lines can be counted
+-- the reader is within the bytes, after no more races than an input may have, and the count of lines can't overflow
 pub record IsWithin (bytes : List ℕ) (reader : RaceReader) : Type 0 where
   pub place : reader.end ≤ length bytes
   pub few : reader.races ≤ most_races
   pub room : reader.lines + length (drop reader.end bytes) ≤ 2 ^ 63
 
--- a reader passed one race of the bytes
+-- a reader passed one race of the bytes, with its record lines
 pub record PassesRace (bytes : List ℕ) (old new : RaceReader) (race : Race) : Type 0 where
-  pub read : IsRaceText (slice_range bytes old.end new.end) race
+  pub read : IsRecordedText (slice_range bytes old.end new.end) race
   pub past : old.end < new.end
   pub within : new.end ≤ length bytes
   pub counted : new.races ≡ old.races + 1
   pub lined : new.lines ≡ old.lines + line_count (slice_range bytes old.end new.end)
 
--- no race follows: the input ends there, or what stands there depends on what follows
+-- no race follows: the input ends here, or the next bytes decide
 abbrev pub EndsAt : Ending → List ℕ → Type 0
 EndsAt endings.Open rest = MayGoOn rest
 EndsAt endings.Whole rest = rest ≡ []
@@ -46,14 +46,14 @@ abbrev pub IsNextOf : List ℕ → Ending → RaceReader → RaceReader → Opti
 IsNextOf bytes ending old new (Some race) = PassesRace bytes old new race
 IsNextOf bytes ending old new None = (new ≡ old) × EndsAt ending (drop old.end bytes)
 
--- the fault of every input that has these bytes, and goes on after them as it may; or memory was refused
+-- the fault of every input that consists of these bytes and any that may follow; or an allocation failed
 abbrev pub IsReaderFault : List ℕ → Ending → RaceReader → RaceReaderFault → Type 0
 IsReaderFault bytes ending reader (faults.Input fault) =
     (more : List ℕ) (is_broken : Bool) → MayFollow ending more is_broken
     → IsFaultBehind is_broken reader.races reader.lines (drop reader.end bytes ++ more) (Some fault)
 IsReaderFault bytes ending reader faults.Memory = Unit {0}
 
--- of bytes that stand after so many races and lines, a reader passed these races
+-- a reader passed these races; the bytes begin after `races_before` races and `lines_before` lines
 pub record HasPassed (bytes : List ℕ) (races_before lines_before : ℕ) (races : List Race)
     (reader : RaceReader) : Type 0 where
   pub within : reader.end ≤ length bytes

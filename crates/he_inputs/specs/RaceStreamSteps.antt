@@ -1,7 +1,6 @@
--- Mirrors the code: how a stream goes on in what it holds, and takes more.
+-- Mirrors the code: how a stream reads the bytes it holds, and takes more.
 use Rattle.std.specs.Prelude.{ℕ, ◌≡◌, ◌≤◌, ◌⊎◌, ◌+◌, ◌-◌, ◌*◌, ◌++◌, Bool, List, length, drop, Option, Some, None, Result, Ok, Err}
 use Rattle.he_timeline.specs.Race.{Race}
-use Rattle.he_reading.specs.Text.{IsRaceText}
 use Rattle.he_stream.specs.declared.stream.InputStream as inputs
 use Rattle.he_stream.specs.Limits.{most_reads, read_size}
 use Rattle.he_inputs.specs.declared.race_reader.Ending.{Ending}
@@ -14,8 +13,9 @@ use Rattle.he_inputs.specs.declared.inputs.NotOneRace.{NotOneRace}
 use Rattle.he_inputs.specs.Inputs.{GivesOne, IsFaultBehind, TakesOne, line_count}
 use Rattle.he_inputs.specs.RaceReading.{EndsAt, IsWithin, MayFollow}
 use Rattle.he_inputs.specs.RaceStreams.{StreamState}
+use Rattle.he_inputs.specs.Recorded.{IsRecordedText}
 
--- where a stream stands that holds this, and whose reader came so far in it
+-- the state of a stream with these held bytes and this reader
 abbrev pub state_of : HeldBytes → RaceReader → Ending → StreamState
 state_of held reader ending = record {
   rest = drop reader.end held.bytes;
@@ -25,13 +25,13 @@ state_of held reader ending = record {
   steps = held.steps;
 }
 
--- the numbers of a stream
+-- the bounds of a stream
 pub record IsStream (held : HeldBytes) (reader : RaceReader) : Type 0 where
   pub within : IsWithin held.bytes reader
   pub few : held.steps ≤ most_reads
   pub size : reader.lines + length (drop reader.end held.bytes) ≤ read_size * held.steps
 
--- the input goes on, or ended, by what was taken of it, and no race was passed
+-- bytes were taken of the input, which may have ended, and no race was passed
 pub record GoesOn {I : Type 0} (input : inputs.Ghosts I) (before after : I) (old new : StreamState) : Type 0 where
   pub races : new.races ≡ old.races
   pub lines : new.lines ≡ old.lines
@@ -43,22 +43,22 @@ abbrev pub left_by : Ending → ℕ → ℕ
 left_by endings.Open steps = steps + 1
 left_by ending steps = 0
 
--- how many steps may follow, the one that finds the end among them
+-- the number of steps that may follow, with the one that finds the end
 abbrev pub left_of : StreamState → ℕ
 left_of stream = left_by stream.ending (most_reads - stream.steps)
 
--- the first of the bytes that are held were passed, as the text of this race
+-- the first of the held bytes were passed, as the text of this race
 pub record PassesText (old new : StreamState) (race : Race) : Type 0 where
   pub text : List ℕ
-  pub is : IsRaceText text race
+  pub is : IsRecordedText text race
   pub parts : old.rest ≡ text ++ new.rest
   pub races : new.races ≡ old.races + 1
   pub lines : new.lines ≡ old.lines + line_count text
   pub ending : new.ending ≡ old.ending
   pub steps : new.steps ≡ old.steps
 
--- the next race of the bytes that are held; or none, where it depends on what follows them, or nothing is left; or the
--- fault of all that may follow
+-- the next race of the held bytes; or none, if the next bytes decide or nothing is left; or the fault of every
+-- continuation
 abbrev pub PassesHeld : StreamState → StreamState → Result (Option Race) RaceReaderFault → Type 0
 PassesHeld old new (Ok (Some race)) = PassesText old new race
 PassesHeld old new (Ok None) = (new ≡ old) × ((old.ending ≡ endings.Open) ⊎ EndsAt old.ending old.rest)
@@ -68,7 +68,7 @@ PassesHeld old new (Err (readers.Input fault)) =
     → IsFaultBehind is_broken old.races old.lines (old.rest ++ more) (Some fault))
 PassesHeld old new (Err readers.Memory) = new ≡ old
 
--- nothing follows the first race of an input; or why it is not one race
+-- nothing follows the first race of an input; or the reason that it is not one race
 abbrev pub TakesBehind : (List ℕ → Bool → Type 0) → (List ℕ → Type 0) → Race → Result (Unit {0}) NotOneRace → Type 0
 TakesBehind Given Taken race (Ok done) = GivesOne Given race
 TakesBehind Given Taken race (Err why) = TakesOne Given Taken (Err why)

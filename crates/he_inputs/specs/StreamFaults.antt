@@ -1,4 +1,4 @@
--- The fault with which work on a stream of timelines stops, where its input is at fault.
+-- The error of work on a stream of timelines, by the fault of its input.
 use Rattle.he_inputs.specs.declared.input_fault.InputFault.{InputFault}
 use Rattle.he_inputs.specs.declared.input_fault.InputFault.TheVariants as inputs
 use Rattle.he_inputs.specs.declared.stream_fault.StreamFault.{StreamFault}

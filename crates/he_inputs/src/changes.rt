@@ -1,4 +1,4 @@
-//! What may change of a text that goes on.
+//! Whether the bytes that follow a text may mend its fault.
 
 ghost use Rattle.std.specs.Prelude.{◌≡◌, ◌↔◌, ◌∷◌, [], IsTrue};
 ghost use Rattle.he_inputs.specs.Beginnings.{EndsIn, IsGroupFaultAtEnd, MayBecome, MayChange, awaited};
@@ -11,7 +11,7 @@ use he_words::limits::MAX_LINE;
 use he_words::{LINE_END, TOKEN_END, TextFault, TextKind, Word};
 use memchr::memrchr;
 
-// Whether what follows the text may mend its fault: where it doesn't, every text that begins with these bytes has this
+// Whether bytes that follow the text may mend its fault. If not, every text that begins with these bytes has this
 // fault (the laws `faults_stand` and `mendable_faults_change`).
 pub(crate) fn may_change(text: &[u8], fault: TextFault) -> bool
     ensures { IsTrue result ↔ MayChange text.now fault.line fault.kind }
@@ -22,8 +22,8 @@ pub(crate) fn may_change(text: &[u8], fault: TextFault) -> bool
     }
 }
 
-// Whether it is the fault of a group's last line, with which the whole lines of the text end, and one more line of the
-// group may follow and mend it.
+// Whether the fault is that of a group's last line, which is also the text's last whole line, and one more line of
+// the group may follow and mend it.
 fn may_be_mended(text: &[u8], fault: TextFault) -> bool
     ensures { IsTrue result ↔ IsGroupFaultAtEnd text.now fault.line fault.kind }
 {
@@ -38,7 +38,7 @@ fn may_be_mended(text: &[u8], fault: TextFault) -> bool
     }
 }
 
-// The word of the lines that may mend the fault of a group's last line.
+// The first word of the lines that may mend the fault of a group's last line.
 fn awaited(line: &[u8], kind: TextKind) -> Option<Word>
     ensures { result ≡ awaited line.now kind }
 {
@@ -49,7 +49,7 @@ fn awaited(line: &[u8], kind: TextKind) -> Option<Word>
     }
 }
 
-// What stands after the last line end; all, where there is none.
+// The bytes after the last line end; all bytes if there is none.
 fn open_line(text: &[u8]) -> &[u8]
     ensures end { EndsIn text.now (line_count text.now) result.now }
     ensures line { lines_of result.now ≡ result.now ∷ [] }
@@ -60,7 +60,7 @@ fn open_line(text: &[u8]) -> &[u8]
     }
 }
 
-// Whether what follows bytes without a line end may make a line of them that begins with the word.
+// Whether more bytes may make of these, which have no line end, a line that begins with the word.
 fn may_become(word: Word, rest: &[u8]) -> bool
     requires { lines_of rest.now ≡ rest.now ∷ [] }
     ensures { IsTrue result ↔ MayBecome word rest.now }

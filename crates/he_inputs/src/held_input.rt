@@ -1,4 +1,4 @@
-//! The bytes of an input that were taken and are held.
+//! The bytes of an input that were taken and not yet dropped.
 ghost use Rattle.std.specs.Prelude.{◌≡◌, ◌↔◌, ◌+◌, ◌<◌, ◌≤◌, [], IfOk, IsTrue, OnErr, drop, length};
 ghost use Rattle.he_stream.specs.Limits.{most_reads};
 ghost use Rattle.he_stream.specs.declared.limits.TheConstants.{READ_SIZE};
@@ -6,13 +6,14 @@ ghost use Rattle.he_inputs.specs.HeldInputs.{TakesMore, ending_after, ending_tol
 ghost use Rattle.he_inputs.specs.declared.race_reader.Ending.TheVariants.{Open};
 
 use crate::race_reader::Ending;
+use he_addr::Memory;
 use he_stream::limits::MOST_READS;
 use he_stream::{InputStream, Taken, take_piece};
-use std::alloc::{AllocError, Allocator};
+use std::alloc::Allocator;
 use std::marker::Model;
 
-/// What is held of an input: the bytes that were taken of it, up to now or to its end, without the first ones, which
-/// were let go.
+/// The bytes that were taken of an input so far, without those that [`forget`](HeldInput::forget) dropped at the
+/// front.
 #[derive(Drop)]
 pub struct HeldInput<A: Allocator> {
     // The bytes, and after them room for the next step.
@@ -34,7 +35,7 @@ impl<A: Allocator> Model for HeldInput<A> {
 }
 
 impl<A: Allocator> HeldInput<A> {
-    /// Nothing is taken yet. It takes no memory.
+    /// No bytes and no steps. It allocates nothing.
     pub fn new(alloc: A) -> HeldInput<A>
         ensures { result ≡ record { bytes = []; steps = 0 } }
     {
@@ -45,7 +46,7 @@ impl<A: Allocator> HeldInput<A> {
         }
     }
 
-    /// Lets all go, for another input. Its steps use the memory again.
+    /// Drops all bytes, and counts the steps from 0, for another input. The memory is used again.
     pub fn restart(&mut self)
         ensures { self.new ≡ record { bytes = []; steps = 0 } }
     {
@@ -53,14 +54,14 @@ impl<A: Allocator> HeldInput<A> {
         self.steps = 0;
     }
 
-    /// The bytes.
+    /// The bytes that are held.
     pub fn bytes(&self) -> &[u8]
         ensures { result.now ≡ self.now.bytes }
     {
         &self.bytes[..self.filled]
     }
 
-    /// Lets the first `count` bytes go.
+    /// Drops the first `count` bytes.
     pub fn forget(&mut self, count: usize)
         requires { count ≤ length self.old.bytes }
         ensures { self.new ≡ record self.old { bytes = drop count self.old.bytes } }
@@ -69,16 +70,15 @@ impl<A: Allocator> HeldInput<A> {
         self.filled -= count;
     }
 
-    /// Takes what one step of the input gives, at most `room` bytes (1 to
-    /// [`READ_SIZE`](he_stream::limits::READ_SIZE)), and answers what follows the bytes that are held then: `Open`
-    /// after a step that gave some, `Whole` at the end, `Broken` after a step that failed, or where
-    /// [`MOST_READS`](he_stream::limits::MOST_READS) steps did not reach the end. A step that was interrupted is tried
-    /// again, and counts.
+    /// Appends the bytes that one step of the input gives, at most `room` (1 to
+    /// [`READ_SIZE`](he_stream::limits::READ_SIZE)). It returns `Open` after a step that gave bytes, `Whole` at the
+    /// end of the input, and `Broken` after a step that failed or if [`MOST_READS`](he_stream::limits::MOST_READS)
+    /// steps did not reach the end. An interrupted step counts, and is tried again.
     ///
     /// # Errors
     ///
-    /// `AllocError` where an allocation was refused. No byte of the input is lost then.
-    pub fn take<I: InputStream>(&mut self, input: &mut I, room: usize) -> Result<Ending, AllocError>
+    /// `Memory` if an allocation failed. No byte of the input is lost.
+    pub fn take<I: InputStream>(&mut self, input: &mut I, room: usize) -> Result<Ending, Memory>
         requires some { 0 < room }
         requires few { room ≤ READ_SIZE }
         ensures more { TakesMore I.InputStream input.old input.new self.old self.new (ending_told result) }
@@ -96,7 +96,7 @@ impl<A: Allocator> HeldInput<A> {
         Ok(Ending::Broken)
     }
 
-    // Whether the bound of steps is not reached yet.
+    // Whether another step is allowed.
     fn may_step(&self) -> bool
         ensures { IsTrue result ↔ (self.now.steps < most_reads) }
     {
@@ -104,7 +104,7 @@ impl<A: Allocator> HeldInput<A> {
     }
 
     // One step of the input.
-    fn step<I: InputStream>(&mut self, input: &mut I, room: usize) -> Result<Taken, AllocError>
+    fn step<I: InputStream>(&mut self, input: &mut I, room: usize) -> Result<Taken, Memory>
         requires some { 0 < room }
         requires few { room ≤ READ_SIZE }
         requires more { self.old.steps < most_reads }
@@ -120,7 +120,7 @@ impl<A: Allocator> HeldInput<A> {
     }
 }
 
-// How many bytes a step gave.
+// The number of bytes that a step gave.
 fn gained(taken: Taken) -> usize
     ensures { result ≡ gained taken }
 {

@@ -1,4 +1,4 @@
-//! Inputs that are to have one race.
+//! Reading an input of one race.
 ghost use Rattle.std.specs.Prelude.{ℕ, List, Bool, Option, ◌≡◌, [], ◌∷◌, None, false, IfOk, IfErr};
 ghost use Rattle.he_timeline.specs.Race.{Race};
 ghost use Rattle.he_inputs.specs.declared.input_fault.InputFault.{InputFault};
@@ -10,46 +10,44 @@ ghost use Rattle.he_inputs.specs.RaceReadingSteps.{HasFirst, not_one};
 ghost use Rattle.he_inputs.specs.RaceReading.{HasPassed};
 
 use crate::input_fault::InputFault;
-use crate::laws::one_race_first;
+use crate::laws::{begins_recorded_where_no_fault, one_race_first};
 use crate::race_reader::{Ending, RaceReader, RaceReaderFault};
 use crate::race_stream::RaceStream;
-use he_reading::laws::begins_where_no_fault;
 use he_stream::InputStream;
 use he_timeline::Timeline;
 use std::alloc::Allocator;
 use std::mem::drop;
 
-/// An input, and whether it broke off, have one list of races and one fault. Runs nothing.
+/// The races and the fault of an input, broken off or not, are unique. Runs nothing.
 pub fn one_input()
     ensures { (input : List ℕ) (is_broken : Bool) (races others : List Race) (fault other_fault : Option InputFault)
         → HasRaces input is_broken races fault → HasRaces input is_broken others other_fault → (races ≡ others)
         × (fault ≡ other_fault) }
 {
     one_race_first();
-    begins_where_no_fault();
+    begins_recorded_where_no_fault();
 }
 
-/// Why an input is not one race.
+/// The error of [`read_one_race`] and [`take_one_race`].
 #[derive(Clone, Copy, Debug, PartialEq, Eq)]
 pub enum NotOneRace {
-    /// Something is wrong with the input.
+    /// The input has this fault.
     Fault(InputFault),
-    /// Nothing is wrong with it, but it has no race, or more than one.
+    /// The input has no fault, but no race or more than one.
     Count,
-    /// An allocation was refused.
+    /// An allocation failed.
     Memory,
 }
 
-/// The race of an input that has one race and nothing else. `is_broken` says that the input broke off after these
-/// bytes.
+/// Reads an input that has one race and nothing else. `is_broken`: the input broke off after these bytes.
 ///
 /// # Errors
 ///
-/// - `Fault` with the first thing that is wrong with the input, whatever the number of races before it: a fault of its
-///   text, of which a race above the 4,096th is one (`TooMany` at its first line), or `Read` where the input broke off
-///   and its text has no fault before that.
-/// - `Count` where nothing is wrong, but the input has no race, or more than one.
-/// - `Memory` where an allocation was refused.
+/// - `Fault` with the first fault of the input, regardless of the number of races before it: a fault of its text,
+///   among them a race above the 4,096th (`TooMany` at its first line), or `Read` if the input broke off and its text
+///   has no fault before that.
+/// - `Count` if the input has no fault, but no race or more than one.
+/// - `Memory` if an allocation failed.
 pub fn read_one_race<A: Allocator + Copy>(
     alloc: A,
     input: &[u8],
@@ -71,7 +69,7 @@ pub fn read_one_race<A: Allocator + Copy>(
     }
 }
 
-// Whether nothing follows the first race of an input, which the reader has passed.
+// Checks that nothing follows the first race of an input; `first` is the reader after this race.
 fn check_behind<A: Allocator + Copy>(
     alloc: A,
     input: &[u8],
@@ -96,12 +94,12 @@ fn check_behind<A: Allocator + Copy>(
     }
 }
 
-/// Takes an input to its end, step by step, and answers its race, where it has one race and nothing else. It holds no
-/// more of the input than a [`RaceStream`] does, and the race.
+/// Takes an input to its end, step by step, and returns its race if it has one race and nothing else. It holds this
+/// race, and of the input no more than a [`RaceStream`] does.
 ///
 /// # Errors
 ///
-/// Those of [`read_one_race`]. After a fault of the text that stands whatever follows the input is not read further.
+/// Those of [`read_one_race`]. After a fault of the text that later bytes can't mend, the input is not read further.
 pub fn take_one_race<A: Allocator + Copy, I: InputStream>(
     alloc: A,
     input: &mut I,
@@ -122,7 +120,7 @@ pub fn take_one_race<A: Allocator + Copy, I: InputStream>(
     }
 }
 
-// Whether nothing follows the first race of an input, which the stream has handed out.
+// Checks that nothing follows the first race of an input, which the stream has returned.
 fn take_behind<A: Allocator + Copy, I: InputStream>(
     alloc: A,
     stream: &mut RaceStream<A>,

@@ -1,14 +1,19 @@
-//! Inputs of races, read one race after the other while their bytes come.
+//! Reading the races of an input, one by one, as its bytes arrive.
 //!
-//! [`RaceStream`] takes an input step by step and hands out its races; [`HeldInput`] is what it holds of the input.
-//! [`RaceReader`] passes the races of bytes that are there. [`read_one_race`] reads an input that is to have one race,
-//! and [`take_one_race`] takes one step by step.
-//! [`StreamFault`] is why work on a stream of timelines stopped.
+//! [`RaceStream`] takes an input step by step and returns its races; [`HeldInput`] holds the bytes that it took.
+//! [`RaceReader`] reads the races of bytes in memory. [`read_one_race`] reads an input of one race, and
+//! [`take_one_race`] takes one step by step. [`StreamFault`] is the error of work on a stream of timelines.
 //!
-//! Proved: the reader returns the races and the first fault of the input (`specs/Inputs`), and of bytes that may go on
-//! what every input has that begins with them (`specs/RaceReading`). A fault of a text is that of each longer text
-//! too, unless what follows may mend it (`specs/Beginnings`): then some longer text has not this fault. It is that of
-//! the first check that fails on the first faulty line (`specs/FirstFault`).
+//! A race may have record lines right before it (`he_record`). They don't change the race: readers pass them with it,
+//! and [`RaceReader::next_recorded`] returns their contents.
+//!
+//! Proved: the reader returns the races and the first fault of the input (`specs/Inputs`, `specs/Recorded`). Of bytes
+//! that may go on, it returns the races and the fault that every input has that begins with them
+//! (`specs/RaceReading`). A fault of a text is that of each longer text too, unless later bytes may mend it
+//! (`specs/Beginnings`): then some longer text does not have this fault. A fault is that of the first check that
+//! fails on the first faulty line (`specs/FirstFault`). And by [`laws`]: an input without a fault has the same races
+//! without its record lines, and a text without record lines has the race and the fault of its race lines
+//! (`specs/Plain`).
 #![tactic(auto)]
 
 mod changes;
@@ -18,6 +23,7 @@ pub mod inputs;
 pub mod laws;
 pub mod race_reader;
 pub mod race_stream;
+mod recorded;
 pub mod stream_fault;
 
 pub use held_input::HeldInput;

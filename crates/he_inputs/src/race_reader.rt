@@ -1,33 +1,36 @@
-//! Reading the races of an input one after the other.
-ghost use Rattle.std.specs.Prelude.{◌≡◌, ◌↔◌, ◌+◌, ◌^◌, ◌<◌, None, IfErr, IfOk, IsTrue};
+//! Reading the races of an input in memory, one by one.
+ghost use Rattle.std.specs.Prelude.{◌≡◌, ◌↔◌, ◌+◌, ◌^◌, ◌<◌, None, option_map, slice_range, IfErr, IfOk, IfSome, IsTrue};
 ghost use Rattle.he_inputs.specs.Inputs.{fault_behind};
 ghost use Rattle.he_inputs.specs.RaceReadingSteps.{StopsAt, breaks};
 ghost use Rattle.he_inputs.specs.declared.race_reader.Ending.TheVariants.{Open};
 ghost use Rattle.he_inputs.specs.declared.race_reader.RaceReaderFault.TheVariants.{Memory};
 ghost use Rattle.he_inputs.specs.RaceReading.{EndsAt, IsNextOf, IsReaderFault, IsWithin, ending_of};
+ghost use Rattle.he_inputs.specs.Recorded.{IsRecordedAs};
 
 use crate::changes::may_change;
 use crate::input_fault::InputFault;
 use crate::laws::faults_stand;
-use he_reading::read_first;
+use crate::recorded::read_recorded;
+use he_addr::Memory;
+use he_record::Record;
 use he_timeline::Timeline;
 use he_words::limits::MOST_RACES;
 use he_words::{TextFault, TextKind};
-use std::alloc::{AllocError, Allocator};
+use std::alloc::Allocator;
 
-/// What follows the bytes of an input that are there.
+/// Whether more bytes of an input may follow those in memory.
 #[derive(Clone, Copy, Debug, PartialEq, Eq)]
 pub enum Ending {
-    /// More bytes, or nothing.
+    /// The input may go on.
     Open,
-    /// Nothing: the input ends with them.
+    /// The input ends after these bytes.
     Whole,
-    /// Nothing: the input broke off.
+    /// The input broke off after these bytes.
     Broken,
 }
 
 impl Ending {
-    /// The ending of an input of which all bytes are there, by whether it broke off after them.
+    /// `Broken` or `Whole`: the ending of an input whose bytes are all in memory.
     pub fn of(is_broken: bool) -> Ending
         ensures { result ≡ ending_of is_broken }
     {
@@ -45,7 +48,7 @@ impl Ending {
         matches!(self, Ending::Open)
     }
 
-    /// Whether it broke off.
+    /// Whether the input broke off.
     pub fn is_broken(self) -> bool
         ensures { result ≡ breaks self }
     {
@@ -53,55 +56,56 @@ impl Ending {
     }
 }
 
-/// Why a reader stops.
+/// The error of a reader.
 #[derive(Clone, Copy, Debug, PartialEq, Eq)]
 pub enum RaceReaderFault {
-    /// Something is wrong with the input.
+    /// The input has this fault.
     Input(InputFault),
-    /// An allocation was refused.
+    /// An allocation failed.
     Memory,
 }
 
-impl From<AllocError> for RaceReaderFault {
+impl From<Memory> for RaceReaderFault {
     ghost from_gives = { λ _ fault. fault ≡ Memory };
 
-    fn from(_refused: AllocError) -> RaceReaderFault {
+    fn from(_refused: Memory) -> RaceReaderFault {
         RaceReaderFault::Memory
     }
 }
 
-/// How far a reader of the bytes of an input has come. It may begin after bytes that are there no more.
+/// The position of a reader in the bytes of an input. The bytes may begin after a first part of the input that is no
+/// longer in memory.
 #[derive(Clone, Copy, Debug, PartialEq, Eq)]
 pub struct RaceReader {
-    /// The place in the bytes after the last race that was passed.
+    /// The offset in the bytes after the last race that was read.
     pub end: usize,
-    /// How many races of the input stand before it.
+    /// The number of races of the input before this offset.
     pub races: usize,
-    /// How many lines of the input end before it.
+    /// The number of lines of the input that end before this offset.
     pub lines: u64,
 }
 
 impl RaceReader {
-    /// At the front of an input.
+    /// The position at the start of an input.
     pub const START: RaceReader = RaceReader {
         end: 0,
         races: 0,
         lines: 0,
     };
 
-    /// Passes the next race of the bytes, and answers it; None where no race follows: where the input ends, or, if its
-    /// bytes may go on, where it depends on what follows what stands there. `bytes` are those of the calls before, or
-    /// more of them.
+    /// Reads the next race of the bytes and passes it, with its record lines. None if no race follows: the input ends
+    /// here or, if the bytes may go on (`Open`), the next bytes decide. `bytes` are those of the calls before, or
+    /// these and more.
     ///
     /// # Errors
     ///
-    /// - `Input(Text)` with the fault of the text that follows, its line counted over the whole input from 1. After
-    /// as many races as a text may have (`he_words::limits::MOST_RACES`) that is `TooMany` at the next line, whatever
-    /// it is. Where the bytes may go on, every input that begins with them has this fault.
-    /// - `Input(Read)` where the input broke off after a whole race, or within one that had no fault by then.
-    /// - `Memory` where an allocation was refused.
+    /// - `Input(Text)` with the fault of the text that follows. Its line is counted over the whole input, from 1.
+    ///   After `he_words::limits::MOST_RACES` races, any further text is `TooMany` at its first line. If the bytes
+    ///   may go on, every input that begins with them has this fault.
+    /// - `Input(Read)` if the input broke off after a whole race, or within one that had no fault so far.
+    /// - `Memory` if an allocation failed.
     ///
-    /// The reader stays where it was then, as with None.
+    /// The position is unchanged after an error, and after None.
     pub fn next<A: Allocator + Copy>(
         &mut self,
         alloc: A,
@@ -114,6 +118,33 @@ impl RaceReader {
         ensures same { IfErr result (λ _. self.new ≡ self.old) }
         ensures fault { IfErr result (IsReaderFault bytes.now ending self.old) }
     {
+        match self.next_recorded(alloc, bytes, ending) {
+            Ok(Some((_record, race))) => Ok(Some(race)),
+            Ok(None) => Ok(None),
+            Err(fault) => Err(fault),
+        }
+    }
+
+    /// As [`next`](RaceReader::next), and returns the race's record too.
+    ///
+    /// # Errors
+    ///
+    /// Those of [`next`](RaceReader::next).
+    pub fn next_recorded<'t, A: Allocator + Copy>(
+        &mut self,
+        alloc: A,
+        bytes: &'t [u8],
+        ending: Ending,
+    ) -> Result<Option<(Record<'t, A>, Timeline<A>)>, RaceReaderFault>
+        requires { IsWithin bytes.now self.old }
+        ensures within { IsWithin bytes.now self.new }
+        ensures found { IfOk result
+            (λ found. IsNextOf bytes.now ending self.old self.new (option_map (λ x. x.1) found)) }
+        ensures record { IfOk result (λ found. IfSome found
+            (λ x. IsRecordedAs (slice_range bytes.now self.old.end self.new.end) x.0 x.1)) }
+        ensures same { IfErr result (λ _. self.new ≡ self.old) }
+        ensures fault { IfErr result (IsReaderFault bytes.now ending self.old) }
+    {
         let rest = &bytes[self.end..];
         if rest.is_empty() {
             return self.stop(rest, ending, None);
@@ -121,24 +152,24 @@ impl RaceReader {
         if self.races == MOST_RACES {
             return self.stop(rest, ending, Some(TOO_MANY));
         }
-        match read_first(alloc, rest) {
-            Ok((race, left, lines)) => {
-                self.end = bytes.len() - left;
+        match read_recorded(alloc, rest) {
+            Ok(first) => {
+                self.end = bytes.len() - first.left;
                 self.races += 1;
-                self.lines += lines;
-                Ok(Some(race))
+                self.lines += first.lines;
+                Ok(Some((first.record, first.race)))
             }
             Err(fault) => self.stop(rest, ending, Some(fault)),
         }
     }
 
-    // What is told where no race is passed, by what is wrong with the text that follows, if there is any.
-    fn stop<A: Allocator>(
+    // The result of `next_recorded` if it passes no race: `wrong` is the fault of `rest`, None if nothing is left.
+    fn stop<F>(
         self,
         rest: &[u8],
         ending: Ending,
         wrong: Option<TextFault>,
-    ) -> Result<Option<Timeline<A>>, RaceReaderFault>
+    ) -> Result<Option<F>, RaceReaderFault>
         requires within { IsWithin rest.now (record self { end = 0 }) }
         requires wrong { StopsAt self.races rest.now wrong }
         ensures found { IfOk result (λ found. (found ≡ None) × EndsAt ending rest.now) }
@@ -161,7 +192,7 @@ impl RaceReader {
     }
 }
 
-// A fault after so many lines. Where the input broke off, the text is unfinished for that alone.
+// A fault after `lines` lines. If the input broke off, an unfinished text is a read error, not a fault of the text.
 fn fault_behind(ending: Ending, lines: u64, found: TextFault) -> InputFault
     requires { lines + found.line < 2 ^ 64 }
     ensures { result ≡ fault_behind (breaks ending) lines (found.line, found.kind) }
@@ -175,7 +206,7 @@ fn fault_behind(ending: Ending, lines: u64, found: TextFault) -> InputFault
     }
 }
 
-// The fault of what follows as many races as a text may have.
+// The fault of a text after `MOST_RACES` races.
 const TOO_MANY: TextFault = TextFault {
     line: 1,
     kind: TextKind::TooMany,

@@ -9,25 +9,25 @@ ghost use Rattle.he_inputs.specs.declared.race_reader.Ending.TheVariants.{Open};
 
 use crate::held_input::HeldInput;
 use crate::race_reader::{Ending, RaceReader, RaceReaderFault};
+use he_addr::Memory;
 use he_stream::InputStream;
 use he_timeline::Timeline;
-use std::alloc::{AllocError, Allocator};
+use std::alloc::Allocator;
 use std::marker::Model;
 
 // The room for a step of the input, in bytes.
 const STEP_ROOM: usize = 65_536;
 
-/// A stream of races: it takes an input step by step, and hands out one race after the other. It holds what follows the
-/// last race that it handed out: no more than the text of one race, and as much again before that is looked at once
-/// more, and what one step gives.
+/// A stream of races: it takes an input step by step, and returns its races one by one. It holds the input after the
+/// last race returned: at most twice the text of one race, and the bytes of one step.
 #[derive(Drop)]
 pub struct RaceStream<A: Allocator> {
     held: HeldInput<A>,
-    // What follows the bytes that are held.
+    // Whether more bytes may follow those held.
     ending: Ending,
-    // How far the races were handed out.
+    // The position after the last race returned.
     reader: RaceReader,
-    // How many bytes after that were looked at when they had no whole race.
+    // The number of bytes after that position at the last try, which found no whole race; 0 after a race.
     tried: usize,
 }
 
@@ -43,7 +43,7 @@ impl<A: Allocator> Model for RaceStream<A> {
 }
 
 impl<A: Allocator> RaceStream<A> {
-    /// Nothing is taken yet. It takes no memory.
+    /// A stream that has taken nothing. It allocates nothing.
     pub fn new(alloc: A) -> RaceStream<A>
         ensures { result ≡ at_start }
     {
@@ -55,7 +55,7 @@ impl<A: Allocator> RaceStream<A> {
         }
     }
 
-    /// Begins another input. Its steps use the memory again.
+    /// Starts over with another input. The memory is used again.
     pub fn restart(&mut self)
         ensures { self.new ≡ at_start }
     {
@@ -65,14 +65,14 @@ impl<A: Allocator> RaceStream<A> {
         self.tried = 0;
     }
 
-    /// How many races were handed out.
+    /// The number of races returned so far.
     pub fn races(&self) -> usize
         ensures { result ≡ self.now.races }
     {
         self.reader.races
     }
 
-    /// How many lines these have. The next race begins at the line after them.
+    /// The number of lines of these races, record lines included. The next race begins on the line after them.
     pub fn lines(&self) -> u64
         ensures lines { result ≡ self.now.lines }
         ensures few { result ≤ 2 ^ 54 }
@@ -80,16 +80,16 @@ impl<A: Allocator> RaceStream<A> {
         self.reader.lines
     }
 
-    /// Hands out the next race, which is kept in the arena, and takes as much of the input as that needs; None where
-    /// the input ended after the last one. `input` is that of the calls since the stream began with it.
+    /// Returns the next race, allocated in the arena, and takes as much of the input as this needs. None if the input
+    /// ended after the last race. `input` must be that of all calls since `new` or `restart`.
     ///
     /// # Errors
     ///
-    /// - `Input(Text)` with the fault of the text after the races that were handed out, its line counted over the whole
-    ///   input from 1. The input is not read further where nothing that follows mends it.
-    /// - `Input(Read)` where the input broke off before a fault of the text was found: a step failed, or the bound of
-    ///   [`MOST_READS`](he_stream::limits::MOST_READS) steps was reached.
-    /// - `Memory` where an allocation was refused. The stream stands where it stood, and no byte is lost.
+    /// - `Input(Text)` with the fault of the text after the races returned so far. Its line is counted over the whole
+    ///   input, from 1. The input is not read further if no later bytes mend the fault.
+    /// - `Input(Read)` if the input broke off before a fault of the text was found: a step failed, or
+    ///   [`MOST_READS`](he_stream::limits::MOST_READS) steps did not reach the end.
+    /// - `Memory` if an allocation failed. The races returned and the position are unchanged, and no byte is lost.
     pub fn next<I: InputStream, B: Allocator + Copy>(
         &mut self,
         arena: B,
@@ -110,15 +110,15 @@ impl<A: Allocator> RaceStream<A> {
         self.next_held(arena)
     }
 
-    // Whether more may follow what is held.
+    // Whether more bytes may follow those held.
     fn is_open(&self) -> bool
         ensures { IsTrue result ↔ (self.now.ending ≡ Open) }
     {
         self.ending.is_open()
     }
 
-    // Passes the next race of the bytes that are held, and answers it. They are not looked at again before they are
-    // twice as many as when they had no whole race, unless nothing follows them.
+    // Reads the next race of the bytes held. After a try without a whole race it waits until there are twice as many
+    // bytes, unless the input has ended: so the total work stays linear in the bytes.
     fn next_held<B: Allocator + Copy>(
         &mut self,
         arena: B,
@@ -143,8 +143,8 @@ impl<A: Allocator> RaceStream<A> {
         }
     }
 
-    // Takes what one step of the input gives, into the place of the races that were passed.
-    fn take<I: InputStream>(&mut self, input: &mut I) -> Result<(), AllocError>
+    // Drops the races passed, and takes the bytes of one step.
+    fn take<I: InputStream>(&mut self, input: &mut I) -> Result<(), Memory>
         requires { self.old.ending ≡ Open }
         ensures on { GoesOn I.InputStream input.old input.new self.old self.new }
         ensures further { OnOk result (self.new.ending ≡ Open → (self.old.steps < self.new.steps)

@@ -1,4 +1,4 @@
-//! Why work on a stream of timelines stopped.
+//! The error of work on a stream of timelines.
 ghost use Rattle.std.specs.Prelude.{◌≡◌};
 ghost use Rattle.he_inputs.specs.StreamFaults.{fault_of_input, fault_of_reader};
 ghost use Rattle.he_inputs.specs.declared.stream_fault.StreamFault.TheVariants.{Memory, Write};
@@ -8,30 +8,29 @@ use crate::race_reader::RaceReaderFault;
 use he_addr::Memory;
 use he_stream::WriteFault;
 use he_words::TextFault;
-use std::alloc::AllocError;
 use thiserror::Error;
 
-/// Why work stopped that reads timelines from an input and writes what it reports of them to an output.
+/// The error of work that reads timelines from an input and writes its results to an output.
 #[derive(Clone, Copy, Debug, PartialEq, Eq, Error)]
 pub enum StreamFault {
-    /// The input is no timeline text.
+    /// A fault of the input's text.
     #[error(transparent)]
     Text(TextFault),
-    /// A step of the input failed, or the bound of steps was reached.
+    /// A step of the input failed, or the limit on steps was reached.
     #[error("cannot read the input")]
     Read,
-    /// A step of the output failed or took no byte, the flush failed, or the bound of steps was reached.
+    /// A step of the output failed or took no byte, the flush failed, or the limit on steps was reached.
     #[error("cannot write the output")]
     Write,
-    /// An allocation was refused.
+    /// An allocation failed.
     #[error("out of memory")]
     Memory,
 }
 
-impl From<AllocError> for StreamFault {
+impl From<Memory> for StreamFault {
     ghost from_gives = { λ _ fault. fault ≡ Memory };
 
-    fn from(_refused: AllocError) -> StreamFault {
+    fn from(_refused: Memory) -> StreamFault {
         StreamFault::Memory
     }
 }

@@ -1,4 +1,4 @@
--- Races that are run by what is due, and the attempts that they start.
+-- Races that run by the due steps, and the attempts that they start.
 use Rattle.std.specs.Prelude.{ℕ, ◌≡◌, ◌⊎◌, ◌++◌, List, [], ◌∷◌, None, Some, IsTrue, length, nat_le, nat_lt}
 use Rattle.std.specs.List.{list_all}
 use Rattle.he_addr.specs.declared.ip.Family.{Family}
@@ -18,7 +18,7 @@ use Rattle.he_next.specs.declared.step.Action.TheVariants.{Start, Wait, Won, Exh
 abbrev pub attempt_of : Line → Attempt
 attempt_of line = record { place = line.place; tick = line.tick; ip = line.ip }
 
--- all start below the tick
+-- all start before the tick
 abbrev pub AreBelow : ℕ → List Attempt → Type 0
 AreBelow tick xs = IsTrue (list_all (λ x. nat_lt x.tick tick) xs)
 
@@ -27,8 +27,8 @@ pub record State : Type 0 where
   pub race : Race
   pub attempts : List Attempt
 
--- a family's answer, after the last start, with what is known of its addresses from earlier (RFC 8305 section 4: the
--- lines `rtt` and `used`), and with the lines `source` and `route` by which they are reached
+-- a family's answer after the last start, with the knowledge of its addresses from earlier connections (RFC 8305
+-- section 4: the lines `rtt` and `used`), and with the lines `source` and `route` that reach them
 pub record Answers (old : State) (new : Race) : Type 0 where
   pub family : Family
   pub tick : ℕ
@@ -44,14 +44,14 @@ pub record Sleeps (old : State) (new : Race) : Type 0 where
   pub told : new ≡ with_pause old.race from to
   pub late : AreBelow from old.attempts
 
--- something is written down that happened after the last start: an answer, how one of the attempts ended, or a pause
+-- an event after the last start is recorded: an answer, the end of one of the attempts, or a pause
 pub record IsWritten (old new : State) : Type 0 where
   pub valid : IsRace new.race
   pub happened : Answers old new.race ⊎ ((x : Attempt) × EndsOne old.race new.race old.attempts x)
       ⊎ Sleeps old new.race
   pub same : new.attempts ≡ old.attempts
 
--- the attempts, with the one that starts
+-- the attempts, including the one that starts
 abbrev pub with_started : List Attempt → Action → List Attempt
 with_started xs (Start place tick ip) = xs ++ record { place = place; tick = tick; ip = ip } ∷ []
 with_started xs (Wait tick) = xs
@@ -68,7 +68,7 @@ pub record IsDone (old new : State) : Type 0 where
   pub starts : new.attempts ≡ with_started old.attempts (action_of report (length old.attempts) now)
   pub same : new.race ≡ old.race
 
--- a race that is run: from its beginning over these states, the last first, to this one
+-- a running race: from its beginning over these states, the last one first, to this one
 abbrev pub Runs : Race → List State → State → Type 0
 Runs first [] state = state ≡ record { race = first; attempts = [] }
 Runs first (old ∷ earlier) state = Runs first earlier old × (IsWritten old state ⊎ IsDone old state)

@@ -1,5 +1,5 @@
--- What is due in a race that is being run, by the text of its record so far (RFC 8305 sections 3 to 5): what a replay
--- of the record says.
+-- The due step of a running race, by the text of its record so far (RFC 8305 sections 3 to 5): the one that a replay
+-- of the record yields.
 use Rattle.std.specs.Prelude.{ℕ, ◌≡◌, ◌+◌, ◌++◌, List, [], ◌∷◌, false, codes, decimal, if◌then◌else◌, min, nat_le, nat_lt, slice_get, Option, Some, None}
 use Rattle.he_timeline.specs.Race.{Race}
 use Rattle.he_plan.specs.Transcript.{IsTranscript, Report}
@@ -13,7 +13,7 @@ use Rattle.he_next.specs.declared.step.Action.TheVariants.{Start, Wait, Won, Exh
 use Rattle.he_next.specs.declared.step.Pause.{Pause}
 use Rattle.he_next.specs.declared.step.Step.{Step}
 
--- the lines of a record so far, and the one that ends a race
+-- the record so far with the line that ends a race
 abbrev pub ended : List ℕ → List ℕ
 ended record_text = record_text ++ written_line (codes "end" ∷ [])
 
@@ -21,14 +21,14 @@ ended record_text = record_text ++ written_line (codes "end" ∷ [])
 abbrev pub with_pause : List ℕ → ℕ → ℕ → List ℕ
 with_pause record_text from until = record_text ++ written_line (codes "pause" ∷ decimal from ∷ decimal until ∷ [])
 
--- the record is a race's so far, which has that limit, and that transcript if nothing more happens
+-- the record is that of a race so far, with this limit and with this transcript if nothing more happens
 pub record IsSoFar (record_text : List ℕ) (limit : ℕ) (report : Report) : Type 0 where
   pub race : Race
   pub read : HasRaces (ended record_text) false (race ∷ []) None
   pub most : limit ≡ race.settings.limit
   pub transcript : IsTranscript race report
 
--- when and how the race ends if nothing more happens
+-- when the race ends if nothing more happens
 abbrev pub end_tick : Outcome3 → ℕ
 end_tick (results.Won place tick) = tick
 end_tick (results.Exhausted tick) = tick
@@ -39,18 +39,19 @@ end_action (results.Won place tick) = Won place tick
 end_action (results.Exhausted tick) = Exhausted tick
 end_action (results.Limit tick) = Limit tick
 
--- the next attempt starts if its tick has come, and else is waited for; where there is none, the race's end is
+-- the next attempt starts if its tick has come, and otherwise is waited for; if there is none, the race's end is
+-- waited for
 abbrev pub due_action : Outcome3 → ℕ → Option Line → Action
 due_action result now None = Wait (end_tick result)
 due_action result now (Some line) = if nat_le line.tick now then Start line.place line.tick line.ip else Wait line.tick
 
--- what is due at the tick, where so many attempts were started
+-- the action that is due at the tick, with `started` attempts started
 abbrev pub action_of : Report → ℕ → ℕ → Action
 action_of report started now =
     if nat_le (end_tick report.result) now then end_action report.result
     else due_action report.result now (slice_get report.lines started)
 
--- the start of the next attempt, where it lies before the tick
+-- the start of the next attempt, if it is before the tick
 abbrev pub before_tick : ℕ → Option Line → Option ℕ
 before_tick now None = None
 before_tick now (Some line) = if nat_lt line.tick now then Some line.tick else None
@@ -62,7 +63,7 @@ late_start report started now = before_tick now (slice_get report.lines started)
 abbrev pub tick_of : ℕ → ℕ → ℕ
 tick_of limit now = min now (limit + 1)
 
--- the next attempt was to start at `start`, and the client comes only at `until`
+-- the next attempt should have started at `start`, and the client comes only at `until`
 pub record IsLate (record_text : List ℕ) (started now start until : ℕ) : Type 0 where
   pub limit : ℕ
   pub report : Report
@@ -70,7 +71,7 @@ pub record IsLate (record_text : List ℕ) (started now start until : ℕ) : Typ
   pub up_to : until ≡ tick_of limit now
   pub missed : late_start report started until ≡ Some start
 
--- the step is the one that the record, which is this race's so far, says
+-- the action that this record of a race so far yields
 pub record Says (record_text : List ℕ) (started now : ℕ) (action : Action) : Type 0 where
   pub limit : ℕ
   pub report : Report
@@ -85,7 +86,7 @@ pub record IsInTime (record_text : List ℕ) (started now : ℕ) (action : Actio
   pub none : late_start report started (tick_of limit now) ≡ None
   pub due : action ≡ action_of report started (tick_of limit now)
 
--- the step: where the client was late, the pause from the start that it missed up to now, and what is due after it
+-- the step: if the client was late, the pause from the missed start to now, and the action after it
 abbrev pub IsPausedStep : List ℕ → ℕ → ℕ → Option Pause → Action → Type 0
 IsPausedStep record_text started now None action = IsInTime record_text started now action
 IsPausedStep record_text started now (Some pause) action =

@@ -1,4 +1,4 @@
-// Why a record has no step.
+// The error of a step.
 
 ghost use Rattle.std.specs.Prelude.{◌≡◌};
 ghost use Rattle.he_next.specs.Faults.{next_fault};
@@ -7,14 +7,14 @@ ghost use Rattle.he_next.specs.declared.fault.NextFault.TheVariants as faults;
 use he_addr::Memory;
 use he_inputs::{InputFault, NotOneRace};
 
-/// Why a record has no step.
+/// The error of `next_step`.
 #[derive(Clone, Copy, Debug, PartialEq, Eq)]
 pub enum NextFault {
-    /// The record, ended, has this fault.
+    /// The fault of the record with `end` added.
     Record(InputFault),
-    /// The record, ended, has more than one race.
+    /// The record with `end` added has more than one race.
     NotOne,
-    /// An allocation was refused.
+    /// An allocation failed.
     Memory,
 }
 

@@ -1,4 +1,4 @@
-// The record of a race that is being run, read as far as it goes.
+// Reads the record of a running race.
 
 ghost use Rattle.std.specs.Prelude.{◌≡◌, ◌≤◌, ◌++◌, IfErr, IfOk, OnOk};
 ghost use Rattle.he_timeline.specs.declared.limits.TheConstants.{MAX_LIMIT};
@@ -18,7 +18,7 @@ pub(crate) struct SoFar<A: Allocator> {
     pub(crate) transcript: Transcript<A>,
 }
 
-// The race of a record so far.
+// Reads the race of a record so far.
 pub(crate) fn read_so_far<A: Allocator + Copy>(
     alloc: A,
     lines: &[u8],
@@ -38,7 +38,7 @@ pub(crate) fn read_so_far<A: Allocator + Copy>(
     }
 }
 
-// The record, ended.
+// The record with a line `end`.
 fn ended_record<A: Allocator + Copy>(alloc: A, lines: &[u8]) -> Result<Vec<u8, A>, Memory>
     ensures { IfOk result (λ text. text.items ≡ ended lines.now) }
 {
@@ -70,5 +70,5 @@ pub(crate) fn paused_record<A: Allocator + Copy>(
 fn append<A: Allocator>(bytes: &[u8], text: &mut Vec<u8, A>) -> Result<(), Memory>
     ensures { OnOk result (text.new.items ≡ text.old.items ++ bytes.now) }
 {
-    text.extend_from_slice(bytes).map_err(|_| Memory)
+    text.extend_from_slice(bytes)
 }

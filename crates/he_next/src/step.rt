@@ -1,4 +1,4 @@
-// What is due in a race that is being run.
+// The step that is due in a running race.
 
 ghost use Rattle.std.specs.Prelude.{◌≡◌, ◌≤◌, IfErr, IfOk, Some, None};
 ghost use Rattle.he_timeline.specs.declared.limits.TheConstants.{MAX_LIMIT};
@@ -11,45 +11,45 @@ use he_addr::Ip;
 use he_plan::{Line, Outcome3};
 use std::alloc::Allocator;
 
-/// A pause of the client: it did nothing from a tick on until, and without, another.
+/// A pause of the client: it did nothing from the tick `from` up to, but not including, the tick `until`.
 #[derive(Clone, Copy, Debug, PartialEq, Eq)]
 pub struct Pause {
     pub from: u64,
     pub until: u64,
 }
 
-/// What is due.
+/// The action that is due.
 #[derive(Clone, Copy, Debug, PartialEq, Eq)]
 pub enum Action {
-    /// The attempt of this place starts, at this tick and address.
+    /// The attempt at this place starts, at this tick, to this address.
     Start(usize, u64, Ip),
     /// Nothing is due before this tick, unless something happens.
     Wait(u64),
-    /// The race is won, by the attempt of this place, at this tick.
+    /// The race is won by the attempt at this place, at this tick.
     Won(usize, u64),
-    /// The race was exhausted at this tick: every attempt failed.
+    /// The race is exhausted at this tick: every attempt failed.
     Exhausted(u64),
     /// The race ended at its limit, this tick.
     Limit(u64),
 }
 
-/// What is due, and the pause that is a line of the record from now on.
+/// The action that is due, and the pause that is a line of the record from now on.
 #[derive(Clone, Copy, Debug, PartialEq, Eq)]
 pub struct Step {
     pub pause: Option<Pause>,
     pub action: Action,
 }
 
-/// What is due at the tick `now` in the race of the record so far, of which `started` attempts were started. The
-/// record is a race's text up to what has happened, without its `end`. A tick past the race's limit counts as the one
+/// The step that is due at the tick `now` in the race of the record so far, in which `started` attempts were started.
+/// The record is a race's text up to the present, without its `end`. A tick past the race's limit counts as the one
 /// after it.
 ///
 /// # Errors
 ///
-/// - `Record` with the fault of the record and a line `end` after it; also where the pause that it must have cannot
-///   be its last line, since a pause of its own ends later, or it has as many as a race may have.
-/// - `NotOne` where that has more than one race.
-/// - `Memory` where an allocation was refused.
+/// - `Record` with the fault of the record with a line `end`; also if the pause that it must have cannot be its last
+///   line, since a pause of its own ends later, or it has the maximum number of pauses.
+/// - `NotOne` if the record has more than one race.
+/// - `Memory` if an allocation failed.
 pub fn next_step<A: Allocator + Copy>(
     alloc: A,
     lines: &[u8],
@@ -77,7 +77,7 @@ pub fn next_step<A: Allocator + Copy>(
     }
 }
 
-// What is due by the record, be the client late or not.
+// The action that is due by the record, whether the client is late or not.
 fn action_at<A: Allocator + Copy>(
     alloc: A,
     lines: &[u8],
@@ -92,7 +92,7 @@ fn action_at<A: Allocator + Copy>(
 }
 
 impl<A: Allocator> SoFar<A> {
-    // The tick, or the one after the limit where that comes first.
+    // The tick, or the one after the limit if that comes first.
     fn limit_tick(&self, now: u64) -> u64
         requires { self.now.limit ≤ MAX_LIMIT }
         ensures { result ≡ tick_of self.now.limit now }
@@ -100,7 +100,7 @@ impl<A: Allocator> SoFar<A> {
         now.min(self.limit + 1)
     }
 
-    // The start of the next attempt, where it lies before the tick.
+    // The start of the next attempt, if it is before the tick.
     fn late_start(&self, started: usize, now: u64) -> Option<u64>
         ensures { result ≡ late_start self.now.transcript started now }
     {

@@ -1,6 +1,6 @@
--- Only the check for its end calls a record line unfinished.
-use Rattle.std.proofs.Common.{ℕ, Bool, true, false, cond, List, [], ◌∷◌, Option, Some, None, Result, Ok, Err}
-use Rattle.std.specs.Prelude.{◌≢◌}
+-- Only the check for its end calls a record line unfinished, and none finds the fault of a policy table in it.
+use Rattle.std.proofs.Common.{◌≡◌, ℕ, Bool, true, false, cond, List, [], ◌∷◌, Option, Some, None, Result, Ok, Err, inl, inr, sym, subst}
+use Rattle.std.specs.Prelude.{◌⊎◌}
 use Rattle.std.specs.Option.{ok_or}
 use Rattle.std.specs.Result.{result_err}
 use Rattle.std.specs.Str.{bytes_eq}
@@ -9,14 +9,14 @@ use Rattle.he_timeline.specs.declared.limits.TheConstants.{MAX_TICK}
 use Rattle.he_words.specs.Ranges.{most_u16}
 use Rattle.he_words.specs.declared.fault.TextKind.{TextKind}
 use Rattle.he_words.specs.declared.fault.TextKind.TheVariants as kinds
-use Rattle.he_reading.specs.Faults.{excess, first_fault, test}
+use Rattle.he_reading.specs.Faults.{excess, first_fault, test, too_long, unfinished}
 use Rattle.he_reading.specs.Forms.{◌>>=◌, number_from, within}
 use Rattle.he_reading.specs.Parts.{tokens_of}
 use Rattle.he_record.specs.declared.reasons.ClientEnd.{ClientEnd}
 use Rattle.he_record.specs.declared.reasons.ClientEnd.TheVariants as ends
 use Rattle.he_record.specs.declared.words.RecordWord.{RecordWord}
 use Rattle.he_record.specs.declared.words.RecordWord.TheVariants as words
-use Rattle.he_record.specs.Faults.{content_fault, of_said, of_word, one_too_many, out_of_order, repeated}
+use Rattle.he_record.specs.Faults.{content_fault, line_fault, of_said, of_word, one_too_many, out_of_order, repeated}
 use Rattle.he_record.specs.Forms.{moment_in, address_in, at_in, to_in, from_in, look_up_in, name_server_in, failed_attempt_in, untried_in, end_in, said_by, said_in, word_of}
 use Rattle.he_record.specs.MomentParts.{parts_in}
 use Rattle.he_record.specs.Moments.{is_moment, moment_text}
@@ -24,20 +24,26 @@ use Rattle.he_record.specs.Ranges.{least_port}
 use Rattle.he_record.specs.Said.{Said, AtSaid, ToSaid, FromSaid, LookupSaid, ServerSaid, AttemptSaid, UntriedSaid, EndSaid, is_host}
 use Rattle.he_record.specs.Words.{most_record_lines, record_word_in, family_in, lookup_in, server_in, attempt_in}
 
--- a step that doesn't fail as unfinished, and a check that doesn't
+-- what the other checks find
+abbrev pub IsOwnKind : TextKind → Type 0
+IsOwnKind kinds.Unfinished = ⊥
+IsOwnKind (kinds.Policy fault) = ⊥
+IsOwnKind kind = Unit {0}
+
+-- a step that fails so, if it does, and a check
 abbrev Closes : {A : Type 0} → Result A TextKind → Type 0
 Closes (Ok x) = Unit {0}
-Closes (Err kind) = kind ≢ kinds.Unfinished
+Closes (Err kind) = IsOwnKind kind
 
 abbrev pub IsClosed : Option TextKind → Type 0
 IsClosed None = Unit {0}
-IsClosed (Some kind) = kind ≢ kinds.Unfinished
+IsClosed (Some kind) = IsOwnKind kind
 
 then_closes : {A B : Type 0} (r : Result A TextKind) (f : A → Result B TextKind) → Closes r → ((x : A) → Closes (f x)) → Closes (r >>= f)
 then_closes (Ok x) f h k = k x
 then_closes (Err kind) f h k = h
 
-ok_or_closes : {A : Type 0} (o : Option A) (kind : TextKind) → kind ≢ kinds.Unfinished → Closes (ok_or o kind)
+ok_or_closes : {A : Type 0} (o : Option A) (kind : TextKind) → IsOwnKind kind → Closes (ok_or o kind)
 ok_or_closes None kind h = h
 ok_or_closes (Some x) kind h = tt
 
@@ -45,23 +51,23 @@ either_closes : {A : Type 0} (b : Bool) (r s : Result A TextKind) → Closes r �
 either_closes true r s h k = h
 either_closes false r s h k = k
 
-word_closes : kinds.Word ≢ kinds.Unfinished
-word_closes h = cc
+word_closes : IsOwnKind kinds.Word
+word_closes = tt
 
 number_closes : (low high : ℕ) (token : List ℕ) → Closes (number_from low high token)
 unfolding number_from
 number_closes low high token =
-    then_closes (ok_or (number_in token) kinds.Number) (within low high) (ok_or_closes (number_in token) kinds.Number (λ h. cc)) (λ n. either_closes _ (Ok n) (Err kinds.Range) tt (λ h. cc))
+    then_closes (ok_or (number_in token) kinds.Number) (within low high) (ok_or_closes (number_in token) kinds.Number tt) (λ n. either_closes _ (Ok n) (Err kinds.Range) tt tt)
 
 address_closes : (token : List ℕ) → Closes (address_in token)
 unfolding address_in
-address_closes token = ok_or_closes (ip_in token) kinds.Address (λ h. cc)
+address_closes token = ok_or_closes (ip_in token) kinds.Address tt
 
 moment_closes : (token : List ℕ) → Closes (moment_in token)
 unfolding moment_in
 moment_closes token =
     either_closes (bytes_eq token (moment_text (parts_in token))) (cond (is_moment (parts_in token)) (Ok (parts_in token)) (Err kinds.Range)) (Err kinds.Number)
-    (either_closes (is_moment (parts_in token)) (Ok (parts_in token)) (Err kinds.Range) tt (λ h. cc)) (λ h. cc)
+    (either_closes (is_moment (parts_in token)) (Ok (parts_in token)) (Err kinds.Range) tt tt) tt
 
 at_closes : (tokens : List (List ℕ)) → Closes (at_in tokens)
 unfolding at_in
@@ -150,26 +156,26 @@ said_closes line =
     then_closes (word_of (tokens_of line)) (λ (p : RecordWord × List (List ℕ)). said_by p.0 p.1) (word_of_closes (tokens_of line)) (λ p. form_closes p.0 p.1)
 
 -- the checks
-test_closed : (b : Bool) (kind : TextKind) → kind ≢ kinds.Unfinished → IsClosed (test b kind)
+test_closed : (b : Bool) (kind : TextKind) → IsOwnKind kind → IsClosed (test b kind)
 test_closed true kind h = h
 test_closed false kind h = tt
 
 most_closed : (word : RecordWord) (n : ℕ) → IsClosed (excess (most_record_lines word) n)
 most_closed words.Lookup n = tt
-most_closed words.Server n = test_closed _ kinds.TooMany (λ h. cc)
-most_closed words.Attempt n = test_closed _ kinds.TooMany (λ h. cc)
-most_closed words.Untried n = test_closed _ kinds.TooMany (λ h. cc)
-most_closed words.At n = test_closed _ kinds.Repeated (λ h. cc)
-most_closed words.To n = test_closed _ kinds.Repeated (λ h. cc)
-most_closed words.From n = test_closed _ kinds.Repeated (λ h. cc)
-most_closed words.Connected n = test_closed _ kinds.Repeated (λ h. cc)
-most_closed words.GaveUp n = test_closed _ kinds.Repeated (λ h. cc)
-most_closed words.Failed n = test_closed _ kinds.Repeated (λ h. cc)
+most_closed words.Server n = test_closed _ kinds.TooMany tt
+most_closed words.Attempt n = test_closed _ kinds.TooMany tt
+most_closed words.Untried n = test_closed _ kinds.TooMany tt
+most_closed words.At n = test_closed _ kinds.Repeated tt
+most_closed words.To n = test_closed _ kinds.Repeated tt
+most_closed words.From n = test_closed _ kinds.Repeated tt
+most_closed words.Connected n = test_closed _ kinds.Repeated tt
+most_closed words.GaveUp n = test_closed _ kinds.Repeated tt
+most_closed words.Failed n = test_closed _ kinds.Repeated tt
 
 repeated_closed : (before : List Said) (s : Said) → IsClosed (repeated before s)
-repeated_closed before (LookupSaid family reason) = test_closed _ kinds.Repeated (λ h. cc)
-repeated_closed before (AttemptSaid ip reason) = test_closed _ kinds.Repeated (λ h. cc)
-repeated_closed before (UntriedSaid ip) = test_closed _ kinds.Repeated (λ h. cc)
+repeated_closed before (LookupSaid family reason) = test_closed _ kinds.Repeated tt
+repeated_closed before (AttemptSaid ip reason) = test_closed _ kinds.Repeated tt
+repeated_closed before (UntriedSaid ip) = test_closed _ kinds.Repeated tt
 repeated_closed before (AtSaid moment) = tt
 repeated_closed before (ToSaid host port) = tt
 repeated_closed before (FromSaid ip) = tt
@@ -203,3 +209,15 @@ content_closed before line =
     (of_word_closed (one_too_many before) (word_of (tokens_of line)) (λ word. most_closed word _) (word_of_closes (tokens_of line)))
     (err_closed (said_in line) (said_closes line))
     (of_said_closed (repeated before) (said_in line) (λ s. repeated_closed before s))
+
+-- all checks of a line
+all_closed : (b : Bool) (after : List (List ℕ)) (content : Option TextKind) (kind : TextKind) → IsClosed content → first_fault (test b kinds.TooMany ∷ unfinished after ∷ content ∷ []) ≡ Some kind
+    → (kind ≡ kinds.Unfinished) ⊎ IsOwnKind kind
+all_closed true after content kind h e = let same : kinds.TooMany ≡ kind = cc (e) in inr (subst IsOwnKind same tt)
+all_closed false [] content kind h e = let same : kinds.Unfinished ≡ kind = cc (e) in inl (sym same)
+all_closed false (part ∷ parts) None kind h e = cc
+all_closed false (part ∷ parts) (Some k) kind h e = let same : k ≡ kind = cc (e) in inr (subst IsOwnKind same h)
+
+pub line_closed : (before : List Said) (line : List ℕ) (after : List (List ℕ)) (kind : TextKind) → line_fault before line after ≡ Some kind → (kind ≡ kinds.Unfinished) ⊎ IsOwnKind kind
+unfolding line_fault
+line_closed before line after kind e = all_closed _ after (content_fault before line) kind (content_closed before line) e

@@ -4,7 +4,7 @@ use Rattle.std.specs.Prelude.{◌⊎◌}
 use Rattle.std.specs.List.{AllByRecursion, AllZip}
 use Rattle.std.specs.Result.{result_err}
 use Rattle.std.proofs.lemmas.Bool.{le-ltb, ltb-false}
-use Rattle.std.proofs.lemmas.List.{append-nil}
+use Rattle.std.proofs.lemmas.List.{append-nil, length-append}
 use Rattle.he_words.specs.Ranges.{most_line_bytes}
 use Rattle.he_words.specs.declared.fault.TextKind.{TextKind}
 use Rattle.he_words.specs.declared.fault.TextKind.TheVariants as kinds
@@ -224,6 +224,19 @@ fails_later n told lines m kind h = by_end (search n told lines)
           let same : ◌≡◌ {A = ℕ × TextKind} (n + length is.passed, fault.2) (m, kind) = cc (fault.6, h) in
           let line : n + length is.passed ≡ m = ap (λ (p : ℕ × TextKind). p.0) same in
           omega arith
+    ]
+
+-- a search finds all that was said before
+pub found_longer : (n : ℕ) (told : List Said) (lines : List (List ℕ)) (front : Front) → front_from n told lines ≡ Ok front → length told ≤ length front.said
+found_longer n told lines front h = by_end (search n told lines)
+  where
+    by_end : Passed n told lines (front_from n told lines) → length told ≤ length front.said
+    by_end is = elim is.ends [
+      | inl stop ↦
+          let same : record { said = told ++ is.said; left = is.left } ≡ front = cc (stop.1, h) in
+          let size : length (told ++ is.said) ≡ length front.said = ap (λ (f : Front). length f.said) same in
+          omega (arith, length-append told is.said)
+      | inr fault ↦ let wrong : ◌≡◌ {A = Result Front (ℕ × TextKind)} (Err (n + length is.passed, fault.2)) (Ok front) = sym fault.6 ∙ h in cc
     ]
 
 -- right lines are passed, whatever follows them

@@ -1,10 +1,10 @@
-mod Closed
-mod FitLaws
+pub mod Closed
+pub mod FitLaws
 mod FormReads
 mod FormSays
 pub mod FrontLaws
 pub mod GoesOn
-mod LineSays
+pub mod LineSays
 mod Lines
 mod MomentLaws
 mod Rereading

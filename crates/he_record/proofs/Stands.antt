@@ -1,5 +1,5 @@
 -- A record and its fault stand in each text that begins with the bytes of theirs.
-use Rattle.std.proofs.Common.{◌≡◌, ℕ, ◌+◌, ◌<◌, ◌≤◌, Bool, true, false, cond, eqb, ltb, List, [], ◌∷◌, ◌++◌, length, Option, Some, None, Err, refl, sym, ◌∙◌, ap, arith, length-append}
+use Rattle.std.proofs.Common.{◌≡◌, ℕ, ◌+◌, ◌<◌, ◌≤◌, Bool, true, false, cond, eqb, ltb, List, [], ◌∷◌, ◌++◌, length, Option, Some, None, Err, refl, sym, ◌∙◌, ap, subst, arith, length-append}
 use Rattle.std.specs.Prelude.{◌≢◌, codes}
 use Rattle.std.specs.List.{onto_first, join_with_byte}
 use Rattle.std.proofs.lemmas.Bool.{ltb-true, lt-ltb}
@@ -22,7 +22,7 @@ use Rattle.he_record.specs.Fronts.{IsRecordFault, goes_on}
 use Rattle.he_record.specs.Said.{Said}
 use Rattle.he_record.specs.Text.{IsRecordText}
 use Rattle.he_record.specs.Words.{first_token}
-use Rattle.he_record.proofs.Closed.{IsClosed, content_closed}
+use Rattle.he_record.proofs.Closed.{IsClosed, IsOwnKind, content_closed}
 use Rattle.he_record.proofs.FrontLaws.{all_pass, as_many, begins_found, fails_later, fault_is_first, first_is_fault}
 
 pub some_parts : (mark : ℕ) (text : List ℕ) → 0 < length (pieces_of mark text)
@@ -63,7 +63,7 @@ glued_behind [] part parts others = refl
 glued_behind (first ∷ []) part parts others = refl
 glued_behind (first ∷ next ∷ front) part parts others = ap (λ ps. first ∷ ps) (glued_behind (next ∷ front) part parts others)
 
-some_glued : (part : List ℕ) (parts others : List (List ℕ)) → 0 < length (glued (part ∷ parts) others)
+pub some_glued : (part : List ℕ) (parts others : List (List ℕ)) → 0 < length (glued (part ∷ parts) others)
 some_glued part [] [] = omega arith
 some_glued part [] (other ∷ others) = omega arith
 some_glued part (next ∷ parts) others = omega arith
@@ -172,7 +172,7 @@ fault_stands text more n kind h other = let is = fault_is_first text n kind h in
 closed_line : (b : Bool) (content : Option TextKind) → IsClosed content → first_fault (test b kinds.TooMany ∷ None ∷ content ∷ []) ≡ Some kinds.Unfinished → ⊥
 closed_line true content h e = cc
 closed_line false None h e = cc
-closed_line false (Some kind) h e = h (cc)
+closed_line false (Some kind) h e = let same : kind ≡ kinds.Unfinished = cc (e) in subst IsOwnKind same h
 
 ended_closed : (said : List Said) (line next : List ℕ) (after : List (List ℕ)) → line_fault said line (next ∷ after) ≡ Some kinds.Unfinished → ⊥
 unfolding line_fault

@@ -1,5 +1,5 @@
--- The faults of one more line of a record that is made: the checks of a line of a text, in their order, without those
--- of its spelling.
+-- The faults of a line that is added to a record: the checks of a line of a text, in order, without those of the
+-- spelling.
 use Rattle.std.specs.Prelude.{◌≤◌, not, List, [], ◌∷◌, Option, None, nat_lt}
 use Rattle.he_addr.specs.Ip.{InRange}
 use Rattle.he_timeline.specs.declared.limits.TheConstants.{MAX_TICK}
@@ -12,7 +12,7 @@ use Rattle.he_record.specs.Moments.{is_moment}
 use Rattle.he_record.specs.Ranges.{least_port}
 use Rattle.he_record.specs.Said.{Said, AtSaid, ToSaid, FromSaid, ServerSaid, AttemptSaid, UntriedSaid, EndSaid, is_host, ticks_of, word_said}
 
--- a value out of its range, of those that the program's types allow
+-- a value out of its range that the program's types allow
 abbrev pub value_fault : Said → Option TextKind
 value_fault (AtSaid moment) = test (not (is_moment moment)) kinds.Range
 value_fault (ToSaid host port) =
@@ -21,7 +21,7 @@ value_fault (ServerSaid ip reason ticks) = test (nat_lt MAX_TICK ticks) kinds.Ra
 value_fault (EndSaid end) = test (nat_lt MAX_TICK (ticks_of end)) kinds.Range
 value_fault said = None
 
--- the ranges that the values have by the program's types
+-- the ranges of the program's types
 abbrev pub HasTypes : Said → Type 0
 HasTypes (ToSaid host port) = port ≤ most_u16
 HasTypes (FromSaid ip) = InRange ip

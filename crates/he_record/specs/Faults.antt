@@ -1,6 +1,6 @@
--- The faults of record lines. A line undergoes the checks in the order in which they stand here; each is a condition on
--- the line, on what the lines before it say (they are right, since the least faulty line decides), and for the second
--- check on what follows it.
+-- The faults of record lines. A line undergoes the checks in this order. Each is a condition on the line and on the
+-- lines before it (these are right, since the first faulty line decides); the second check depends on the parts after
+-- the line.
 use Rattle.std.specs.Prelude.{ℕ, ◌==◌, List, [], ◌∷◌, Option, Some, None, Result, Ok, Err, nat_lt, count_by}
 use Rattle.std.specs.Result.{result_err}
 use Rattle.he_words.specs.declared.fault.TextKind.{TextKind}
@@ -12,12 +12,12 @@ use Rattle.he_record.specs.Forms.{word_of, said_in}
 use Rattle.he_record.specs.Said.{Said, LookupSaid, AttemptSaid, UntriedSaid, group_said, looks_up, tells_of}
 use Rattle.he_record.specs.Words.{word_group, most_record_lines}
 
--- the group of the last line; before the first line there is group 0
+-- the group of the last line; 0 before the first line
 abbrev pub last_group : ℕ → List Said → ℕ
 last_group group [] = group
 last_group group (said ∷ more) = last_group (group_said said) more
 
--- how many lines of the group there are
+-- the number of lines of the group
 abbrev pub lines_with : ℕ → List Said → ℕ
 lines_with group said = count_by (λ s. group_said s == group) said
 
@@ -25,7 +25,7 @@ lines_with group said = count_by (λ s. group_said s == group) said
 abbrev pub out_of_order : List Said → RecordWord → Option TextKind
 out_of_order before word = test (nat_lt (word_group word) (last_group 0 before)) kinds.Word
 
--- 4: a line more than there may be of its group
+-- 4: a line too many of its group
 abbrev pub one_too_many : List Said → RecordWord → Option TextKind
 one_too_many before word = excess (most_record_lines word) (lines_with (word_group word) before)
 
@@ -33,7 +33,7 @@ abbrev pub of_word : (RecordWord → Option TextKind) → Result (RecordWord × 
 of_word check (Ok parts) = check parts.0
 of_word check (Err kind) = Some kind
 
--- 6: a family looked up twice, an address of which something is told twice
+-- 6: a second look-up of a family, or a second line about an address
 abbrev pub repeated : List Said → Said → Option TextKind
 repeated before (LookupSaid family reason) = test (nat_lt 0 (count_by (looks_up family) before)) kinds.Repeated
 repeated before (AttemptSaid ip reason) = test (nat_lt 0 (count_by (tells_of ip) before)) kinds.Repeated
@@ -44,8 +44,8 @@ abbrev pub of_said : (Said → Option TextKind) → Result Said TextKind → Opt
 of_said check (Ok said) = check said
 of_said check (Err kind) = None
 
--- the checks of what a line says, after lines that said this. The fifth is that of what the line says by itself
--- (`Forms`): the number of tokens, then each of them from left to right.
+-- the checks of a line's contents after lines with these contents. The fifth is that of the line's own form
+-- (`Forms`): the number of tokens, then each token from left to right.
 unfoldable pub content_fault : List Said → List ℕ → Option TextKind
 content_fault before line =
     first_fault (
@@ -55,6 +55,6 @@ content_fault before line =
     ∷ of_said (repeated before) (said_in line)
     ∷ [])
 
--- the fault of a record line, by what the lines before it say and the parts after it: the first check that fails
+-- the first check that fails on a record line, after lines with these contents, with these parts after it
 unfoldable pub line_fault : List Said → List ℕ → List (List ℕ) → Option TextKind
 line_fault before line after = first_fault (too_long line ∷ unfinished after ∷ content_fault before line ∷ [])

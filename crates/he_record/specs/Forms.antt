@@ -1,5 +1,5 @@
--- The forms of record lines: what a line says by itself, checked from left to right. First how many tokens there are,
--- then each token; the first that is wrong decides.
+-- The forms of record lines, checked from left to right: first the number of tokens, then each token. The first check
+-- that fails is the fault.
 use Rattle.std.specs.Prelude.{ℕ, Bool, false, List, [], ◌∷◌, Result, Ok, Err, if◌then◌else◌}
 use Rattle.std.specs.Option.{ok_or}
 use Rattle.std.specs.Str.{bytes_eq}
@@ -22,7 +22,7 @@ use Rattle.he_record.specs.Ranges.{least_port}
 use Rattle.he_record.specs.Said.{Said, AtSaid, ToSaid, FromSaid, LookupSaid, ServerSaid, AttemptSaid, UntriedSaid, EndSaid, is_host}
 use Rattle.he_record.specs.Words.{first_token, record_word_in, family_in, lookup_in, server_in, attempt_in}
 
--- a time that isn't spelled as one is no number; one that there isn't is out of range
+-- a time in another format is no number; a time that doesn't exist is out of range
 unfoldable pub moment_in : List ℕ → Result Moment TextKind
 moment_in token =
     if bytes_eq token (moment_text (parts_in token))
@@ -107,7 +107,7 @@ said_by words.Connected tokens = end_in ends.Connected tokens
 said_by words.GaveUp tokens = end_in ends.GaveUp tokens
 said_by words.Failed tokens = end_in ends.Failed tokens
 
--- the line is one of a record: its first token is `record`
+-- the line is a record line: its first token is `record`
 unfoldable pub is_record_line : List (List ℕ) → Bool
 is_record_line [] = false
 is_record_line (first ∷ tokens) = bytes_eq first first_token

@@ -1,4 +1,4 @@
--- The record with which a text begins, or what is wrong with it. No search.
+-- The record with which a text begins, or its first fault. No search.
 use Rattle.std.specs.Prelude.{ℕ, ◌≡◌, ◌<◌, ◌+◌, Bool, true, false, List, [], ◌∷◌, ◌++◌, length, Some}
 use Rattle.he_words.specs.declared.fault.TextKind.{TextKind}
 use Rattle.he_reading.specs.Parts.{lines_of, tokens_of}
@@ -12,8 +12,8 @@ abbrev pub goes_on : List (List ℕ) → Bool
 goes_on [] = false
 goes_on (line ∷ after) = is_record_line (tokens_of line)
 
--- the text begins with the lines of a record that says this, and after them no record line comes; what stands after
--- the last line end of a text is no line
+-- the text begins with the lines of a record with these contents, and no record line follows them; the bytes after
+-- the last line end of a text are no line
 pub record BeginsWithRecord (text : List ℕ) (said : List Said) (left : List (List ℕ)) : Type 0 where
   pub lines : List (List ℕ)
   pub parts : lines_of text ≡ lines ++ left

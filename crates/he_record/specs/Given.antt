@@ -1,4 +1,4 @@
--- The values that a record gives, for each kind of line of which there is one at most.
+-- The values of a record, for each kind of line of which it has at most one.
 use Rattle.std.specs.Prelude.{ℕ, ◌==◌, Bool, true, false, List, Option, Some, None, find}
 use Rattle.he_addr.specs.declared.ip.Family.{Family}
 use Rattle.he_addr.specs.declared.ip.Ip.{Ip}
@@ -49,30 +49,30 @@ abbrev pub end_on : Option Said → Option ClientEnd
 end_on (Some (EndSaid end)) = Some end
 end_on line = None
 
--- when the race began
+-- the time of tick 0
 abbrev pub at_given : List Said → Option Moment
 at_given said = moment_on (line_with words.At said)
 
--- the host and the port that were asked for
+-- the requested host and port
 abbrev pub to_given : List Said → Option (List ℕ × ℕ)
 to_given said = target_on (line_with words.To said)
 
--- whose connection it was
+-- the client's address
 abbrev pub from_given : List Said → Option Ip
 from_given said = client_on (line_with words.From said)
 
--- why the family has no address
+-- the reason that the family has no address
 abbrev pub lookup_given : Family → List Said → Option LookupReason
 lookup_given family said = lookup_on (lookup_line family said)
 
--- why the attempt at the address failed
+-- the reason that the attempt at the address failed
 abbrev pub attempt_given : Ip → List Said → Option AttemptReason
 attempt_given ip said = attempt_on (address_line ip said)
 
--- nobody tried the address
+-- no client tried the address
 abbrev pub is_untried_given : Ip → List Said → Bool
 is_untried_given ip said = is_untried_on (address_line ip said)
 
--- how the recorded client itself ended
+-- the recorded client's own result
 abbrev pub end_given : List Said → Option ClientEnd
 end_given said = end_on (line_with words.Connected said)

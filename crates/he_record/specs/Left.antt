@@ -1,4 +1,4 @@
--- Mirrors the code: what is left of a line while it is read, and what a line of the program says.
+-- Mirrors the code: the rest of a line while it is read, and the contents of a line of the program.
 use Rattle.std.specs.Prelude.{ℕ, ◌≡◌, ◌==◌, ◌||◌, Bool, true, List, [], ◌∷◌, Option, Some, None, Result, Ok, Err}
 use Rattle.std.specs.Borrow.{Bor}
 use Rattle.he_words.specs.Ranges.{line_end, token_end}
@@ -21,7 +21,7 @@ abbrev pub ends_token : List ℕ → Bool
 ends_token [] = true
 ends_token (byte ∷ more) = byte == token_end || byte == line_end
 
--- a line of the program, as what it says
+-- the contents of a line of the program
 abbrev pub said_of : RecordLine → Said
 said_of (lines.At moment) = AtSaid moment
 said_of (lines.To host port) = ToSaid host.now port
@@ -32,7 +32,7 @@ said_of (lines.Attempt ip reason) = AttemptSaid ip reason
 said_of (lines.Untried ip) = UntriedSaid ip
 said_of (lines.End end) = EndSaid end
 
--- a line of the program was read as the form says, or has its fault
+-- a line of the program was read by the form, or has its fault
 abbrev pub IsFormOf : (List (List ℕ) → Result Said TextKind) → List (List ℕ) → Result RecordLine TextKind → Type 0
 IsFormOf form tokens (Ok line) = form tokens ≡ Ok (said_of line)
 IsFormOf form tokens (Err kind) = form tokens ≡ Err kind

@@ -1,9 +1,9 @@
--- Mirrors the code: the parts that stand at their places in the text of a moment. A text that is not the one of these
--- parts is not spelled as a moment.
+-- Mirrors the code: the fields at their places in the text of a moment. A text that differs from the text of these
+-- fields has another format.
 use Rattle.std.specs.Prelude.{ℕ, ◌+◌, ◌*◌, ◌%◌, List, slice_index}
 use Rattle.he_record.specs.declared.moment.Moment.{Moment}
 
--- the value of a digit, and of another byte some number below 16
+-- the value of a digit; of another byte, some number below 16
 abbrev pub value_of : ℕ → ℕ
 value_of byte = byte % 16
 

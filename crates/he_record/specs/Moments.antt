@@ -1,4 +1,4 @@
--- Moments, and their texts: RFC 3339 in UTC, with milliseconds. A moment has one text.
+-- Moments and their texts: RFC 3339 in UTC, with milliseconds. A moment has one text.
 use Rattle.std.specs.Prelude.{ℕ, ◌+◌, ◌/◌, ◌%◌, ◌==◌, ◌&&◌, ◌||◌, Bool, not, if◌then◌else◌, List, [], ◌∷◌, nat_le}
 use Rattle.he_record.specs.declared.moment.Moment.{Moment}
 
@@ -6,14 +6,14 @@ use Rattle.he_record.specs.declared.moment.Moment.{Moment}
 abbrev pub is_leap : ℕ → Bool
 is_leap year = year % 4 == 0 && (not (year % 100 == 0) || year % 400 == 0)
 
--- how many days the month of the year has (RFC 3339 section 5.7)
+-- the number of days of the month (RFC 3339 section 5.7)
 abbrev pub days_of : ℕ → ℕ → ℕ
 days_of year month =
     if month == 2 then (if is_leap year then 29 else 28)
     else if month == 4 || month == 6 || month == 9 || month == 11 then 30
     else 31
 
--- the parts are those of a moment: of the years 0 to 9999, where each minute has 60 seconds
+-- there is this date in the years 0 to 9999, and this time of day; each minute has 60 seconds
 abbrev pub is_date : Moment → Bool
 is_date m =
     nat_le m.year 9999 && nat_le 1 m.month && nat_le m.month 12 && nat_le 1 m.day && nat_le m.day (days_of m.year m.month)

@@ -1,4 +1,4 @@
--- Record lines, by what they say. The value of a record is the list of what its lines say.
+-- The contents of record lines. The value of a record is the list of its lines' contents.
 use Rattle.std.specs.Prelude.{ℕ, ◌≤◌, ◌&&◌, Bool, true, false, List, length, IsTrue, nat_le}
 use Rattle.std.specs.List.{list_all}
 use Rattle.he_addr.specs.declared.ip.Family.{Family}
@@ -19,9 +19,9 @@ use Rattle.he_record.specs.Moments.{is_moment}
 use Rattle.he_record.specs.Ranges.{most_host_bytes, least_port}
 use Rattle.he_record.specs.Words.{word_group}
 
--- a line says one of these: when the race began; what host and port were asked for; whose connection it was; why a
--- family has no address; why a name server was given up, and after how many ticks; why an attempt failed; that nobody
--- tried an address; how the recorded client itself ended
+-- the contents of a line: the time of tick 0; the requested host and port; the client's address; the reason that a
+-- family has no address; the reason that a name server was given up, and after how many ticks; the reason that an
+-- attempt failed; an address that no client tried; the recorded client's own result
 pub data Said : Type 0 where
   AtSaid : Moment → Said
   ToSaid : List ℕ → ℕ → Said
@@ -32,7 +32,7 @@ pub data Said : Type 0 where
   UntriedSaid : Ip → Said
   EndSaid : ClientEnd → Said
 
--- the word of the lines that say it, and their group
+-- the word and the group of the line
 abbrev pub word_said : Said → RecordWord
 word_said (AtSaid moment) = words.At
 word_said (ToSaid host port) = words.To
@@ -57,11 +57,11 @@ ticks_of (ends.Failed ticks) = ticks
 abbrev pub is_host_byte : ℕ → Bool
 is_host_byte byte = nat_le 33 byte && nat_le byte 126
 
--- a host that can be asked for: 1 to 255 such bytes
+-- 1 to 255 such bytes
 abbrev pub is_host : List ℕ → Bool
 is_host host = nat_le 1 (length host) && nat_le (length host) most_host_bytes && list_all is_host_byte host
 
--- a line may say it: its values are in their ranges
+-- its values are in their ranges
 abbrev pub MaySay : Said → Type 0
 MaySay (AtSaid moment) = IsTrue (is_moment moment)
 MaySay (ToSaid host port) = IsTrue (is_host host) × (least_port ≤ port) × (port ≤ most_u16)
@@ -72,7 +72,7 @@ MaySay (AttemptSaid ip reason) = InRange ip
 MaySay (UntriedSaid ip) = InRange ip
 MaySay (EndSaid end) = ticks_of end ≤ MAX_TICK
 
--- the line says why the family has no address
+-- the line gives the reason that the family has no address
 abbrev pub same_family : Family → Family → Bool
 same_family V6 V6 = true
 same_family V4 V4 = true
@@ -82,7 +82,7 @@ abbrev pub looks_up : Family → Said → Bool
 looks_up family (LookupSaid other reason) = same_family family other
 looks_up family said = false
 
--- the line tells of an attempt at the address, or that nobody tried it
+-- the line is an attempt at the address, or marks it as untried
 abbrev pub tells_of : Ip → Said → Bool
 tells_of ip (AttemptSaid other reason) = same_ip other ip
 tells_of ip (UntriedSaid other) = same_ip other ip

@@ -1,4 +1,4 @@
--- The texts of records: which lines stand in them, and what they say. No search.
+-- The texts of records: their lines and contents. No search.
 use Rattle.std.specs.Prelude.{ℕ, ◌≡◌, ◌≤◌, ◌&&◌, Bool, true, IsTrue, List, [], ◌∷◌, ◌++◌, length, IfSome, nat_le, count_by}
 use Rattle.std.specs.List.{AllByRecursion, AllZip}
 use Rattle.he_addr.specs.declared.ip.Family.{Family}
@@ -15,7 +15,7 @@ use Rattle.he_record.specs.Ranges.{least_port}
 use Rattle.he_record.specs.Said.{Said, AtSaid, ToSaid, FromSaid, LookupSaid, ServerSaid, AttemptSaid, UntriedSaid, EndSaid, MaySay, group_said, is_host, looks_up, tells_of, ticks_of, word_said}
 use Rattle.he_record.specs.Words.{first_token, word_spelling, word_group, most_record_lines, family_spelling, lookup_spelling, server_spelling, attempt_spelling}
 
--- the tokens after the word of a line, and what the line says
+-- the tokens after the word of a line, and the line's contents
 abbrev pub SaysAfterWord : List (List ℕ) → Said → Type 0
 SaysAfterWord tokens (AtSaid moment) = (tokens ≡ moment_text moment ∷ []) × IsTrue (is_moment moment)
 SaysAfterWord tokens (ToSaid host port) =
@@ -30,7 +30,7 @@ SaysAfterWord tokens (AttemptSaid ip reason) =
 SaysAfterWord tokens (UntriedSaid ip) = (address : List ℕ) × (tokens ≡ address ∷ []) × Spells address ip
 SaysAfterWord tokens (EndSaid end) = (number : List ℕ) × (tokens ≡ number ∷ []) × IsNumber 0 MAX_TICK number (ticks_of end)
 
--- a line, by its tokens, and what it says
+-- a line, by its tokens, and its contents
 abbrev pub Says : List ℕ → Said → Type 0
 Says line said =
     (tokens : List (List ℕ)) × (tokens_of line ≡ first_token ∷ word_spelling (word_said said) ∷ tokens)
@@ -41,7 +41,7 @@ abbrev pub are_in_order : ℕ → List Said → Bool
 are_in_order group [] = true
 are_in_order group (said ∷ more) = nat_le group (group_said said) && are_in_order (group_said said) more
 
--- the lines stand in order, none is one more than there may be, and none says again what another one said
+-- the lines are in order, no group has too many, and no line repeats a family or an address
 pub record FitTogether (said : List Said) : Type 0 where
   pub order : IsTrue (are_in_order 0 said)
   pub few : (word : RecordWord) → IfSome (most_record_lines word) (λ most. lines_with (word_group word) said ≤ most.0)
@@ -53,13 +53,13 @@ pub record IsRecord (said : List Said) : Type 0 where
   pub ranges : AllByRecursion MaySay said
   pub fit : FitTogether said
 
--- the lines of a record that says this
+-- the lines of a record with these contents
 pub record AreRecordLines (lines : List (List ℕ)) (said : List Said) : Type 0 where
   pub short : AllByRecursion (λ line. length line ≤ most_line_bytes) lines
   pub say : AllZip Says lines said
   pub fit : FitTogether said
 
--- The whole text is a record that says this, maybe one without a line. Each line has a line end, so the last part of
+-- The whole text is a record with these contents, maybe without lines. Each line has a line end, so the last part of
 -- the text is empty.
 pub record IsRecordText (text : List ℕ) (said : List Said) : Type 0 where
   pub lines : List (List ℕ)

@@ -1,4 +1,4 @@
--- The words of record lines: how they are spelled, and the groups in which the lines stand.
+-- The words of record lines: their spellings, and the order of the lines.
 use Rattle.std.specs.Prelude.{ℕ, List, [], ◌∷◌, Option, Some, None, find, codes}
 use Rattle.std.specs.Str.{bytes_eq}
 use Rattle.he_addr.specs.declared.ip.Family.{Family}
@@ -32,7 +32,8 @@ word_spelling Connected = codes "connected"
 word_spelling GaveUp = codes "gave-up"
 word_spelling Failed = codes "failed"
 
--- the groups, in the order in which they stand. How the client ended is one group: one of its three lines may stand.
+-- the groups, in the order of the lines. The client's result is one group: a record has one of its three lines at
+-- most.
 abbrev pub word_group : RecordWord → ℕ
 word_group At = 1
 word_group To = 2
@@ -45,7 +46,8 @@ word_group Connected = 8
 word_group GaveUp = 8
 word_group Failed = 8
 
--- the most lines of the word's group, and the fault of one more. Of the look-ups each family has one.
+-- the maximum number of lines of the word's group, and the fault of one more; a look-up is limited to one of each
+-- family
 abbrev pub most_record_lines : RecordWord → Option (ℕ × TextKind)
 most_record_lines Lookup = None
 most_record_lines Server = Some (most_servers, kinds.TooMany)
@@ -67,7 +69,7 @@ family_spelling V4 = codes "a"
 unfoldable pub family_in : List ℕ → Option Family
 family_in token = find (λ family. bytes_eq token (family_spelling family)) (V6 ∷ V4 ∷ [])
 
--- why a family has no address
+-- the reason that a family has no address
 abbrev pub lookup_spelling : LookupReason → List ℕ
 lookup_spelling lookups.NoSuchName = codes "no-such-name"
 lookup_spelling lookups.NoAddress = codes "no-address"
@@ -83,7 +85,7 @@ lookup_in token =
     (lookups.NoSuchName ∷ lookups.NoAddress ∷ lookups.NoAnswer ∷ lookups.Refused ∷ lookups.Failed ∷ lookups.Malformed
     ∷ lookups.NotAsked ∷ [])
 
--- why a name server was given up
+-- the reason that a name server was given up
 abbrev pub server_spelling : ServerReason → List ℕ
 server_spelling servers.Silent = codes "silent"
 server_spelling servers.Refused = codes "refused"
@@ -95,7 +97,7 @@ server_in token =
     find (λ reason. bytes_eq token (server_spelling reason))
     (servers.Silent ∷ servers.Refused ∷ servers.Failed ∷ servers.Unreachable ∷ [])
 
--- why an attempt failed
+-- the reason that an attempt failed
 abbrev pub attempt_spelling : AttemptReason → List ℕ
 attempt_spelling attempts.Refused = codes "refused"
 attempt_spelling attempts.Unreachable = codes "unreachable"

@@ -1,4 +1,4 @@
--- The texts that are written of records.
+-- The texts that are written for records.
 use Rattle.std.specs.Prelude.{ℕ, List, [], ◌∷◌, ◌++◌, decimal}
 use Rattle.std.specs.List.{flat_map, join_with_byte}
 use Rattle.he_addr.specs.Printing.{printed}
@@ -18,11 +18,11 @@ values_said (AttemptSaid ip reason) = printed ip ∷ attempt_spelling reason ∷
 values_said (UntriedSaid ip) = printed ip ∷ []
 values_said (EndSaid end) = decimal (ticks_of end) ∷ []
 
--- a line: its tokens parted by single spaces, and a line end
+-- a line: its tokens with a single space between them, and a line end
 abbrev pub said_text : Said → List ℕ
 said_text said =
     join_with_byte token_end (first_token ∷ word_spelling (word_said said) ∷ values_said said) ++ line_end ∷ []
 
--- the text of a record: a line for each thing that it says, in their order
+-- the text of a record: its lines in order
 abbrev pub record_text : List Said → List ℕ
 record_text said = flat_map said_text said

@@ -1,4 +1,4 @@
-// The checks of a line by the lines before it.
+// The checks of a line against the lines before it.
 
 ghost use Rattle.std.specs.Prelude.{◌≡◌, ◌<◌, [], ◌∷◌, map, nat_lt, count_by};
 ghost use Rattle.he_words.specs.declared.fault.TextKind.TheVariants as kinds;
@@ -12,7 +12,7 @@ use crate::words::RecordWord;
 use he_addr::{Family, Ip};
 use he_words::TextKind;
 
-// The group of the last line; 0 where there is none.
+// The group of the last line; 0 before the first line.
 fn last_group(before: &[RecordLine<'_>]) -> u8
     ensures { result ≡ last_group 0 (map said_of before.now) }
 {
@@ -22,7 +22,7 @@ fn last_group(before: &[RecordLine<'_>]) -> u8
     }
 }
 
-// How many lines there are of a group.
+// The number of lines of a group.
 fn lines_of_group(before: &[RecordLine<'_>], group: u8) -> usize
     ensures { result ≡ lines_with group (map said_of before.now) }
 {
@@ -39,7 +39,7 @@ fn one_too_many(before: &[RecordLine<'_>], word: RecordWord) -> Option<TextKind>
     }
 }
 
-// The fault of the place of a line of the word.
+// The fault of a line's word, by its group and its count.
 pub(crate) fn word_fault(before: &[RecordLine<'_>], word: RecordWord) -> Option<TextKind>
     ensures { result ≡ first_fault (out_of_order (map said_of before.now) word
         ∷ one_too_many (map said_of before.now) word ∷ []) }
@@ -72,7 +72,7 @@ fn is_told(before: &[RecordLine<'_>], ip: Ip) -> bool
     before.iter().filter(|line| line.tells_of(ip)).count() > 0
 }
 
-// The fault of a line that says again what a line before it said.
+// The fault of a second look-up of a family, or of a second line about an address.
 pub(crate) fn repeats(before: &[RecordLine<'_>], line: &RecordLine<'_>) -> Option<TextKind>
     ensures { result ≡ repeated (map said_of before.now) (said_of line.now) }
 {

@@ -1,5 +1,5 @@
-// The forms of record lines, after the word that follows `record`: how many tokens there are, then each of them from
-// left to right; the first that is wrong decides.
+// The forms of record lines, after the word that follows `record`: the number of tokens is checked first, then each
+// token from left to right. The first check that fails is the fault.
 
 ghost use Rattle.std.specs.Prelude.{◌≡◌, ◌≤◌, ℕ, Ok, Err, IfOk, MatchResult};
 ghost use Rattle.he_words.specs.Ranges.{most_u16};
@@ -188,7 +188,7 @@ fn untried<'t>(tokens: Tokens<'t>) -> Result<RecordLine<'t>, TextKind>
     Ok(RecordLine::Untried(ip))
 }
 
-// record connected N and the like: the number
+// The number of `record connected N`, `record gave-up N` and `record failed N`.
 #[tactic(auto, unfolding(crate::specs::Forms::end_in))]
 fn end_ticks(tokens: Tokens<'_>) -> Result<u64, TextKind>
     ensures { (end : ℕ → ClientEnd) → MatchResult result
@@ -201,7 +201,7 @@ fn end_ticks(tokens: Tokens<'_>) -> Result<u64, TextKind>
     ticks(token)
 }
 
-// The line of this word, by the tokens after the word.
+// Reads the line of this word from the tokens after it.
 pub(crate) fn line_by<'t>(word: RecordWord, tokens: Tokens<'t>) -> Result<RecordLine<'t>, TextKind>
     ensures { IsFormOf (said_by word) (tokens_left tokens.entry) result }
 {
@@ -228,7 +228,7 @@ pub(crate) fn line_by<'t>(word: RecordWord, tokens: Tokens<'t>) -> Result<Record
     }
 }
 
-// The word after `record`, and the tokens after that.
+// Reads the word after `record`; the second value is the tokens after it.
 #[tactic(auto, unfolding(crate::specs::Forms::word_of))]
 pub(crate) fn record_word(line: &[u8]) -> Result<(RecordWord, Tokens<'_>), TextKind>
     ensures { MatchResult result (λ x. word_of (tokens_of line.now) ≡ Ok (x.0, tokens_left x.1))

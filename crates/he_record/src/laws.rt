@@ -19,14 +19,14 @@ ghost use Rattle.he_record.specs.Written.{record_text};
 use crate::records::Record;
 use std::alloc::Allocator;
 
-/// The program's constants are the numbers of the definitions (`specs/Ranges`). Runs nothing.
+/// The constants of `limits` are the numbers of the definitions (`specs/Ranges`). Runs nothing.
 pub fn ranges()
     ensures ports { (MIN_PORT ≡ least_port) × (MAX_PORT ≡ most_u16) }
     ensures hosts { MOST_HOST_BYTES ≡ most_host_bytes }
     ensures lines { (MOST_ONCE ≡ most_once) × (MOST_SERVERS ≡ most_servers) × (MOST_TOLD ≡ most_told) }
 {}
 
-/// A record line says what its form makes of it, the tokens checked from left to right. Runs nothing.
+/// A record line means the contents of its form, with its tokens checked from left to right. Runs nothing.
 pub fn record_lines_say()
     ensures says { (line : List ℕ) (said : Said) → is_record_line (tokens_of line) ≡ true → said_in line ≡ Ok said
         → Says line said }
@@ -34,7 +34,7 @@ pub fn record_lines_say()
         → (is_record_line (tokens_of line) ≡ true) × (said_in line ≡ Ok said) }
 {}
 
-/// The record with which a text begins is found, and no other is. Runs nothing.
+/// The search finds the record with which a text begins, and no other. Runs nothing.
 pub fn fronts_are_records()
     ensures { (text : List ℕ) (said : List Said) (left : List (List ℕ))
         → (front_of text ≡ Ok (record { said = said; left = left })) ↔ BeginsWithRecord text said left }
@@ -46,21 +46,20 @@ pub fn first_record_faults()
         → (front_of text ≡ Err (line, kind)) ↔ IsRecordFault text line kind }
 {}
 
-/// The lines of a record are passed alike whatever follows them. Runs nothing.
+/// The lines of a record are read alike, whatever follows them. Runs nothing.
 pub fn records_pass()
     ensures { (text more : List ℕ) (said : List Said) → IsRecordText text said
         → front_of (text ++ more) ≡ front_from (length said + 1) said (lines_of more) }
 {}
 
-/// A fault of a record line is that of every text that begins with these bytes, unless the text ends inside the line.
-/// Runs nothing.
+/// A fault of a record line is a fault of every text that begins with these bytes, unless the text ends inside the
+/// line. Runs nothing.
 pub fn record_faults_stand()
     ensures { (text more : List ℕ) (line : ℕ) (kind : TextKind) → front_of text ≡ Err (line, kind)
         → kind ≢ kinds.Unfinished → front_of (text ++ more) ≡ Err (line, kind) }
 {}
 
-/// A record that is unfinished ends in the last line of its text: a line more, and it is not unfinished there. Runs
-/// nothing.
+/// An unfinished record ends in the last line of its text. Runs nothing.
 pub fn unfinished_records_end()
     ensures { (text : List ℕ) (line : ℕ) → front_of text ≡ Err (line, kinds.Unfinished)
         → line ≡ length (lines_of text) }
@@ -72,25 +71,25 @@ pub fn record_faults_come_no_earlier()
         → front_of (text ++ more) ≡ Err (later, other) → line ≤ later }
 {}
 
-/// No race's text begins with a record line. Runs nothing.
+/// No text of a race begins with a record line. Runs nothing.
 pub fn races_are_no_records()
     ensures { (text more : List ℕ) (race : Race) → IsRaceText text race → goes_on (lines_of (text ++ more)) ≡ false }
 {}
 
-/// A text is that of one record at most. Runs nothing.
+/// A text is a text of one record at most. Runs nothing.
 pub fn one_record()
     ensures { (text : List ℕ) (said other : List Said) → IsRecordText text said → IsRecordText text other
         → said ≡ other }
 {}
 
-/// The text that is written of a record is one of this record, so it is read as this record, whatever race follows
-/// it. Runs nothing.
+/// The text written for a record is a text of this record: it reads back as this record, whatever race follows it.
+/// Runs nothing.
 pub fn written_records_read_back()
     ensures { (said : List Said) → IsRecord said → IsRecordText (record_text said) said }
 {}
 
-/// The text that `write_record` appends of a record of the program is read back by `read_record` as an equal record.
-/// Looks at the record and changes nothing.
+/// `read_record` reads the text that `write_record` appends for this record as an equal record. Reads the record and
+/// changes nothing.
 pub fn record_reads_back<A: Allocator>(told: &Record<'_, A>)
     ensures { IsRecordText (record_text told.now) told.now }
 {

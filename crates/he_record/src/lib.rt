@@ -1,16 +1,17 @@
 //! Record lines: when, for whom and why a race was recorded, and what its client did.
 //!
-//! A race may have lines that begin with `record` right before its first line. They change nothing of the race. A
-//! [`Record`] is what its lines say, in their order: [`RecordLine`]s by the groups of [`RecordWord`]. [`read_record`]
-//! reads the record with which a text begins, maybe one without a line; [`write_record`] writes one.
+//! A race may have lines that begin with `record` right before its first line. They don't change the race. A
+//! [`Record`] holds these lines: [`RecordLine`]s, ordered by the groups of [`RecordWord`]. [`read_record`] reads the
+//! record with which a text begins, maybe one without lines; [`write_record`] writes one.
 //!
-//! Proved: `read_record` finds the record with which a text begins, where its lines keep to `specs/Text`, memory aside,
-//! and how many bytes and lines it has; where it answers a fault, that is the first check that fails on the first
-//! faulty record line (`specs/Faults`), counted from 1, or memory was refused at a line before which nothing is wrong.
-//! A call of [`Record::add`] answers the longer record or the first fault. And by [`laws`]: a text is one record's at
-//! most; what is written reads back; lines of a record are read alike whatever follows them.
+//! Proved: unless an allocation fails, `read_record` finds the record with which a text begins, if its lines keep to
+//! `specs/Text`, with its number of bytes and of lines. If it returns a fault, this is the first check that fails on
+//! the first faulty record line (`specs/Faults`), counted from 1, or an allocation failed at a line before which
+//! nothing is wrong. [`Record::add`] makes the longer record or returns the first fault. And by [`laws`]: a text is a
+//! text of one record at most; a written record reads back; the lines of a record are read alike whatever follows
+//! them.
 //!
-//! Only tested: that a call succeeds where memory is granted.
+//! Only tested: a call succeeds if no allocation fails.
 #![tactic(auto)]
 
 mod checks;
@@ -28,7 +29,7 @@ pub mod writing;
 
 pub use line::{RecordLine, is_host};
 pub use moment::Moment;
-pub use reading::read_record;
+pub use reading::{goes_on, read_record};
 pub use reasons::{AttemptReason, ClientEnd, LookupReason, ServerReason};
 pub use records::Record;
 pub use words::RecordWord;

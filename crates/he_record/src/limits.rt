@@ -1,19 +1,19 @@
 // The limits of record lines.
 
-/// The most bytes of a host.
+/// The maximum length of a host, in bytes.
 pub const MOST_HOST_BYTES: usize = 255;
 
-/// The least port.
+/// The minimum of a port.
 pub const MIN_PORT: u16 = 1;
 
-/// The greatest port.
+/// The maximum of a port.
 pub const MAX_PORT: u16 = 65_535;
 
-/// The most lines of those kinds of which a record has one.
+/// The maximum number of lines of each kind that a record has once.
 pub const MOST_ONCE: usize = 1;
 
-/// The most name servers of a record.
+/// The maximum number of name servers of a record.
 pub const MOST_SERVERS: usize = 8;
 
-/// The most attempts of a record, and the most addresses that nobody tried.
+/// The maximum number of attempts of a record, and of untried addresses.
 pub const MOST_TOLD: usize = 512;

@@ -1,4 +1,4 @@
-//! Record lines, by what they say.
+//! Record lines.
 
 ghost use Rattle.std.specs.Prelude.{◌≡◌, ◌≤◌};
 ghost use Rattle.std.specs.List.{list_all};
@@ -18,29 +18,30 @@ use he_addr::{Family, Ip};
 use he_timeline::limits::MAX_TICK;
 use he_words::TextKind;
 
-/// A record line, by what it says.
+/// A record line.
 #[derive(Clone, Copy, Debug)]
 pub enum RecordLine<'t> {
-    /// When tick 0 was.
+    /// The time of tick 0.
     At(Moment),
-    /// The host and the port that were asked for: 1 to 255 printable ASCII bytes without a space, 1 to 65535.
+    /// The requested host and port: 1 to 255 printable ASCII bytes without a space, and 1 to 65535.
     To(&'t [u8], u16),
-    /// Whose connection it was, where it isn't this program's own.
+    /// The client's address, if the connection isn't this program's own.
     From(Ip),
-    /// Why a family has no address.
+    /// The reason that a family has no address.
     Lookup(Family, LookupReason),
-    /// A name server that didn't answer, and the milliseconds until it was given up, 0 to 3,600,000.
+    /// A name server that gave no answer, the reason, and the milliseconds until the client gave it up, 0 to
+    /// 3,600,000.
     Server(Ip, ServerReason, u64),
-    /// Why the attempt at an address failed.
+    /// An address, and the reason that the attempt at it failed.
     Attempt(Ip, AttemptReason),
-    /// An address that nobody tried: its outcome is not known.
+    /// An address that no client tried: its outcome is not known.
     Untried(Ip),
-    /// How the recorded client itself ended.
+    /// The recorded client's own result.
     End(ClientEnd),
 }
 
 impl<'t> RecordLine<'t> {
-    /// Its word.
+    /// The line's word.
     pub fn word(&self) -> RecordWord
         ensures { result ≡ word_said (said_of self.now) }
     {
@@ -56,14 +57,14 @@ impl<'t> RecordLine<'t> {
         }
     }
 
-    // The place of its word among those of a record.
+    // The group of the line's word.
     pub(crate) fn group(&self) -> u8
         ensures { result ≡ group_said (said_of self.now) }
     {
         self.word().group()
     }
 
-    // Whether it says why the family has no address.
+    // Whether the line gives the reason that the family has no address.
     pub(crate) fn looks_up(&self, family: Family) -> bool
         ensures { result ≡ looks_up family (said_of self.now) }
     {
@@ -74,7 +75,7 @@ impl<'t> RecordLine<'t> {
         }
     }
 
-    // Whether it tells of an attempt at the address, or that nobody tried it.
+    // Whether the line is an attempt at the address, or marks it as untried.
     pub(crate) fn tells_of(&self, ip: Ip) -> bool
         ensures { result ≡ tells_of ip (said_of self.now) }
     {
@@ -98,7 +99,7 @@ impl<'t> RecordLine<'t> {
         }
     }
 
-    // The ranges that its values have by their types. Runs nothing that matters.
+    // Proves the ranges that the types of its values imply.
     pub(crate) fn has_types(&self)
         ensures { HasTypes (said_of self.now) }
     {
@@ -138,7 +139,7 @@ fn ip_range(ip: Ip)
     let _usable = ip.is_usable();
 }
 
-/// Whether a token may be a host: 1 to 255 printable ASCII bytes, none of them a space.
+/// Whether the token is 1 to 255 printable ASCII bytes, none of them a space.
 pub fn is_host(token: &[u8]) -> bool
     ensures { result ≡ is_host token.now }
 {

@@ -1,11 +1,11 @@
-//! Moments, to the millisecond, and their texts.
+//! Times in UTC, to the millisecond, and their texts.
 
 ghost use Rattle.std.specs.Prelude.{◌≡◌, ◌+◌, ◌<◌, ◌≤◌, length, true, false, MatchOption};
 ghost use Rattle.std.specs.Str.{bytes_eq};
 ghost use Rattle.he_record.specs.MomentParts.{parts_in, two_at, value_of};
 ghost use Rattle.he_record.specs.Moments.{days_of, digit, is_date, is_leap, is_moment, is_time, moment_text};
 
-/// A moment in UTC, to the millisecond. Any parts make a value of this type; `is_moment` tells which are a moment's.
+/// A time in UTC, to the millisecond. The fields may have any values; `is_moment` checks them.
 #[derive(Clone, Copy, Debug, PartialEq, Eq)]
 pub struct Moment {
     pub year: u16,
@@ -17,11 +17,12 @@ pub struct Moment {
     pub millisecond: u16,
 }
 
-/// How many bytes the text of a moment has.
+/// The length of a moment's text, in bytes.
 pub const MOMENT_LEN: usize = 24;
 
 impl Moment {
-    /// Whether the parts are those of a moment: of the years 0 to 9999, with 60 seconds in each minute.
+    /// Whether there is this date, in the years 0 to 9999, and this time of day. Each minute has 60 seconds: there
+    /// are no leap seconds.
     pub fn is_moment(self) -> bool
         ensures { result ≡ is_moment self }
     {
@@ -44,7 +45,7 @@ impl Moment {
         self.hour <= 23 && self.minute <= 59 && self.second <= 59 && self.millisecond <= 999
     }
 
-    /// Its text (RFC 3339): `2026-11-28T10:54:05.261Z`.
+    /// The text in RFC 3339 format: `2026-11-28T10:54:05.261Z`.
     pub fn text(self) -> [u8; MOMENT_LEN]
         ensures { result ≡ moment_text self }
     {
@@ -100,7 +101,7 @@ fn digit(number: u16) -> u8
     b'0' + (number % 10) as u8
 }
 
-// The parts of a text that is spelled as a moment is, whether there is that moment or not.
+// The fields of a text that has the format of a moment, whether there is that moment or not.
 pub(crate) fn read_parts(text: &[u8]) -> Option<Moment>
     ensures { MatchOption result (bytes_eq text.now (moment_text (parts_in text.now)) ≡ false)
         (λ parts. (bytes_eq text.now (moment_text (parts_in text.now)) ≡ true) × (parts ≡ parts_in text.now)) }
@@ -116,7 +117,7 @@ pub(crate) fn read_parts(text: &[u8]) -> Option<Moment>
     }
 }
 
-// The parts that stand at their places.
+// The fields at their places in the text.
 fn parts_in(text: &[u8]) -> Moment
     requires { length text.now ≡ MOMENT_LEN }
     ensures { result ≡ parts_in text.now }
@@ -140,7 +141,7 @@ fn two_at(text: &[u8], at: usize) -> u8
     value_of(text[at]) * 10 + value_of(text[at + 1])
 }
 
-// The value of a digit, and of another byte some number below 16.
+// The value of a digit; of another byte, some number below 16.
 fn value_of(byte: u8) -> u8
     ensures value { result ≡ value_of byte }
     ensures few { result ≤ 15 }

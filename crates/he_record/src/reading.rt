@@ -21,14 +21,14 @@ use he_words::{LINE_END, TOKEN_END, TextFault, TextKind};
 use memchr::memchr;
 use std::alloc::Allocator;
 
-// Whether the text begins with a record line: its first token is `record`.
-fn goes_on(text: &[u8]) -> bool
+/// Whether the text begins with a record line: its first token is `record`.
+pub fn goes_on(text: &[u8]) -> bool
     ensures { result ≡ goes_on (lines_of text.now) }
 {
     text.starts_with(FIRST_TOKEN) && ends_token(&text[FIRST_TOKEN.len()..])
 }
 
-// Whether what stands before these bytes is a whole token.
+// Whether a token ends before these bytes.
 fn ends_token(rest: &[u8]) -> bool
     ensures { result ≡ ends_token rest.now }
 {
@@ -38,11 +38,11 @@ fn ends_token(rest: &[u8]) -> bool
     }
 }
 
-// The line with which a text begins, if it is whole and not too long.
+// The first line of the text, if it is whole and not too long.
 fn whole_line(text: &[u8]) -> Result<&[u8], TextKind>
     ensures { IsWholeLine text.now result }
 {
-    // No line end is looked for after the longest line.
+    // A longer line is too long, wherever it ends.
     let near = text.len().min(MAX_LINE + 1);
     match memchr(LINE_END, &text[..near]) {
         Some(at) => Ok(&text[..at]),
@@ -51,7 +51,7 @@ fn whole_line(text: &[u8]) -> Result<&[u8], TextKind>
     }
 }
 
-// Reads a record line, by what the lines before it say, or answers the first of these checks that fails on it.
+// Reads a record line after the lines before it, or returns the first check that fails on it.
 #[tactic(auto, unfolding(crate::specs::Faults::content_fault, crate::specs::Forms::said_in))]
 fn read_line<'t>(before: &[RecordLine<'_>], line: &'t [u8]) -> Result<RecordLine<'t>, TextKind>
     ensures { MatchResult result
@@ -75,7 +75,7 @@ fn read_line<'t>(before: &[RecordLine<'_>], line: &'t [u8]) -> Result<RecordLine
     }
 }
 
-// Takes the record line with which a text begins: how many bytes it has, its line end included.
+// Reads the first line of the text and adds it to the record. Returns its length in bytes, with its line end.
 fn take_line<'t, A: Allocator>(text: &'t [u8], told: &mut Record<'t, A>) -> Result<usize, TextKind>
     requires { goes_on (lines_of text.now) ≡ true }
     ensures read { MatchResult result (PassesLine text.now told.old told.new)
@@ -97,24 +97,24 @@ fn take_line<'t, A: Allocator>(text: &'t [u8], told: &mut Record<'t, A>) -> Resu
     }
 }
 
-/// The record with which the text begins, maybe one without a line, and the place after it. The fault is that of the
-/// first record line that is wrong, counted from 1, and on it of the first check that fails (`specs/Faults`); or memory
-/// was refused at a line before which nothing is wrong: that fault is `Memory`.
+/// Reads the record with which the text begins, maybe one without lines, and returns it and its length in bytes. The
+/// fault is the first check that fails on the first faulty record line, counted from 1 (`specs/Faults`); or `Memory`
+/// if an allocation failed, at a line before which nothing is wrong.
 pub fn read_record<'t, A: Allocator>(
     alloc: A,
     text: &'t [u8],
 ) -> Result<(Record<'t, A>, usize), TextFault>
-    // The bytes up to the place are the text of this record, and no record line follows them.
+    // These bytes are a text of this record, and no record line follows them.
     ensures found { IfOk result (λ x. IsRecordText (take x.1 text.now) x.0) }
     ensures over { IfOk result (λ x. goes_on (lines_of (drop x.1 text.now)) ≡ false) }
     ensures within { IfOk result (λ x. x.1 ≤ length text.now) }
 
-    // A fault is that of the text's record, or of want of memory at a line before which nothing is wrong.
+    // The fault is the first one of the text's record, or `Memory`.
     ensures fault { IfErr result
         (λ fault. (fault.kind ≡ kinds.Memory) ⊎ IsRecordFault text.now fault.line fault.kind) }
     ensures line { IfErr result (λ fault. IsLineOf text.now fault.line) }
 
-    // And that is what the search finds.
+    // The search has this result too.
     ensures read { MatchResult result (λ x. ReadsFront text.now x.0 x.1)
         (λ fault. FailsFront text.now fault.line fault.kind) }
 {

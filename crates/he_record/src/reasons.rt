@@ -1,4 +1,4 @@
-//! Why look-ups and attempts failed, and how the recorded client ended.
+//! Reasons of failed look-ups and attempts, and the recorded client's own result.
 
 ghost use Rattle.std.specs.Prelude.{◌≡◌};
 ghost use Rattle.he_record.specs.Said.{EndSaid, ticks_of, word_said};
@@ -6,10 +6,10 @@ ghost use Rattle.he_record.specs.Words.{attempt_in, attempt_spelling, lookup_in,
 
 use crate::words::RecordWord;
 
-/// Why a family has no address.
+/// The reason that a family has no address.
 #[derive(Clone, Copy, Debug, PartialEq, Eq)]
 pub enum LookupReason {
-    /// There is no such name.
+    /// The name does not exist.
     NoSuchName,
     /// The name has no address of the family.
     NoAddress,
@@ -19,14 +19,14 @@ pub enum LookupReason {
     Refused,
     /// The name servers failed.
     Failed,
-    /// The answer was no right one.
+    /// The answer was malformed.
     Malformed,
-    /// The family was not asked for.
+    /// The client did not look up the family.
     NotAsked,
 }
 
 impl LookupReason {
-    /// The reason that a token spells.
+    /// Reads a reason from its spelling.
     #[tactic(auto, unfolding(crate::specs::Words::lookup_in))]
     pub fn read(token: &[u8]) -> Option<LookupReason>
         ensures { result ≡ lookup_in token.now }
@@ -50,7 +50,7 @@ impl LookupReason {
         }
     }
 
-    /// How it is spelled.
+    /// The spelling.
     pub fn spelling(self) -> &'static str
         ensures { result.now ≡ lookup_spelling self }
     {
@@ -66,7 +66,7 @@ impl LookupReason {
     }
 }
 
-/// Why a name server was given up.
+/// The reason that the client gave up a name server.
 #[derive(Clone, Copy, Debug, PartialEq, Eq)]
 pub enum ServerReason {
     /// It didn't answer.
@@ -75,12 +75,12 @@ pub enum ServerReason {
     Refused,
     /// It failed.
     Failed,
-    /// Nothing on the way to it takes the packets.
+    /// The server is unreachable.
     Unreachable,
 }
 
 impl ServerReason {
-    /// The reason that a token spells.
+    /// Reads a reason from its spelling.
     #[tactic(auto, unfolding(crate::specs::Words::server_in))]
     pub fn read(token: &[u8]) -> Option<ServerReason>
         ensures { result ≡ server_in token.now }
@@ -98,7 +98,7 @@ impl ServerReason {
         }
     }
 
-    /// How it is spelled.
+    /// The spelling.
     pub fn spelling(self) -> &'static str
         ensures { result.now ≡ server_spelling self }
     {
@@ -111,27 +111,27 @@ impl ServerReason {
     }
 }
 
-/// Why an attempt failed.
+/// The reason that an attempt failed.
 #[derive(Clone, Copy, Debug, PartialEq, Eq)]
 pub enum AttemptReason {
     /// The host refused the connection.
     Refused,
-    /// Nothing on the way to the host takes the packets.
+    /// The host is unreachable.
     Unreachable,
-    /// There was no answer in the time that the client or its system gave it.
+    /// No answer came in the time that the client or its system allowed.
     TimedOut,
-    /// The connection was reset while it was made.
+    /// The connection was reset during the handshake.
     Reset,
-    /// A filter or a rule forbids it.
+    /// A filter or a rule forbids the connection.
     Forbidden,
-    /// The host of the client has no address for the connection.
+    /// The client's host has no source address for the connection.
     NoSource,
     /// Another reason.
     Other,
 }
 
 impl AttemptReason {
-    /// The reason that a token spells.
+    /// Reads a reason from its spelling.
     #[tactic(auto, unfolding(crate::specs::Words::attempt_in))]
     pub fn read(token: &[u8]) -> Option<AttemptReason>
         ensures { result ≡ attempt_in token.now }
@@ -155,7 +155,7 @@ impl AttemptReason {
         }
     }
 
-    /// How it is spelled.
+    /// The spelling.
     pub fn spelling(self) -> &'static str
         ensures { result.now ≡ attempt_spelling self }
     {
@@ -171,19 +171,19 @@ impl AttemptReason {
     }
 }
 
-/// How the recorded client itself ended, by its own rules, and the milliseconds from tick 0 until then, 0 to 3,600,000.
+/// The recorded client's own result, by its own rules, and the milliseconds from tick 0 until then, 0 to 3,600,000.
 #[derive(Clone, Copy, Debug, PartialEq, Eq)]
 pub enum ClientEnd {
-    /// It connected.
+    /// The client connected.
     Connected(u64),
-    /// It gave up while attempts were running.
+    /// The client gave up while attempts were running.
     GaveUp(u64),
-    /// All that it tried had failed.
+    /// All attempts of the client had failed.
     Failed(u64),
 }
 
 impl ClientEnd {
-    /// The word of its line.
+    /// The word of the line with this result.
     pub fn word(self) -> RecordWord
         ensures { result ≡ word_said (EndSaid self) }
     {

@@ -1,4 +1,4 @@
-//! Records: the lines that stand before a race.
+//! Records: the lines before a race.
 
 ghost use Rattle.std.specs.Prelude.{◌≡◌, ◌⊎◌, ◌++◌, ◌∷◌, [], None, Some, map, option_map, IfErr, OnErr, OnOk};
 ghost use Rattle.he_words.specs.declared.fault.TextKind.TheVariants as kinds;
@@ -17,8 +17,8 @@ use he_words::TextKind;
 use std::alloc::{Allocator, Global};
 use std::marker::Model;
 
-/// The record of a race: what its lines say, in their order. The host of a line `record to` is a part of the text that
-/// was read, or of what the maker of the record lent.
+/// The lines of a race's record, in order. The host of a line `record to` is borrowed: from the text that was read,
+/// or from the caller that added the line.
 #[derive(Drop)]
 pub struct Record<'t, A: Allocator = Global> {
     lines: Vec<RecordLine<'t>, A>,
@@ -38,7 +38,7 @@ impl<'t, A: Allocator> Model for Record<'t, A> {
 }
 
 impl<'t, A: Allocator> Record<'t, A> {
-    /// A record without a line.
+    /// A record without lines. It allocates nothing.
     pub fn none(alloc: A) -> Record<'t, A>
         ensures { result ≡ [] }
     {
@@ -47,9 +47,9 @@ impl<'t, A: Allocator> Record<'t, A> {
         }
     }
 
-    /// Its lines, in their order: by groups as [`RecordWord`] has them, with at most one line `at`, `to`, `from` and of
-    /// [`ClientEnd`], one look-up of each family, 8 name servers, 512 attempts and 512 addresses that nobody tried,
-    /// where no address has two lines.
+    /// The lines, ordered by the groups of [`RecordWord`]: at most one line each of `at`, `to`, `from` and
+    /// [`ClientEnd`], one look-up of each family, 8 name servers, 512 attempts and 512 untried addresses. No address
+    /// has two lines of the last two kinds.
     pub fn lines(&self) -> &[RecordLine<'t>]
         ensures value { map said_of result.now ≡ self.now }
         ensures valid { IsRecord self.now }
@@ -57,14 +57,14 @@ impl<'t, A: Allocator> Record<'t, A> {
         self.lines.as_slice()
     }
 
-    /// Adds one more line.
+    /// Adds a line.
     ///
     /// # Errors
     ///
-    /// The fault of the first check that fails, as a line of a text would have it: `Word` where lines of a later group
-    /// stand before it; `TooMany` or `Repeated` where it is one more than there may be of its group; `Word` or `Range`
-    /// where a value is none; `Repeated` where it tells again of a family or an address. `Memory` where an allocation
-    /// was refused. The record stays as it was.
+    /// The fault of the first check that fails, as for a line of a text: `Word` if a line of a later group comes
+    /// before it; `TooMany` or `Repeated` if its group is full; `Word` or `Range` for an invalid value; `Repeated`
+    /// for a second look-up of a family, or a second line about an address. `Memory` if an allocation failed. The
+    /// record is unchanged then.
     pub fn add(&mut self, line: RecordLine<'t>) -> Result<(), TextKind>
         ensures ok { OnOk result
             ((self.new ≡ self.old ++ said_of line.entry ∷ []) × (add_fault self.old (said_of line.entry) ≡ None)) }
@@ -85,7 +85,7 @@ impl<'t, A: Allocator> Record<'t, A> {
         self.push(line)
     }
 
-    // Adds a line that is right.
+    // Adds a line that passes all checks.
     pub(crate) fn push(&mut self, line: RecordLine<'t>) -> Result<(), TextKind>
         requires { IsRecord (self.old ++ said_of line ∷ []) }
         ensures ok { OnOk result (self.new ≡ self.old ++ said_of line.entry ∷ []) }
@@ -96,7 +96,7 @@ impl<'t, A: Allocator> Record<'t, A> {
         Ok(())
     }
 
-    /// When tick 0 was.
+    /// The time of tick 0.
     pub fn at(&self) -> Option<Moment>
         ensures { result ≡ at_given self.now }
     {
@@ -106,7 +106,7 @@ impl<'t, A: Allocator> Record<'t, A> {
         }
     }
 
-    /// The host and the port that were asked for.
+    /// The requested host and port.
     pub fn to(&self) -> Option<(&'t [u8], u16)>
         ensures { target_shown result ≡ to_given self.now }
     {
@@ -116,7 +116,7 @@ impl<'t, A: Allocator> Record<'t, A> {
         }
     }
 
-    /// Whose connection it was, where it isn't this program's own.
+    /// The client's address, if the connection isn't this program's own.
     pub fn from(&self) -> Option<Ip>
         ensures { result ≡ from_given self.now }
     {
@@ -126,7 +126,7 @@ impl<'t, A: Allocator> Record<'t, A> {
         }
     }
 
-    /// Why the family has no address.
+    /// The reason that the family has no address.
     pub fn lookup(&self, family: Family) -> Option<LookupReason>
         ensures { result ≡ lookup_given family self.now }
     {
@@ -136,7 +136,7 @@ impl<'t, A: Allocator> Record<'t, A> {
         }
     }
 
-    /// Why the attempt at the address failed.
+    /// The reason that the attempt at the address failed.
     pub fn attempt(&self, ip: Ip) -> Option<AttemptReason>
         ensures { result ≡ attempt_given ip self.now }
     {
@@ -146,7 +146,7 @@ impl<'t, A: Allocator> Record<'t, A> {
         }
     }
 
-    /// Whether nobody tried the address, so that its outcome is not known.
+    /// Whether no client tried the address, so that its outcome is not known.
     pub fn is_untried(&self, ip: Ip) -> bool
         ensures { result ≡ is_untried_given ip self.now }
     {
@@ -156,7 +156,7 @@ impl<'t, A: Allocator> Record<'t, A> {
         }
     }
 
-    /// How the recorded client itself ended.
+    /// The recorded client's own result.
     pub fn end(&self) -> Option<ClientEnd>
         ensures { result ≡ end_given self.now }
     {
@@ -177,14 +177,14 @@ fn find_word<'t>(lines: &[RecordLine<'t>], word: RecordWord) -> Option<RecordLin
         .copied()
 }
 
-// The line that says why the family has no address.
+// The line with the reason that the family has no address.
 fn find_lookup<'t>(lines: &[RecordLine<'t>], family: Family) -> Option<RecordLine<'t>>
     ensures { option_map said_of result ≡ lookup_line family (map said_of lines.now) }
 {
     lines.iter().find(|line| line.looks_up(family)).copied()
 }
 
-// The line that tells of the address.
+// The line of an attempt at the address, or that marks it as untried.
 fn find_address<'t>(lines: &[RecordLine<'t>], ip: Ip) -> Option<RecordLine<'t>>
     ensures { option_map said_of result ≡ address_line ip (map said_of lines.now) }
 {

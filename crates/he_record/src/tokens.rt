@@ -7,7 +7,7 @@ ghost use Rattle.he_record.specs.Left.{tokens_left};
 use he_words::TOKEN_END;
 use memchr::memchr;
 
-// The tokens of a line that are still to be read.
+// The tokens of a line that are not read yet.
 #[derive(Clone, Copy)]
 pub(crate) struct Tokens<'t> {
     rest: Option<&'t [u8]>,
@@ -37,7 +37,7 @@ impl<'t> Tokens<'t> {
         }
     }
 
-    // The only token, if there is just one.
+    // The token left, if there is exactly one.
     pub(crate) fn one(self) -> Option<&'t [u8]>
         ensures { MatchOption result (length (tokens_left self.entry) ≡ 1 → ⊥)
             (λ x. tokens_left self.entry ≡ x.now ∷ []) }
@@ -52,7 +52,7 @@ impl<'t> Tokens<'t> {
         }
     }
 
-    // The two tokens, if there are just so many.
+    // The tokens left, if there are exactly two.
     pub(crate) fn two(self) -> Option<(&'t [u8], &'t [u8])>
         ensures { MatchOption result (length (tokens_left self.entry) ≡ 2 → ⊥)
             (λ x. tokens_left self.entry ≡ x.0.now ∷ x.1.now ∷ []) }
@@ -67,7 +67,7 @@ impl<'t> Tokens<'t> {
         }
     }
 
-    // The three tokens, if there are just so many.
+    // The tokens left, if there are exactly three.
     pub(crate) fn three(self) -> Option<(&'t [u8], &'t [u8], &'t [u8])>
         ensures { MatchOption result (length (tokens_left self.entry) ≡ 3 → ⊥)
             (λ x. tokens_left self.entry ≡ x.0.now ∷ x.1.now ∷ x.2.now ∷ []) }

@@ -9,7 +9,7 @@ use he_words::TextKind;
 /// The first token of a record line.
 pub const FIRST_TOKEN: &[u8] = b"record";
 
-/// The words that follow `record`, in the order in which the lines stand. The last three are of one group.
+/// The words after `record`, in the order of their lines. The last three are one group.
 #[derive(Clone, Copy, Debug, PartialEq, Eq)]
 pub enum RecordWord {
     At,
@@ -25,7 +25,7 @@ pub enum RecordWord {
 }
 
 impl RecordWord {
-    /// The word that a token spells.
+    /// Reads a word from its spelling.
     #[tactic(auto, unfolding(crate::specs::Words::record_word_in))]
     pub fn read(token: &[u8]) -> Option<RecordWord>
         ensures { result ≡ record_word_in token.now }
@@ -55,7 +55,7 @@ impl RecordWord {
         }
     }
 
-    /// How it is spelled.
+    /// The spelling.
     pub fn spelling(self) -> &'static str
         ensures { result.now ≡ word_spelling self }
     {
@@ -73,7 +73,7 @@ impl RecordWord {
         }
     }
 
-    /// The place of its lines among those of a record, from 1 on.
+    /// The number of its group, from 1. The lines of a record are ordered by group.
     pub fn group(self) -> u8
         ensures { result ≡ word_group self }
     {
@@ -89,7 +89,7 @@ impl RecordWord {
         }
     }
 
-    /// The most lines of its group, if there is a bound, and the fault of one more.
+    /// The maximum number of lines of its group, if it is limited, and the fault of one more.
     pub fn most_lines(self) -> Option<(usize, TextKind)>
         ensures { result ≡ most_record_lines self }
     {

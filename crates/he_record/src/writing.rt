@@ -1,4 +1,4 @@
-//! Writing records to texts.
+//! Writing records as text.
 
 ghost use Rattle.std.specs.Prelude.{◌≡◌, ◌++◌, ◌∷◌, [], map, OnErr, OnOk};
 ghost use Rattle.he_words.specs.Appending.{AppendsText};
@@ -28,7 +28,7 @@ fn write_bytes<A: Allocator + Copy>(bytes: &[u8], out: &mut Vec<u8, A>) -> Resul
     ensures ok { OnOk result (out.new.items ≡ out.old.items ++ bytes.now) }
     ensures err { OnErr result (out.new.items ≡ out.old.items) }
 {
-    out.extend_from_slice(bytes).map_err(|_| Memory)
+    out.extend_from_slice(bytes)
 }
 
 fn write_byte<A: Allocator + Copy>(byte: u8, out: &mut Vec<u8, A>) -> Result<(), Memory>
@@ -49,7 +49,7 @@ fn write_token<A: Allocator + Copy>(token: Token, out: &mut Vec<u8, A>) -> Resul
     }
 }
 
-// A space, and the token.
+// Appends a space and the token.
 fn write_one<A: Allocator + Copy>(token: Token, out: &mut Vec<u8, A>) -> Result<(), Memory>
     ensures { AppendsText result out.old.items out.new.items (32 ∷ token_text token.entry) }
 {
@@ -57,7 +57,7 @@ fn write_one<A: Allocator + Copy>(token: Token, out: &mut Vec<u8, A>) -> Result<
     write_token(token, out)
 }
 
-// Two tokens, each behind a space.
+// Appends two tokens, each after a space.
 fn write_two<A: Allocator + Copy>(
     first: Token,
     second: Token,
@@ -79,7 +79,7 @@ fn family_word(family: Family) -> &'static str
     }
 }
 
-// record server ADDRESS REASON N: the tokens after the word
+// Appends the tokens of `record server ADDRESS REASON N` after the word.
 fn write_server<A: Allocator + Copy>(
     ip: Ip,
     reason: ServerReason,
@@ -96,7 +96,7 @@ fn write_server<A: Allocator + Copy>(
     write_one(Token::Number(ticks), out)
 }
 
-// The tokens after the word of a line, each behind a space.
+// Appends the tokens after the word of a line, each after a space.
 fn write_values<A: Allocator + Copy>(
     line: &RecordLine<'_>,
     out: &mut Vec<u8, A>,
@@ -123,7 +123,7 @@ fn write_values<A: Allocator + Copy>(
     }
 }
 
-// The first two tokens of a line.
+// Appends the first two tokens of a line.
 fn write_head<A: Allocator + Copy>(word: RecordWord, out: &mut Vec<u8, A>) -> Result<(), Memory>
     ensures { AppendsText result out.old.items out.new.items (first_token ++ 32 ∷ word_spelling word) }
 {
@@ -131,7 +131,7 @@ fn write_head<A: Allocator + Copy>(word: RecordWord, out: &mut Vec<u8, A>) -> Re
     write_one(Token::Word(word.spelling().as_bytes()), out)
 }
 
-// A line, and its line end.
+// Appends a line and its line end.
 fn write_line<A: Allocator + Copy>(
     line: &RecordLine<'_>,
     out: &mut Vec<u8, A>,
@@ -155,8 +155,8 @@ fn write_lines<A: Allocator + Copy>(
     Ok(())
 }
 
-/// Appends the text of a record: a line for each thing that it says, in their order, with addresses as RFC 5952 prints
-/// them. After `Memory` the vector holds what it held.
+/// Appends the text of the record, a line for each of its lines, with addresses as in RFC 5952. After `Memory` the
+/// vector is unchanged.
 pub fn write_record<A: Allocator + Copy, B: Allocator>(
     told: &Record<'_, B>,
     out: &mut Vec<u8, A>,

@@ -1,6 +1,6 @@
-//! Tests of `he_record` that no file of races can hold: records that a program makes, the faults of their lines, what
-//! a record tells, and want of memory. What lines of a text say, and their faults, are tried by files, in
-//! `crates/cases/data`.
+//! Tests of `he_record` that no file of races can hold: records that a program makes, the faults of their lines, the
+//! values of a record, and want of memory. The files in `crates/cases/data` test the lines of a text, and their
+//! faults.
 #![tactic(auto)]
 
 #[cfg(test)]

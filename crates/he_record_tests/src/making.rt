@@ -1,4 +1,4 @@
-// Records that a program makes: the faults of their lines, and what they tell.
+// Records that a program makes: the faults of their lines, and their values.
 
 use crate::written::{CLIENT, MOMENT, OTHER_SERVER, SERVER, TRIED, UNTRIED};
 use he_addr::{Family, Ip};

@@ -1,5 +1,5 @@
-// A record that is read, made and written, with each growth refused in turn: what is refused is told as want of memory,
-// and what isn't answers and writes the same as ever.
+// A record that is read, made and written, with each growth refused in turn: a refused call reports want of memory,
+// and any other has its usual result and output.
 
 use he_addr::{Family, Ip};
 use he_record::{
@@ -58,7 +58,7 @@ static LINES: [RecordLine<'static>; 10] = [
     RecordLine::End(ClientEnd::GaveUp(3_600_000)),
 ];
 
-// Whether these bytes are written of the record; none where memory was refused.
+// Whether these bytes are written of the record; none if memory was refused.
 fn is_written<'h>(
     heap: &'h Refusing,
     told: &Record<'_, &'h Refusing>,

@@ -6,11 +6,11 @@ use Rattle.he_words.specs.declared.fault.TextFault.{TextFault}
 use Rattle.he_words.specs.declared.fault.TextKind.{TextKind}
 use Rattle.he_words.specs.declared.fault.TextKind.TheVariants as kinds
 use Rattle.he_inputs.specs.Beginnings.{FaultStands, IsGroupFaultAtEnd, MayChange}
-use Rattle.he_reading.specs.FaultSearch.{fault_of}
 use Rattle.he_reading.specs.Parts.{lines_of}
 use Rattle.he_inputs.specs.declared.input_fault.InputFault.{InputFault}
 use Rattle.he_inputs.specs.declared.input_fault.InputFault.TheVariants.{Text, Read}
 use Rattle.he_inputs.specs.Inputs.{IsFaultBehind, fault_behind, line_count}
+use Rattle.he_inputs.specs.Recorded.{recorded_fault}
 use Rattle.he_inputs.proofs.RaceReadingLaws.{line_count-append}
 use Rattle.he_streaming.specs.Known.{IsKnown}
 use Rattle.he_streaming.specs.Output.{IsOutput, TextRelation}
@@ -73,7 +73,7 @@ group_behind lines rest n (kinds.Policy table) fault told (inr group) = group_to
 group_behind lines rest n kinds.Memory fault told (inr group) = group_told lines rest n kinds.Memory fault told group
 
 module _
-    (faults_stand : (text : List ℕ) (line : ℕ) (kind : TextKind) → fault_of text ≡ Some (line, kind) → MayChange text line kind ⊎ FaultStands text line kind)
+    (faults_stand : (text : List ℕ) (line : ℕ) (kind : TextKind) → recorded_fault text ≡ Some (line, kind) → MayChange text line kind ⊎ FaultStands text line kind)
   where
     -- a fault of what stands after whole races of a broken input stands whatever follows, or is a group's
     known_behind : (count lines : ℕ) (rest : List ℕ) (fault : TextFault) → IsFaultBehind true count lines rest (Some (Text fault))

@@ -5,8 +5,8 @@ use Rattle.he_timeline.specs.Race.{Race}
 use Rattle.he_plan.specs.Transcript.{Report, IsTranscript}
 use Rattle.he_inputs.specs.declared.input_fault.InputFault.{InputFault}
 use Rattle.he_inputs.specs.Inputs.{HasRaces}
+use Rattle.he_inputs.specs.Recorded.{IsRecordedText}
 use Rattle.he_json.specs.Documents.{Spot}
-use Rattle.he_reading.specs.Text.{IsRaceText}
 use Rattle.he_write.specs.Written.{transcript_text}
 use Rattle.he_streaming.specs.declared.race_texts.Content.{Content}
 use Rattle.he_streaming.specs.declared.race_texts.Content.TheVariants as contents
@@ -16,7 +16,7 @@ use Rattle.he_streaming.proofs.RaceTexts.{one_told}
 module _
     (one_input : (input : List ℕ) (is_broken : Bool) (races others : List Race) (fault other_fault : Option InputFault) → HasRaces input is_broken races fault → HasRaces input is_broken others other_fault → (races ≡ others) × (fault ≡ other_fault))
     (one_transcript : (race : Race) (x y : Report) → IsTranscript race x → IsTranscript race y → x ≡ y)
-    (one_race_first : (front rest other_front other_rest : List ℕ) (race other : Race) → IsRaceText front race → IsRaceText other_front other → front ++ rest ≡ other_front ++ other_rest → (front ≡ other_front) × (race ≡ other))
+    (one_race_first : (front rest other_front other_rest : List ℕ) (race other : Race) → IsRecordedText front race → IsRecordedText other_front other → front ++ rest ≡ other_front ++ other_rest → (front ≡ other_front) × (race ≡ other))
   where
     one_text : (content : Content) → is_exact content ≡ true → (spot : Spot) (race : Race) (text other : List ℕ) → IsTextOf content spot text race → IsTextOf content spot other race → text ≡ other
     one_text contents.Transcript exact spot race text other (report, is, written) (other_report, other_is, other_written) =

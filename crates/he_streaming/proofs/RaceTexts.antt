@@ -3,7 +3,7 @@ use Rattle.std.proofs.Common.{ℕ, ◌≡◌, ◌+◌, ◌++◌, ◌∙◌, List
 use Rattle.std.proofs.lemmas.List.{append_cancel_left}
 use Rattle.he_timeline.specs.Race.{Race}
 use Rattle.he_inputs.specs.Inputs.{AreRaceTexts, line_count}
-use Rattle.he_reading.specs.Text.{IsRaceText}
+use Rattle.he_inputs.specs.Recorded.{IsRecordedText}
 use Rattle.he_inputs.proofs.RaceReadingLaws.{line_count-append}
 use Rattle.he_streaming.specs.Output.{AreTold, TextRelation}
 use Rattle.he_streaming.specs.Pieces.{IsAnywhere}
@@ -63,7 +63,7 @@ told_anywhere IsText anywhere number line other_number other_line (race ∷ race
 
 -- an input that begins with the races has one text of them, where each has one
 pub one_told : (IsText : TextRelation) → ((number line : ℕ) (race : Race) (text other : List ℕ) → IsText number line text race → IsText number line other race → text ≡ other)
-    → ((front rest other_front other_rest : List ℕ) (race other : Race) → IsRaceText front race → IsRaceText other_front other → front ++ rest ≡ other_front ++ other_rest → (front ≡ other_front) × (race ≡ other))
+    → ((front rest other_front other_rest : List ℕ) (race other : Race) → IsRecordedText front race → IsRecordedText other_front other → front ++ rest ≡ other_front ++ other_rest → (front ≡ other_front) × (race ≡ other))
     → (number line : ℕ) (races : List Race) (bytes rest other_bytes other_rest text other : List ℕ) → bytes ++ rest ≡ other_bytes ++ other_rest
     → AreTold IsText number line races bytes text → AreTold IsText number line races other_bytes other → text ≡ other
 one_told IsText one first number line [] bytes rest other_bytes other_rest text other same are others = are.1 ∙ sym others.1

@@ -11,8 +11,8 @@ abbrev pub Stands : TextRelation → List ℕ → List ℕ → TextFault → Typ
 Stands IsText input text fault =
     (more : List ℕ) (is_broken : Bool) → IsOutput IsText (input ++ more) is_broken text (Some (Text fault))
 
--- the input broke off after the last line of a policy table or of the settings, of which it is the fault: one more
--- line of the group may mend it
+-- the input broke off after the last line of a policy table or of the settings, which have the fault: one more line
+-- of the group may mend it
 pub record IsGroupBroken (input : List ℕ) (is_broken : Bool) (fault : TextFault) : Type 0 where
   pub broken : is_broken ≡ true
   pub before : List ℕ
@@ -21,7 +21,7 @@ pub record IsGroupBroken (input : List ℕ) (is_broken : Bool) (fault : TextFaul
   pub at_end : IsGroupFaultAtEnd race (line_count race) fault.kind
   pub last : fault.line ≡ line_count input
 
--- the input ended; or what follows changes nothing; or the input broke off in a group of lines
+-- the input ended; or nothing that follows changes the fault; or the input broke off in a group of lines
 abbrev pub IsKnown : TextRelation → List ℕ → Bool → List ℕ → TextFault → Type 0
 IsKnown IsText input is_broken text fault =
     (is_broken ≡ false) ⊎ (Stands IsText input text fault ⊎ IsGroupBroken input is_broken fault)

@@ -1,13 +1,13 @@
--- What is written for an input.
+-- The text that is written for an input.
 use Rattle.std.specs.Prelude.{ℕ, ◌≡◌, ◌≤◌, ◌+◌, ◌++◌, Bool, true, false, List, [], ◌∷◌, Option}
 use Rattle.he_timeline.specs.Changes.{ChangeValues, changed}
 use Rattle.he_timeline.specs.Race.{Race}
 use Rattle.he_plan.specs.Transcript.{IsTranscript, Report}
 use Rattle.he_inputs.specs.declared.input_fault.InputFault.{InputFault}
 use Rattle.he_inputs.specs.Inputs.{HasRaces, line_count}
+use Rattle.he_inputs.specs.Recorded.{IsRecordedText}
 use Rattle.he_write.specs.Orders.{order_text}
 use Rattle.he_write.specs.Written.{transcript_text}
-use Rattle.he_reading.specs.Text.{IsRaceText}
 use Rattle.he_course.specs.Addresses.{all_attributes_of}
 use Rattle.he_course.specs.Course.{IsCourse}
 use Rattle.he_course.specs.declared.course.Course.{Course}
@@ -38,7 +38,7 @@ IsTranscriptObject spot text race = (report : Report) × IsTranscript race repor
 abbrev pub IsOrderObject : Spot → List ℕ → Race → Type 0
 IsOrderObject spot text race = IsOrderJson spot (all_attributes_of race) text
 
--- what a printer says of a course, whose text comes from a file of this name, if it has one
+-- the text of a printer for a course, whose timeline comes from a file of this name, if it has one
 abbrev pub IsPrinted : {A : Type 0} → Printer → Option (List ℕ) → Course A → List ℕ → Type 0
 IsPrinted printers.Story file course text = States (story_facts course) text
 IsPrinted printers.Json file course text =
@@ -49,12 +49,12 @@ IsPrinted (printers.Picture look width) file course text =
 IsPrinted printers.Image file course text = States (svg_facts course) text
 IsPrinted (printers.Section place) file course text = IsSection course place text
 
--- so it is of the race's course
+-- the text of the printer for the race's course
 abbrev pub IsOfCourse : Printer → Spot → List ℕ → Race → Type 0
 IsOfCourse printer spot text race =
     (course : Course (Unit {0})) × IsCourse race spot.number spot.line course × IsPrinted printer spot.file course text
 
--- the text of what is asked for of the race that stands here
+-- the text of this kind for the race at this spot
 abbrev pub IsTextOf : Content → Spot → List ℕ → Race → Type 0
 IsTextOf contents.Transcript spot text race = IsTranscriptText text race
 IsTextOf contents.TranscriptJson spot text race = IsTranscriptObject spot text race
@@ -62,19 +62,20 @@ IsTextOf contents.Order spot text race = IsOrderText text race
 IsTextOf contents.OrderJson spot text race = IsOrderObject spot text race
 IsTextOf (contents.Course printer) spot text race = IsOfCourse printer spot text race
 
--- whether that has the race's place in the input
+-- whether texts of this kind contain the race's place in the input
 abbrev pub has_place : Content → Bool
 has_place contents.Transcript = false
 has_place contents.Order = false
 has_place _ = true
 
--- whether a race has one such text, byte for byte; of another it is said what stands in it
+-- whether a race has exactly one text of this kind, byte for byte; other kinds are defined by their contents
 abbrev pub is_exact : Content → Bool
 is_exact contents.Transcript = true
 is_exact contents.Order = true
 is_exact _ = false
 
--- the same of the race of this number in the file, which begins at this line, with these changes of its settings
+-- the text of this kind for the race of this number in the file, which begins on this line, with these changes of its
+-- settings
 abbrev pub IsTextWith : Content → ChangeValues → Option (List ℕ) → ℕ → ℕ → List ℕ → Race → Type 0
 IsTextWith content changes file number line text race =
     IsTextOf content (record { file = file; number = number; line = line }) text (changed changes race)
@@ -83,17 +84,17 @@ IsTextWith content changes file number line text race =
 abbrev pub TextRelation : Type 1
 TextRelation = ℕ → ℕ → List ℕ → Race → Type 0
 
--- the bytes are, one after the other, a timeline text of each of the races, of which the first has this number and
--- begins at this line; and the text is, one after the other, a text of each, by its number and its line
+-- the bytes consist of a timeline text of each race, the first with this number and on this line; the text consists
+-- of a text for each race, by its number and its line
 abbrev pub AreTold : TextRelation → ℕ → ℕ → List Race → List ℕ → List ℕ → Type 0
 AreTold IsText number line [] bytes text = (bytes ≡ []) × (text ≡ [])
 AreTold IsText number line (race ∷ races) bytes text =
-    (own : List ℕ) × (behind : List ℕ) × (bytes ≡ own ++ behind) × IsRaceText own race
+    (own : List ℕ) × (behind : List ℕ) × (bytes ≡ own ++ behind) × IsRecordedText own race
     × (told : List ℕ) × (more : List ℕ) × (text ≡ told ++ more) × IsText number line told race
     × AreTold IsText (number + 1) (line + line_count own) races behind more
 
--- the text that is written for an input, and what is wrong with the input: a text of each of its races up to the
--- first fault
+-- the text that is written for an input, a text for each of its races up to the first fault, and the fault of the
+-- input
 pub record IsOutput (IsText : TextRelation) (input : List ℕ) (is_broken : Bool) (text : List ℕ)
     (fault : Option InputFault) : Type 0 where
   pub races : List Race

@@ -1,5 +1,5 @@
--- Mirrors the code: how a call goes through an input, round by round. It helps the proofs; what is taken and put by a
--- whole call stands in `Stream`.
+-- Mirrors the code: the rounds of a call through an input. It helps the proofs; `Stream` has the bytes that a whole
+-- call takes and puts.
 use Rattle.std.specs.Prelude.{ℕ, ◌≡◌, ◌≤◌, ◌+◌, ◌⊎◌, ◌++◌, Bool, List, [], Option, None, Some, Result, Ok, Err, length, take, drop}
 use Rattle.he_timeline.specs.Race.{Race}
 use Rattle.he_stream.specs.declared.answer.Flushed.{Flushed}
@@ -20,17 +20,17 @@ use Rattle.he_streaming.specs.declared.race_texts.TextRequest.{TextRequest}
 use Rattle.he_streaming.specs.declared.rounds.RoundEnd.{RoundEnd}
 use Rattle.he_streaming.specs.Output.{AreTold, IsTextWith, TextRelation}
 
--- the text of what is asked for of the race
+-- the text that is asked for of the race
 abbrev pub IsAsked : TextRequest → ℕ → ℕ → List ℕ → Race → Type 0
 IsAsked asked = IsTextWith asked.content asked.changes (name_of asked.file)
 
--- a text that is such was appended
+-- such a text was appended
 pub record WritesText (IsSuch : List ℕ → Type 0) (old new : List ℕ) : Type 0 where
   pub told : List ℕ
   pub is_told : IsSuch told
   pub appended : new ≡ old ++ told
 
--- of bytes after so many races and lines, the races that the reader passed were told
+-- of bytes after this number of races and lines, the text is that of the races that the reader passed
 pub record HasTold (IsText : TextRelation) (bytes : List ℕ) (races_before lines_before : ℕ) (text : List ℕ)
     (reader : RaceReader) : Type 0 where
   pub races : List Race
@@ -40,24 +40,24 @@ pub record HasTold (IsText : TextRelation) (bytes : List ℕ) (races_before line
   pub few : reader.races ≤ most_races
   pub lined : reader.lines ≡ lines_before + line_count (take reader.end bytes)
 
--- what is wrong after the races that the reader passed, with every input that goes on so
+-- the fault after the races that the reader passed, in every input that goes on so
 abbrev pub IsFaultPast : Ending → List ℕ → RaceReader → Option InputFault → Type 0
 IsFaultPast ending bytes reader fault =
     (more : List ℕ) (is_broken : Bool) → MayFollow ending more is_broken
     → IsFaultBehind is_broken reader.races reader.lines (drop reader.end bytes ++ more) fault
 
--- the reader came so far, or no race follows where it stands, or something is wrong there, whatever follows
+-- the reader came to `reach`, or no race follows there, or there is a fault, whatever follows
 abbrev pub Reaches : Ending → List ℕ → ℕ → RaceReader → Type 0
 Reaches ending bytes reach reader =
     (reach ≤ reader.end) ⊎ EndsAt ending (drop reader.end bytes)
     ⊎ ((fault : InputFault) × IsFaultPast ending bytes reader (Some fault))
 
--- races more were told, whatever was told before
+-- the text of more races was appended to that of earlier ones
 abbrev pub TellsOn : TextRelation → List ℕ → RaceReader → List ℕ → List ℕ → RaceReader → Type 0
 TellsOn IsText bytes begun old new reader =
     (races lines : ℕ) → HasTold IsText bytes races lines old begun → HasTold IsText bytes races lines new reader
 
--- races more were told, and what is wrong after them, if that is known
+-- the text of more races was appended, and the fault after them, if it is known
 pub record Tells (IsText : TextRelation) (ending : Ending) (bytes : List ℕ) (begun : RaceReader) (old new : List ℕ)
     (told : RoundEnd) : Type 0 where
   pub on : TellsOn IsText bytes begun old new told.reader
@@ -69,7 +69,7 @@ abbrev pub PutsAny : {S : Type 0} → (S → Option (List ℕ)) → (S → Put �
 PutsAny contents puts flushes ending text first last =
     PutsWhole contents puts flushes first last text ⊎ ((ending ≡ endings.Open) × (text ≡ []) × (first ≡ last))
 
--- how the text of what was told is put: what is wrong with the input is told after it
+-- the way the text of the races is put: a fault of the input is reported after it
 abbrev pub PutsTold : {S : Type 0} → (S → Option (List ℕ)) → (S → Put → S → Type 0) → (S → Flushed → S → Type 0)
     → Ending → RoundEnd → List ℕ → S → S → Result RaceReader StreamFault → Type 0
 PutsTold contents puts flushes ending told text first last (Ok reader) =
@@ -82,7 +82,7 @@ PutsTold contents puts flushes ending told text first last (Err faults.Write) =
     PutsPart contents puts flushes first last text
 PutsTold contents puts flushes ending told text first last (Err faults.Memory) = ⊥
 
--- a round went on: these races were told of the bytes and put, and what stands after them is held
+-- a round went on: the text of these races of the bytes was put, and the bytes after them are held
 pub record GoesOn {S : Type 0} (IsText : TextRelation) (contents : S → Option (List ℕ)) (puts : S → Put → S → Type 0)
     (flushes : S → Flushed → S → Type 0) (ending : Ending) (bytes : List ℕ) (from : RaceReader) (kept : List ℕ)
     (next : RaceReader) (first last : S) : Type 0 where
@@ -94,7 +94,7 @@ pub record GoesOn {S : Type 0} (IsText : TextRelation) (contents : S → Option 
   pub held : kept ≡ drop reader.end bytes
   pub at : next ≡ record { end = 0; races = reader.races; lines = reader.lines }
 
--- all races at the front of the bytes were told and put, and this is wrong after them
+-- the text of all races at the front of the bytes was put, and this is the fault after them
 pub record EndsWithFault {S : Type 0} (IsText : TextRelation) (contents : S → Option (List ℕ))
     (puts : S → Put → S → Type 0) (flushes : S → Flushed → S → Type 0) (ending : Ending) (bytes : List ℕ)
     (from : RaceReader) (first last : S) (fault : InputFault) : Type 0 where
@@ -104,7 +104,7 @@ pub record EndsWithFault {S : Type 0} (IsText : TextRelation) (contents : S → 
   pub fault_is : IsFaultPast ending bytes reader (Some fault)
   pub put : PutsWhole contents puts flushes first last text
 
--- how a round ends: the bytes that are held then, or a fault
+-- the end of a round: the bytes that are held then, or a fault
 abbrev pub PutsRound : {S : Type 0} → TextRelation → (S → Option (List ℕ)) → (S → Put → S → Type 0)
     → (S → Flushed → S → Type 0) → Ending → List ℕ → RaceReader → List ℕ → RaceReader → S → S
     → Result (Unit {0}) StreamFault → Type 0
@@ -119,8 +119,8 @@ PutsRound IsText contents puts flushes ending bytes from kept next first last (E
     × PutsPart contents puts flushes first last text
 PutsRound IsText contents puts flushes ending bytes from kept next first last (Err faults.Memory) = first ≡ last
 
--- where a call stands: the races that were told, and the bytes that are held after them. Took: what was taken so far;
--- Done: what was put so far
+-- the position of a call: the races that were written, and the bytes that are held after them. Took: the bytes taken
+-- so far; Done: the text put so far
 pub record IsAt (IsText : TextRelation) (held : List ℕ) (reader : RaceReader)
     (Took Done : List ℕ → Type 0) : Type 0 where
   pub races : List Race

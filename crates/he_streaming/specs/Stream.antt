@@ -1,4 +1,4 @@
--- What is taken from an input of races and put into an output.
+-- The bytes taken from an input of races and put into an output.
 use Rattle.std.specs.Prelude.{ℕ, ◌≡◌, ◌≤◌, ◌⊎◌, ◌++◌, Bool, List, Option, None, Some, Result, Ok, Err, length}
 use Rattle.he_timeline.specs.Changes.{ChangeValues}
 use Rattle.he_timeline.specs.Race.{Race}
@@ -13,7 +13,7 @@ use Rattle.he_streaming.specs.declared.race_texts.Content.{Content}
 use Rattle.he_inputs.specs.declared.stream_fault.StreamFault.{StreamFault}
 use Rattle.he_inputs.specs.declared.stream_fault.StreamFault.TheVariants.{Text, Read, Write, Memory}
 
--- the input was given, whole or up to where it broke off, and its whole output, of this fault, was put in
+-- the input was given, whole or up to where it broke off, and its whole output, with this fault, was put
 pub record PutsOutput (IsText : TextRelation) (Gave : List ℕ → Bool → Type 0) (Whole : List ℕ → Type 0)
     (fault : Option InputFault) : Type 0 where
   pub input : List ℕ
@@ -23,8 +23,7 @@ pub record PutsOutput (IsText : TextRelation) (Gave : List ℕ → Bool → Type
   pub output : IsOutput IsText input is_broken text fault
   pub written : Whole text
 
--- of the input these bytes were taken, and no more, and the whole output of every input that begins with them was put
--- in
+-- these bytes of the input were taken, and no more, and the whole output of every input that begins with them was put
 pub record PutsSure (IsText : TextRelation) (Taken : List ℕ → Type 0) (Whole : List ℕ → Type 0)
     (fault : TextFault) : Type 0 where
   pub input : List ℕ
@@ -42,8 +41,8 @@ pub record TellsSome (IsText : TextRelation) (input text : List ℕ) : Type 0 wh
   pub few : length races ≤ most_races
   pub told : AreTold IsText 1 1 races before text
 
--- of the input these bytes were taken, whether there are more or not, and this was done with a text of some first
--- races of them
+-- these bytes of the input were taken, whether there are more or not, and Done holds of a text of some first races of
+-- them
 pub record PutsSome (IsText : TextRelation) (Gave : List ℕ → Bool → Type 0) (Taken : List ℕ → Type 0)
     (Done : List ℕ → Type 0) : Type 0 where
   pub input : List ℕ
@@ -52,10 +51,10 @@ pub record PutsSome (IsText : TextRelation) (Gave : List ℕ → Bool → Type 0
   pub told : TellsSome IsText input text
   pub written : Done text
 
--- Gave: what the input gave, and whether it broke off after that; Taken: what was taken of an input that was not read
--- further; Whole: the text of which all was put into the output and then flushed; RoundScope: the text of which a
--- first part was put in, until that failed; Put: the text of which all was put in and flushed, or nothing where there
--- is none
+-- Gave: the bytes that the input gave, and whether it broke off after them; Taken: the bytes taken of an input that
+-- was not read further; Whole: the text that was put whole into the output and then flushed; RoundScope: the text of
+-- which a first part was put, until that failed; Put: the text that was put whole and flushed, or nothing if it is
+-- empty
 abbrev pub Streams : TextRelation → (List ℕ → Bool → Type 0) → (List ℕ → Type 0) → (List ℕ → Type 0)
     → (List ℕ → Type 0) → (List ℕ → Type 0) → Result (Unit {0}) StreamFault → Type 0
 Streams IsText Gave Taken Whole RoundScope Put (Ok done) = PutsOutput IsText Gave Whole None
@@ -65,11 +64,12 @@ Streams IsText Gave Taken Whole RoundScope Put (Err Read) = PutsOutput IsText Ga
 Streams IsText Gave Taken Whole RoundScope Put (Err Write) = PutsSome IsText Gave Taken RoundScope
 Streams IsText Gave Taken Whole RoundScope Put (Err Memory) = PutsSome IsText Gave Taken Put
 
--- a number of workers that there may be
+-- an allowed number of workers
 abbrev pub HasWorkers : ℕ → Type 0
 HasWorkers workers = (LEAST_WORKERS ≤ workers) × (workers ≤ MOST_WORKERS)
 
--- what is asked for of the races of an input of this name, if it has one, each with the changes of its settings
+-- the text that is asked for of the races of an input of this name, if it has one, each with the changes of its
+-- settings
 abbrev pub Replays : Content → ChangeValues → Option (List ℕ) → (List ℕ → Bool → Type 0) → (List ℕ → Type 0)
     → (List ℕ → Type 0) → (List ℕ → Type 0) → (List ℕ → Type 0) → Result (Unit {0}) StreamFault → Type 0
 Replays content changes file = Streams (IsTextWith content changes file)

@@ -1,4 +1,4 @@
-//! Laws of what is written for an input, each the contract of a function that runs nothing.
+//! Laws of the output for an input. Each is the contract of an empty function.
 ghost use Rattle.std.specs.Prelude.{◌≡◌, ℕ, Bool, List, Option, Some, true};
 ghost use Rattle.he_words.specs.declared.fault.TextFault.{TextFault};
 ghost use Rattle.he_inputs.specs.declared.input_fault.InputFault.{InputFault};
@@ -14,8 +14,8 @@ use he_inputs::inputs::one_input;
 use he_inputs::laws::{faults_stand, one_race_first};
 use he_plan::laws::one_transcript;
 
-/// An input, and whether it broke off, have one list of races and one fault, and one output where it is of transcripts
-/// or orders.
+/// An input, and whether it broke off, determine one list of races and one fault, and one output if the content is
+/// transcripts or orders.
 pub fn one_output()
     ensures { (content : Content) (changes : ChangeValues) (file : Option (List ℕ)) (input : List ℕ) (is_broken : Bool)
         (text other : List ℕ) (fault other_fault : Option InputFault)
@@ -29,7 +29,7 @@ pub fn one_output()
 }
 
 /// A fault of the text is known in one of three ways: the input ended; or each longer input has this output and this
-/// fault too; or the input broke off in a policy table or the settings, of which it is the fault.
+/// fault too; or the input broke off in a policy table or the settings, which have the fault.
 pub fn faults_are_known()
     ensures { (content : Content) (changes : ChangeValues) (file : Option (List ℕ)) (input : List ℕ) (is_broken : Bool)
         (text : List ℕ) (fault : TextFault)
@@ -39,7 +39,7 @@ pub fn faults_are_known()
     faults_stand();
 }
 
-/// The limits are the numbers that the definitions name. That of the races is tied by `he_words::laws::ranges`.
+/// The limits are the numbers that the definitions name. `he_words::laws::ranges` has that of the races.
 pub fn limits_of_replays()
     ensures least { LEAST_WORKERS ≡ least_workers }
     ensures most { MOST_WORKERS ≡ most_workers }

@@ -1,4 +1,4 @@
-//! What is written of a race, and its text: the table of printers.
+//! The text of a race: the table of printers.
 ghost use Rattle.std.specs.Prelude.{◌≡◌, ◌++◌, None, OnOk};
 ghost use Rattle.he_write.specs.Written.{transcript_text};
 ghost use Rattle.he_json.specs.Documents.{name_of, spot_of};
@@ -14,40 +14,40 @@ use he_plan::{Transcript, sorted_attributes, transcript_of};
 use he_story::write_story;
 use he_timeline::{Changes, Timeline};
 use he_write::{write_order, write_transcript};
-use std::alloc::{AllocError, Allocator};
+use std::alloc::Allocator;
 
-/// What is written of a race.
+/// The content of the text of a race.
 #[derive(Clone, Copy, Debug, PartialEq, Eq)]
 pub enum Content {
-    /// What happens in it ([`write_transcript`]), or that as a JSON object ([`write_transcript_json`]).
+    /// The events of the race ([`write_transcript`]), or these as a JSON object ([`write_transcript_json`]).
     Transcript,
     TranscriptJson,
-    /// In which order its addresses are to be tried (RFC 6724 section 6): its usable addresses, whatever the ticks of
+    /// The order in which its addresses are tried (RFC 6724 section 6): its usable addresses, whatever the ticks of
     /// the answers, each with the source that the host uses for it ([`write_order`]). Or that as a JSON object
     /// ([`write_order_json`]).
     Order,
     OrderJson,
-    /// Why it went as it did, by one of the printers of its course.
+    /// An explanation of the race, by one of the printers of its course.
     Course(Printer),
 }
 
-/// What prints the course of a race, each after its number in the input and the line at which it begins.
+/// A printer of the course of a race. Each prints it with its number in the input and the line at which it begins.
 #[derive(Clone, Copy, Debug, PartialEq, Eq)]
 pub enum Printer {
     /// A story, for a person to read ([`write_story`]).
     Story,
     /// A JSON object on one line ([`write_explanation_json`]).
     Json,
-    /// A picture of so many columns ([`write_picture`]).
+    /// A picture `width` columns wide ([`write_picture`]).
     Picture { look: Look, width: u16 },
-    /// The same as an SVG image ([`write_svg`]).
+    /// The picture as an SVG image ([`write_svg`]).
     Image,
-    /// A part of a page, of the text of this place among those of the page ([`write_section`]).
+    /// A part of a page, for the text of this place among those of the page ([`write_section`]).
     Section { text: usize },
 }
 
 impl Content {
-    /// Whether it has the race's place in the input.
+    /// Whether the text has the race's place in the input.
     pub fn has_place(self) -> bool
         ensures { result ≡ has_place self }
     {
@@ -55,19 +55,19 @@ impl Content {
     }
 }
 
-/// What is asked for of each race of an input.
+/// The text that is asked for of each race of an input.
 #[derive(Clone, Copy)]
 pub struct TextRequest<'f> {
-    /// What is written of it.
+    /// The content of the text.
     pub content: Content,
-    /// The settings with which it is taken in place of its own.
+    /// The settings that replace the race's own.
     pub changes: Changes,
-    /// The name of the input's file for JSON objects, where it has one.
+    /// The name of the input's file for JSON objects, if it has one.
     pub file: Option<&'f str>,
 }
 
 impl TextRequest<'static> {
-    /// This, of each race as it stands, in an input without a name.
+    /// A request for this content, of each race with its own settings, in an input without a name.
     pub fn of(content: Content) -> TextRequest<'static>
         ensures { result ≡ record {
           content = content;
@@ -85,11 +85,11 @@ impl TextRequest<'static> {
 
 impl TextRequest<'_> {
     /// Appends the text that is asked for of the race, which has this number in the input and begins at this line,
-    /// both counted from 1. What is needed for that alone is taken from `alloc`.
+    /// both counted from 1. Temporary memory comes from `alloc`.
     ///
     /// # Errors
     ///
-    /// `AllocError` where an allocation was refused. The text may have a first part of it then.
+    /// `Memory` if an allocation was refused. The text may then have a first part of it.
     pub fn write<A: Allocator + Copy, T: Allocator + Copy>(
         &self,
         alloc: A,
@@ -97,7 +97,7 @@ impl TextRequest<'_> {
         number: usize,
         line: u64,
         text: &mut Vec<u8, T>,
-    ) -> Result<(), AllocError>
+    ) -> Result<(), Memory>
         ensures { OnOk result (WritesText (λ told. IsAsked self.now number line told race) text.old.items
             text.new.items) }
     {
@@ -117,7 +117,7 @@ fn append<A: Allocator + Copy, T: Allocator + Copy>(
     timeline: &Timeline<A>,
     place: Place<'_>,
     text: &mut Vec<u8, T>,
-) -> Result<(), AllocError>
+) -> Result<(), Memory>
     ensures { OnOk result (WritesText (λ told. IsTextOf content (spot_of place.entry) told timeline.now) text.old.items
         text.new.items) }
 {
@@ -131,35 +131,35 @@ fn append_transcript<A: Allocator + Copy, T: Allocator + Copy>(
     alloc: A,
     timeline: &Timeline<A>,
     text: &mut Vec<u8, T>,
-) -> Result<(), AllocError>
+) -> Result<(), Memory>
     ensures { OnOk result (WritesText (λ told. IsTranscriptText told timeline.now) text.old.items text.new.items) }
 {
-    let transcript = transcript_of(alloc, timeline).map_err(|_| AllocError)?;
+    let transcript = transcript_of(alloc, timeline)?;
     append_text(&transcript, text)
 }
 
 fn append_text<A: Allocator, T: Allocator + Copy>(
     transcript: &Transcript<A>,
     text: &mut Vec<u8, T>,
-) -> Result<(), AllocError>
+) -> Result<(), Memory>
     ensures { OnOk result (text.new.items ≡ text.old.items ++ transcript_text transcript.now) }
 {
-    write_transcript(transcript, text).map_err(|_| AllocError)
+    write_transcript(transcript, text)
 }
 
-// Appends a text by a copy that is made in the arena.
+// Appends a text that is made in the arena first.
 fn append_own<A: Allocator + Copy, T: Allocator + Copy>(
     content: Content,
     alloc: A,
     timeline: &Timeline<A>,
     place: Place<'_>,
     text: &mut Vec<u8, T>,
-) -> Result<(), AllocError>
+) -> Result<(), Memory>
     ensures { OnOk result (WritesText (λ told. IsTextOf content (spot_of place.entry) told timeline.now) text.old.items
         text.new.items) }
 {
     let mut own = Vec::with_capacity(alloc, TEXT_ROOM)?;
-    write(content, alloc, timeline, place, &mut own).map_err(|_| AllocError)?;
+    write(content, alloc, timeline, place, &mut own)?;
     text.extend_from_slice(&own)
 }
 

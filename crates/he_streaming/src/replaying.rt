@@ -13,33 +13,33 @@ use he_stream::{InputStream, OutputStream};
 use std::alloc::Allocator;
 use std::thread::Threads;
 
-/// Reads timelines to the end of the input and writes what is asked for of each, its transcript say, by at most so
-/// many workers.
+/// Reads timelines to the end of the input and writes the text that is asked for of each, such as its transcript,
+/// with at most `workers` workers.
 ///
-/// What is written and answered does not depend on the number of workers, nor on the order of their steps.
+/// The output and the result depend neither on the number of workers nor on the order of their steps.
 ///
-/// It is written as the races come: when a step of the input has given the last line of a race, what is asked for of
-/// all races that are whole by then is written and flushed before the next step. No more is held than the bytes of one
-/// race and one step, and what is asked for of the races that one step completes.
+/// Writes the texts as the races come: when a step of the input has given the last line of a race, the texts of all
+/// races that are whole by then are written and flushed before the next step. Holds no more than the bytes of one
+/// race and one step, and the texts of the races that one step completes.
 ///
-/// One worker, the calling thread, reads each race and follows it to its end before the next. More share the bytes of
-/// one step: these are cut into pieces after races (`limits::PIECE_BYTES` each, or more), each worker takes pieces
-/// until none is left, reads them and writes what is asked for of their races, in a thread of its own, and all are put
-/// together in the order of the races. No more workers are taken than have `limits::PIECES_OF_A_WORKER` pieces each,
-/// and one alone where what is asked for has the race's place in the input ([`Content::has_place`]).
+/// One worker, the calling thread, reads each race and follows it to its end before the next. Several workers share
+/// the bytes of one step: these are cut into pieces after races (`limits::PIECE_BYTES` each, or more), each worker
+/// takes pieces until none is left, reads them and writes the texts of their races, in a thread of its own, and the
+/// texts are joined in the order of the races. No more workers are taken than have `limits::PIECES_OF_A_WORKER`
+/// pieces each, and only one if the text has the race's place in the input ([`Content::has_place`]).
 ///
-/// After `Text` and `Read` all that the input before the fault asks for was written, after `Write` a first part of it,
-/// after `Memory` what some first races ask for. The output is flushed at the end, after `Text` and `Read` too. After
-/// `Write`, and after a fault of the text that stands whatever follows, the input is not read further.
+/// After `Text` and `Read` the texts of all races before the fault have been written, after `Write` a first part of
+/// them, after `Memory` those of some first races. The output is flushed at the end, after `Text` and `Read` too.
+/// After `Write`, and after a fault of the text that no further input can change, the input is not read further.
 ///
 /// # Errors
 ///
-/// - `Text` where the input is no timeline text.
-/// - `Read` where a step of the input failed before a fault of the text was found, or the bound of
-///   4,294,967,296 steps was reached.
-/// - `Write` where a step of the output failed or took no byte, the flush failed, or the bound of 4,294,967,296 steps
+/// - `Text` if the input is no timeline text.
+/// - `Read` if a step of the input failed before a fault of the text was found, or the bound of 4,294,967,296 steps
+///   was reached.
+/// - `Write` if a step of the output failed or took no byte, the flush failed, or the bound of 4,294,967,296 steps
 ///   was reached, whatever the input was.
-/// - `Memory` where an allocation was refused.
+/// - `Memory` if an allocation was refused.
 ///
 /// [`Content::has_place`]: crate::Content::has_place
 pub fn replay<

@@ -1,5 +1,5 @@
-//! Rounds: the races that stand ready in the bytes that are held are written, each before the next is read, and their
-//! texts put into the output.
+//! Rounds: a round writes the races that are whole in the held bytes, each before the next is read, and puts their
+//! texts into the output.
 ghost use Rattle.std.specs.Prelude.{◌≡◌, ◌+◌, ◌≤◌, ◌^◌, [], false, IfOk, OnOk, length};
 ghost use Rattle.he_inputs.specs.declared.race_reader.Ending.TheVariants as endings;
 ghost use Rattle.he_inputs.specs.RaceReading.{IsWithin};
@@ -8,25 +8,26 @@ ghost use Rattle.he_streaming.specs.Rounds.{HasTold, IsAsked, PutsRound, PutsTol
 use crate::limits::{ARENA_BYTES, MOST_RACES};
 use crate::race_texts::TextRequest;
 use bumpalo::Bump;
+use he_addr::Memory;
 use he_inputs::{Ending, HeldInput, InputFault, RaceReader, RaceReaderFault, StreamFault};
 use he_stream::{OutputStream, write_whole};
-use std::alloc::{AllocError, Allocator};
+use std::alloc::Allocator;
 
-// What a call holds of its input, and what it told of it before.
+// The bytes that a call holds of its input, and its position in the input.
 #[derive(Drop)]
 pub(crate) struct Held<A: Allocator> {
-    // The bytes that were taken and not told yet.
+    // The bytes that were taken and not written yet.
     pub(crate) input: HeldInput<A>,
     // The room for the next step.
     pub(crate) room: usize,
-    // The reader of the input, at the front of the bytes: the races that were told, and their lines.
+    // The reader of the input, at the front of the bytes: the races that were written, and their lines.
     pub(crate) reader: RaceReader,
-    // How many of the bytes were looked at when a race in them was not whole yet.
+    // The number of the bytes that were searched when a race in them was not whole yet.
     pub(crate) tried: usize,
 }
 
 impl<A: Allocator> Held<A> {
-    // Nothing is taken yet, and the first step gets so much room.
+    // Nothing is taken yet; the first step gets this room.
     pub(crate) fn new(alloc: A, room: usize) -> Held<A>
         ensures empty { result.input ≡ record { bytes = []; steps = 0 } }
         ensures start { result.reader ≡ record { end = 0; races = 0; lines = 0 } }
@@ -41,20 +42,20 @@ impl<A: Allocator> Held<A> {
     }
 }
 
-// What is asked of some bytes of an input.
+// The task of a round for some bytes of an input.
 #[derive(Clone, Copy)]
 pub(crate) struct RoundScope {
-    // How far the reader of them has come, whose races are told already.
+    // The position of the reader, whose races are written already.
     pub(crate) begun: RaceReader,
-    // How far races are looked for: none is read that begins there or after it, unless nothing follows the bytes, or
-    // nothing may follow the races.
+    // The end of the search: no race is read that begins there or later, unless nothing follows the bytes, or nothing
+    // may follow the races.
     pub(crate) reach: usize,
-    // What follows the bytes.
+    // Whether more may follow the bytes, or the input ended or broke off.
     pub(crate) ending: Ending,
 }
 
 impl RoundScope {
-    // Whether the reader goes on that has come so far.
+    // Whether the reader goes on from its position.
     fn goes_on(&self, reader: RaceReader) -> bool
         ensures open { result ≡ false → self.now.ending ≡ endings.Open }
         ensures reached { result ≡ false → self.now.reach ≤ reader.end }
@@ -63,19 +64,18 @@ impl RoundScope {
     }
 }
 
-// What was told of some bytes.
+// The result of a round for some bytes.
 #[derive(Clone, Copy)]
 pub(crate) struct RoundEnd {
-    // How far the reader came.
+    // The position of the reader.
     pub(crate) reader: RaceReader,
-    // What is wrong with the input after that.
+    // The fault of the input after that, if there is one.
     pub(crate) fault: Option<InputFault>,
 }
 
-// Tells the races at the front of the bytes that are held, after those with which the part begins, puts the texts of
-// all into the output, and forgets these races. The texts are put as one, which is flushed. Where nothing follows the
-// bytes, or something is wrong with them, the output is flushed though there be no text. The memory of `text` is used
-// again.
+// Writes the races at the front of the held bytes, after those with which the part begins, puts the texts of all into
+// the output, and drops these races from the held bytes. The texts are put as one, which is flushed. If nothing
+// follows the bytes, or they have a fault, the output is flushed even without text. The memory of `text` is reused.
 pub(crate) fn put_round<A: Allocator + Copy, O: OutputStream>(
     alloc: A,
     held: &mut Held<A>,
@@ -103,8 +103,8 @@ pub(crate) fn put_round<A: Allocator + Copy, O: OutputStream>(
     Ok(())
 }
 
-// Puts the text of what was told into the output, and answers how far the reader came. Where more may follow, nothing
-// is wrong and there is no text, nothing is put.
+// Puts the text of the races into the output, and returns the position of the reader. Puts nothing if more may
+// follow, there is no fault and no text.
 fn put_told<O: OutputStream>(
     ending: Ending,
     told: RoundEnd,
@@ -123,15 +123,14 @@ fn put_told<O: OutputStream>(
 }
 
 // Appends the texts that are asked for of the races at the front of the bytes, after those with which the part
-// begins. No race is kept when the reader goes on to the next: a race stands in an arena, whose memory the next one
-// takes again.
+// begins. Each race is in an arena, whose memory the next one reuses.
 pub(crate) fn tell_races<A: Allocator + Copy>(
     alloc: A,
     bytes: &[u8],
     part: RoundScope,
     asked: &TextRequest,
     text: &mut Vec<u8, A>,
-) -> Result<RoundEnd, AllocError>
+) -> Result<RoundEnd, Memory>
     requires { IsWithin bytes.now part.begun }
     ensures told { IfOk result (Tells (IsAsked asked.now) part.ending bytes.now part.begun text.old.items
         text.new.items) }
@@ -151,9 +150,9 @@ pub(crate) fn tell_races<A: Allocator + Copy>(
                     fault: Some(fault),
                 });
             }
-            Err(RaceReaderFault::Memory) => return Err(AllocError),
+            Err(RaceReaderFault::Memory) => return Err(Memory),
         }
-        // An arena that can't be reset is no fault: it grows.
+        // If the arena can't be reset, it grows; that is no fault.
         let _ = arena.reset();
     }
     Ok(RoundEnd {

@@ -1,4 +1,4 @@
-// Races that workers share, of the bytes that a step of the input completes.
+// Races of a step of the input that workers share.
 ghost use Rattle.std.specs.Prelude.{◌≡◌, ◌≤◌, ◌<◌, ◌+◌, ◌^◌, IfOk, length};
 ghost use Rattle.he_board.specs.declared.limits.TheConstants.{LEAST_WORKERS, MOST_WORKERS};
 ghost use Rattle.he_words.specs.Ranges.{most_races};
@@ -9,11 +9,12 @@ use crate::limits::{LEAST_WORKERS, MOST_WORKERS, PIECES_OF_A_WORKER};
 use crate::pieces::{join_pieces, piece_count, tell_pieces};
 use crate::race_texts::TextRequest;
 use crate::rounds::Held;
+use he_addr::Memory;
 use he_inputs::RaceReader;
-use std::alloc::{AllocError, Allocator};
+use std::alloc::Allocator;
 use std::thread::Threads;
 
-// Tells first races of the bytes that are held: none, where the bytes are few.
+// Writes first races of the held bytes; none, if the bytes are few.
 pub(crate) fn begin_shared<R: Threads + Sync, A: Allocator + Copy + Send + Sync>(
     rt: &R,
     alloc: A,
@@ -21,7 +22,7 @@ pub(crate) fn begin_shared<R: Threads + Sync, A: Allocator + Copy + Send + Sync>
     workers: u16,
     asked: &TextRequest,
     text: &mut Vec<u8, A>,
-) -> Result<RaceReader, AllocError>
+) -> Result<RaceReader, Memory>
     requires anywhere { LEAST_WORKERS < workers → IsAnywhere (IsAsked asked.now) }
     requires some { LEAST_WORKERS ≤ workers }
     requires few { workers ≤ MOST_WORKERS }
@@ -41,7 +42,7 @@ pub(crate) fn begin_shared<R: Threads + Sync, A: Allocator + Copy + Send + Sync>
     join_pieces(bytes, asked, held.reader, &told, text)
 }
 
-// So many of the workers that each has enough pieces to be worth its thread, and at least one.
+// The number of workers such that each has enough pieces to be worth its thread; at least one.
 fn enough_workers(pieces: usize, workers: u16) -> u16
     requires some { LEAST_WORKERS ≤ workers }
     requires few { workers ≤ MOST_WORKERS }

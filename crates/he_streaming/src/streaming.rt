@@ -1,4 +1,4 @@
-//! The whole of an input, round by round.
+//! A whole input, round by round.
 ghost use Rattle.std.specs.Prelude.{◌≡◌, ◌+◌, ◌^◌, ◌<◌, ◌≤◌, OnOk, length};
 ghost use Rattle.he_stream.specs.declared.limits.TheConstants.{READ_SIZE};
 ghost use Rattle.he_stream.specs.Input.{Gives, GivesSoFar};
@@ -23,8 +23,8 @@ use memchr::memmem::rfind;
 use std::alloc::Allocator;
 use std::thread::Threads;
 
-// Takes an input to its end and puts what is asked for of its races into the output, as they come. So many workers
-// share the races that a step of the input completes, where they are worth it.
+// Reads an input to its end and puts the texts of its races into the output, as they come. `workers` workers share
+// the races that a step of the input completes, if these are enough to be worth it.
 pub(crate) fn stream_races<
     R: Threads + Sync,
     A: Allocator + Copy + Send + Sync,
@@ -63,7 +63,7 @@ pub(crate) fn stream_races<
     }
 }
 
-// The room for the first step: several workers share what one step gives.
+// The room for the first step: several workers share the bytes of one step.
 fn first_room(workers: u16) -> usize
     ensures some { 0 < result }
     ensures few { result ≤ READ_SIZE }
@@ -75,8 +75,8 @@ fn first_room(workers: u16) -> usize
     }
 }
 
-// The room for the step after one that took so many bytes: four times as much where its room was filled, since much
-// more may be ready then.
+// The room for the step after one that took `count` bytes: four times as much if its room was filled, since much more
+// may be ready then.
 fn next_room(room: usize, count: usize) -> usize
     requires some { 0 < room }
     requires few { room ≤ READ_SIZE }
@@ -90,7 +90,7 @@ fn next_room(room: usize, count: usize) -> usize
     }
 }
 
-// Tells what stands ready when the bytes from `searched` on were taken, and forgets what was told.
+// Writes the races that are whole after the bytes from `searched` on were taken, and drops their bytes.
 fn tell_held<A: Allocator + Copy, O: OutputStream>(
     alloc: A,
     held: &mut Held<A>,
@@ -127,7 +127,7 @@ fn tell_held<A: Allocator + Copy, O: OutputStream>(
     put_round(alloc, held, part, asked, text, output)
 }
 
-// Tells what is held, after which nothing follows: the input ended, or broke off.
+// Writes the races of the held bytes, after which nothing follows: the input ended, or broke off.
 fn end_held<A: Allocator + Copy, O: OutputStream>(
     alloc: A,
     held: &mut Held<A>,
@@ -150,10 +150,10 @@ fn end_held<A: Allocator + Copy, O: OutputStream>(
     put_round(alloc, held, part, asked, text, output)
 }
 
-// How far races are looked for in the bytes, of which those from `searched` on are new: to the end of the last race
-// that ends there, or, for a fault after it, through all of them. That is tried where nothing more was ready to be
-// taken, or where the rest is longer than most races are, but not before the rest is twice as long as when it was
-// tried last.
+// The end of the search for races in the bytes, of which those from `searched` on are new: the end of the last race
+// that ends in the new ones, or, to find a fault after it, the end of the bytes. The latter is tried if nothing more
+// was ready to be taken, or if the rest is longer than most races are, but not before the rest is twice as long as at
+// the last try.
 fn reach_of(bytes: &[u8], searched: usize, is_short: bool, tried: usize) -> usize
     requires { searched ≤ length bytes.now }
 {

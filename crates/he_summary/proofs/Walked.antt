@@ -4,7 +4,6 @@ use Rattle.std.proofs.lemmas.Grind.{flat_map-append}
 use Rattle.std.proofs.lemmas.List.{append-nil, map-append}
 use Rattle.he_timeline.specs.Changes.{ChangeValues}
 use Rattle.he_timeline.specs.Race.{Race}
-use Rattle.he_reading.specs.Text.{IsRaceText}
 use Rattle.he_stream.specs.declared.stream.InputStream as inputs
 use Rattle.he_stream.specs.Input.{Gives, GivesSoFar}
 use Rattle.he_inputs.specs.Inputs.{HasRaces, line_count}
@@ -14,6 +13,7 @@ use Rattle.he_inputs.specs.declared.input_fault.InputFault.{InputFault}
 use Rattle.he_inputs.specs.declared.input_fault.InputFault.TheVariants as faults
 use Rattle.he_inputs.specs.declared.race_reader.RaceReaderFault.{RaceReaderFault}
 use Rattle.he_inputs.specs.declared.race_reader.RaceReaderFault.TheVariants as readers
+use Rattle.he_inputs.specs.Recorded.{IsRecordedText}
 use Rattle.he_inputs.proofs.RaceReadingLaws.{line_count-append}
 use Rattle.he_inputs.proofs.RaceStreamLaws.{none_handed}
 use Rattle.he_summary.specs.Kept.{Run, kept_of}
@@ -34,7 +34,7 @@ rows_on race place row (one ∷ settings) (first ∷ runs) changes run are is =
 
 -- the rows of one race more after those of the others
 pub runs_on : (settings : List ChangeValues) (file before lines : ℕ) (races : List Race) (text : List ℕ) (runs : List Run) → AreRuns settings file before lines races text runs
-    → (race : Race) (last : List ℕ) → IsRaceText last race → (number line : ℕ) (rows : List Run) → number ≡ before + length races + 1 → line ≡ lines + line_count text + 1
+    → (race : Race) (last : List ℕ) → IsRecordedText last race → (number line : ℕ) (rows : List Run) → number ≡ before + length races + 1 → line ≡ lines + line_count text + 1
     → AreRows race (record { file = file; number = number; line = line }) 0 settings rows → AreRuns settings file before lines (races ++ race ∷ []) (text ++ last) (runs ++ rows)
 runs_on settings file before lines [] text runs (none, nothing) race last is number line rows numbered lined are =
     let here : line ≡ lines + 1 = let no_line : line_count text ≡ 0 = ap line_count none in omega arith in

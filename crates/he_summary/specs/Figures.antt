@@ -1,4 +1,4 @@
--- What a summary says: figures, each with what it says, in their order.
+-- The statements of a summary: figures, each with its meaning, in order.
 use Rattle.std.specs.Prelude.{ℕ, zero, suc, ◌+◌, ◌*◌, ◌/◌, ◌%◌, ◌++◌, List, [], ◌∷◌, min, Option, Some, None}
 use Rattle.std.specs.List.{flat_map}
 use Rattle.std.specs.Option.{option_map_or}
@@ -20,15 +20,15 @@ use Rattle.he_summary.specs.declared.totals.Kind.TheVariants as kinds
 use Rattle.he_summary.specs.declared.totals.Totals.{Totals}
 use Rattle.he_summary.specs.declared.totals.Value.TheVariants as values
 
--- which share a number is of another, in tenths of a percent, rounded to the nearest; at most all
+-- the share of `of` that a number is, in thousandths, rounded to the nearest; at most all
 abbrev pub share : ℕ → ℕ → ℕ
 share number of = min ((2000 * number + of) / (2 * of)) 1000
 
--- it is told as whole percents and tenths
+-- the share in whole percents and tenths
 abbrev pub share_facts : ℕ → ℕ → List (Fact Said)
 share_facts number of = facts.Number (share number of / 10) ∷ facts.Number (share number of % 10) ∷ []
 
--- in lines alone, and of none
+-- the share in text alone; none of 0
 abbrev pub shown_share : Form → ℕ → ℕ → List (Fact Said)
 shown_share forms.Text number zero = []
 shown_share forms.Text number (suc of) = share_facts number (suc of)
@@ -57,7 +57,7 @@ time_facts form (Some times) =
     (told (Median values.Time) times.median 0 ∷ told (P90 values.Time) times.p90 0
     ∷ told (P99 values.Time) times.p99 0 ∷ told (Greatest values.Time) times.greatest 0 ∷ [])
 
--- in how many of the won races, and how much
+-- the number of won races that lost time so, and the time
 abbrev pub lost_facts : Form → Loss → Option Spread → ℕ → List (Fact Said)
 lost_facts form loss None won = facts.Said (NoOne (values.LostTo loss)) ∷ []
 lost_facts form loss (Some lost) won =
@@ -83,8 +83,8 @@ totals_facts form totals =
 abbrev pub total_of : Option Spread → ℕ
 total_of spread = option_map_or (λ s. s.total) spread 0
 
--- as metrics: the races by how they ended; the times to connect, with their sum and number; then the time that was
--- lost to addresses that failed and to silent ones, the attempts, and the races that waited
+-- as metrics: the races by how they ended; the times to connect, with their sum and number; then the time lost to
+-- addresses that failed and to silent ones, the attempts, and the races that waited
 abbrev pub ended_facts : Counts → List (Fact Said)
 ended_facts counts =
     flat_map (figure_facts forms.Metrics)
@@ -103,14 +103,14 @@ sum_facts totals =
 abbrev pub metrics_facts : Totals → List (Fact Said)
 metrics_facts totals = ended_facts totals.counts ++ (time_facts forms.Metrics totals.times ++ sum_facts totals)
 
--- of an address: how many attempts failed, how many were silent, and how many there were
+-- the attempts to an address: the failed ones, the silent ones, and all
 abbrev pub tally_facts : Form → Ip × Tally → List (Fact Said)
 tally_facts form tallied =
     flat_map (figure_facts form)
     (told Failed tallied.1.failed 0 ∷ told Silent tallied.1.silent 0 ∷ told Attempts tallied.1.attempts 0 ∷ [])
     ++ facts.Ip tallied.0 ∷ []
 
--- what a summary says
+-- the facts of a summary
 abbrev pub summary_facts : Form → Totals → List (Ip × Tally) → List (Fact Said)
 summary_facts forms.Metrics totals failing = metrics_facts totals
 summary_facts form totals failing = totals_facts form totals ++ flat_map (tally_facts form) failing

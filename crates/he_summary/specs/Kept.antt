@@ -1,4 +1,4 @@
--- What is kept of a race by its transcript and the events of its course.
+-- The record of a race, by its transcript and the events of its course.
 use Rattle.std.specs.Prelude.{ℕ, ◌+◌, ◌-◌, ◌&&◌, if◌then◌else◌, Bool, true, false, List, [], length, is_none, nat_le, nat_lt, option_map, take, Option, Some, None}
 use Rattle.std.specs.List.{list_any}
 use Rattle.std.specs.Option.{option_map_or}
@@ -38,8 +38,8 @@ ending_by (results.Limit tick) winner = endings.Limit tick
 abbrev pub ending_of : Ended → Ending
 ending_of ended = ending_by ended.result ended.winner
 
--- an attempt that starts here failed; or it was silent: at the end of the race it was under way for the Connection
--- Attempt Delay or longer, and its address does nothing when it is tried. One that was cancelled sooner is neither
+-- an attempt that starts here failed; or it was silent: at the end of the race it had been under way for the
+-- Connection Attempt Delay or longer, and its address has no outcome. One that was cancelled sooner is neither
 abbrev pub loss_by : ℕ → ℕ → Option Outcome → Mark → Option Loss
 loss_by delay start outcome (marks.Won tick) = None
 loss_by delay start outcome (marks.Failed tick) = Some losses.Failed
@@ -61,7 +61,7 @@ dead_before race lines =
     else if list_any (λ line. is_loss losses.Failed (loss_of race line)) lines then Some losses.Failed
     else None
 
--- the time from when the winner's answer was seen to the start of its attempt
+-- the time from when the winner's answer was seen to the start of the winner's attempt
 abbrev pub time_before : Race → Option Line → Option ℕ
 time_before race None = None
 time_before race (Some line) =
@@ -71,7 +71,7 @@ time_before race (Some line) =
 abbrev pub lines_before : List Line → Option Line → List Line
 lines_before lines winner = option_map_or (λ line. take line.place lines) winner []
 
--- the Resolution Delay was waited out: the client saw its end, and made an attempt
+-- the client saw the end of the Resolution Delay without an AAAA answer, and made an attempt
 abbrev pub has_waited : Race → Report → Bool
 has_waited race report =
     list_any (λ event. is_delay_over event.kind) (events_in race report) && nat_lt 0 (length report.lines)

@@ -1,4 +1,4 @@
--- Mirrors the code: what is kept while an input is read. What is summed stands in `Summed`.
+-- Mirrors the code: the records while an input is read. `Summed` has the whole.
 use Rattle.std.specs.Prelude.{ℕ, ◌≡◌, ◌++◌, Bool, true, false, List, Result, Ok, Err}
 use Rattle.he_timeline.specs.Race.{Race}
 use Rattle.he_stream.specs.declared.stream.InputStream as inputs
@@ -9,16 +9,16 @@ use Rattle.he_summary.specs.Kept.{Run}
 use Rattle.he_summary.specs.Summed.{Adds, AreRows, AreRuns, HasSummed, Sums}
 use Rattle.he_summary.specs.declared.kept.Place.{Place}
 
--- these are summed after those that were summed before, with the same settings
+-- adds these to the runs summed before, with unchanged settings
 pub record AddsRuns (runs : List Run) (old new : Sums) : Type 0 where
   pub settings : new.settings ≡ old.settings
   pub sums : (before : List Run) → HasSummed old before → HasSummed new (before ++ runs)
 
--- the race is summed with the settings of each row
+-- adds the race with the settings of each row
 abbrev pub AddsRace : Race → Place → Sums → Sums → Type 0
 AddsRace race place old new = (runs : List Run) × AreRows race place 0 old.settings runs × AddsRuns runs old new
 
--- the races that a stream handed out of an input are summed
+-- adds the races that a stream took out of an input
 pub record HasRead {I : Type 0} (file : ℕ) (input : inputs.Ghosts I) (first last : I) (stream : StreamState)
     (old new : Sums) : Type 0 where
   pub races : List Race
@@ -28,7 +28,7 @@ pub record HasRead {I : Type 0} (file : ℕ) (input : inputs.Ghosts I) (first la
   pub are : AreRuns old.settings file 0 0 races front added
   pub adds : AddsRuns added old new
 
--- one race more is summed; or the reading ends
+-- adds one race more; or the reading ends
 abbrev pub AddsNext : {I : Type 0} → ℕ → inputs.Ghosts I → I → I → StreamState → Sums → Sums
     → Result Bool StreamFault → Type 0
 AddsNext file input first last stream old new (Ok true) = HasRead file input first last stream old new

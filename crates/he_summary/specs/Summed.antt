@@ -6,18 +6,18 @@ use Rattle.he_timeline.specs.Changes.{ChangeValues, changed}
 use Rattle.he_timeline.specs.Race.{Race}
 use Rattle.he_plan.specs.Transcript.{IsTranscript}
 use Rattle.he_inputs.specs.Inputs.{HasRaces, line_count}
-use Rattle.he_reading.specs.Text.{IsRaceText}
 use Rattle.he_inputs.specs.declared.input_fault.InputFault.{InputFault}
 use Rattle.he_inputs.specs.declared.input_fault.InputFault.TheVariants as inputs
 use Rattle.he_inputs.specs.declared.stream_fault.StreamFault.{StreamFault}
 use Rattle.he_inputs.specs.declared.stream_fault.StreamFault.TheVariants.{Text, Read, Write, Memory}
+use Rattle.he_inputs.specs.Recorded.{IsRecordedText}
 use Rattle.he_summary.specs.Kept.{Run, kept_of}
 use Rattle.he_summary.specs.Tries.{AreTallies, Try, tries_of}
 use Rattle.he_summary.specs.declared.kept.Kept.{Kept}
 use Rattle.he_summary.specs.declared.kept.Place.{Place}
 use Rattle.he_summary.specs.declared.tallies.Tally.{Tally}
 
--- what is kept of races, each with the settings of each row
+-- the records of races, each with the settings of each row
 pub record Sums : Type 0 where
   pub settings : List ChangeValues
   pub kept : List Kept
@@ -27,12 +27,12 @@ pub record Sums : Type 0 where
 abbrev pub all_tries : List Run → List Try
 all_tries runs = flat_map tries_of runs
 
--- of these races
+-- these races are summed
 pub record HasSummed (sums : Sums) (runs : List Run) : Type 0 where
   pub kept : sums.kept ≡ map kept_of runs
   pub tallies : AreTallies (all_tries runs) sums.tallies
 
--- a race with the changes of its settings that a row has, and its transcript
+-- a race with a row's changes of its settings, and its transcript
 pub record IsRow (race : Race) (place : Place) (row : ℕ) (changes : ChangeValues) (run : Run) : Type 0 where
   pub row_is : run.row ≡ row
   pub place_is : run.place ≡ place
@@ -46,16 +46,16 @@ AreRows race place row (changes ∷ settings) [] = ⊥
 AreRows race place row (changes ∷ settings) (run ∷ runs) =
     IsRow race place row changes run × AreRows race place (row + 1) settings runs
 
--- after so many races and lines of a file the text is, one after the other, a text of each race, whose rows these are
+-- after this number of races and lines of a file, the text is a text of each race in order; the runs are their rows
 abbrev pub AreRuns : List ChangeValues → ℕ → ℕ → ℕ → List Race → List ℕ → List Run → Type 0
 AreRuns settings file before lines [] text runs = (text ≡ []) × (runs ≡ [])
 AreRuns settings file before lines (race ∷ races) text runs =
     (first more : List ℕ) × (rows later : List Run) × (text ≡ first ++ more) × (runs ≡ rows ++ later)
-    × IsRaceText first race
+    × IsRecordedText first race
     × AreRows race (record { file = file; number = before + 1; line = lines + 1 }) 0 settings rows
     × AreRuns settings file (before + 1) (lines + line_count first) races more later
 
--- the races of the input up to its first fault are summed after those that were summed before
+-- the races of the input up to its first fault are added to those summed before
 pub record HasAdded (file : ℕ) (input : List ℕ) (is_broken : Bool) (old new : Sums)
     (fault : Option InputFault) : Type 0 where
   pub races : List Race
@@ -68,12 +68,12 @@ pub record HasAdded (file : ℕ) (input : List ℕ) (is_broken : Bool) (old new 
   pub settings : new.settings ≡ old.settings
   pub sums : (before : List Run) → HasSummed old before → HasSummed new (before ++ added)
 
--- Given: what the input gave, and whether it broke off after that
+-- Given: the bytes that the input gave, and whether it broke off after them
 abbrev pub AddsAll : ℕ → (List ℕ → Bool → Type 0) → Sums → Sums → Option InputFault → Type 0
 AddsAll file Given old new fault =
     (input : List ℕ) × (is_broken : Bool) × Given input is_broken × HasAdded file input is_broken old new fault
 
--- Taken: what was taken of an input that was not read further. Every input that begins with that has these races and
+-- Taken: the bytes taken of an input that was not read further. Every input that begins with them has these races and
 -- this fault.
 abbrev pub AddsSure : ℕ → (List ℕ → Type 0) → Sums → Sums → InputFault → Type 0
 AddsSure file Taken old new fault =

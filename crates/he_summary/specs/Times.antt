@@ -1,11 +1,11 @@
--- Numbers of races, as their times to connect, at a glance.
+-- Percentiles of numbers of races, such as times to connect.
 use Rattle.std.specs.Prelude.{ℕ, ◌≡◌, ◌≤◌, ◌*◌, List, [], length, count_by, nat_le, Option, Some, None}
 use Rattle.std.specs.List.{sum_by}
 use Rattle.he_timeline.specs.Seen.{IsLeast}
 use Rattle.he_summary.specs.Tries.{saturated}
 use Rattle.he_summary.specs.declared.times.Spread.{Spread}
 
--- the least number within which at least so many of 100 of them lie
+-- the least number within which at least `percent` of 100 of them lie
 abbrev pub IsPercentile : List ℕ → ℕ → ℕ → Type 0
 IsPercentile numbers percent =
     IsLeast (λ n. length numbers * percent ≤ 100 * count_by (λ other. nat_le other n) numbers)
@@ -21,7 +21,7 @@ pub record AreWithin (numbers : List ℕ) (spread : Spread) : Type 0 where
   pub p99 : IsPercentile numbers 99 spread.p99
   pub greatest : IsPercentile numbers 100 spread.greatest
 
--- where there are some
+-- the summary of some numbers; None if there are none
 abbrev pub IsSpread : List ℕ → Option Spread → Type 0
 IsSpread numbers None = numbers ≡ []
 IsSpread numbers (Some spread) = AreWithin numbers spread

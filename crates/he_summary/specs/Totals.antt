@@ -1,4 +1,4 @@
--- What is counted of races.
+-- The counts of races.
 use Rattle.std.specs.Prelude.{ℕ, ◌≡◌, ◌&&◌, if◌then◌else◌, Bool, true, false, List, length, count_by, nat_lt, Option, Some, None}
 use Rattle.std.specs.List.{filter_map}
 use Rattle.he_addr.specs.Ip.{family_of}
@@ -34,7 +34,7 @@ is_so _ _ _ = false
 abbrev pub is_kind : Kind → Kept → Bool
 is_kind kind race = is_so kind race.ending race.has_waited
 
--- what is lost, where it is more than none, to attempts of which one was lost so
+-- the time lost, if more than 0, in a race that lost to an attempt of this kind
 abbrev pub lost_to : Loss → Option ℕ → Option Loss → Option ℕ
 lost_to loss (Some time) dead = if nat_lt 0 time && is_loss loss dead then Some time else None
 lost_to loss None dead = None

@@ -1,4 +1,4 @@
--- The attempts of races by their addresses, and how many of them failed and were silent.
+-- The attempts of races by their addresses, and the number of failed and silent ones.
 use Rattle.std.specs.Prelude.{ℕ, ◌≡◌, ◌+◌, ◌-◌, ◌^◌, ◌&&◌, Bool, List, map, filter, min, take, count_by, nat_lt, IsPermutation, Option, Some, None}
 use Rattle.std.specs.List.{IsDistinct}
 use Rattle.std.specs.List.Sorted.{IsSortedByKey}
@@ -26,7 +26,7 @@ try_of race line = record { ip = line.ip; loss = loss_of race line }
 abbrev pub tries_of : Run → List Try
 tries_of run = map (try_of run.race) run.report.lines
 
--- a number, or the greatest that is counted
+-- a number, up to the greatest that is counted
 abbrev pub saturated : ℕ → ℕ
 saturated n = min n (2 ^ 64 - 1)
 
@@ -38,7 +38,7 @@ tried tally (Some losses.Failed) =
 tried tally (Some losses.Silent) =
     record tally { silent = saturated (tally.silent + 1); attempts = saturated (tally.attempts + 1) }
 
--- of the attempts to this address: how many failed, how many were silent, and how many there are
+-- the attempts to this address: the failed ones, the silent ones, and all
 abbrev pub tally_of : List Try → Ip → Tally
 tally_of tries ip =
     record {
@@ -47,7 +47,7 @@ tally_of tries ip =
       attempts = saturated (count_by (λ x. same_ip ip x.ip) tries);
     }
 
--- what the tallies say of this address
+-- the tally of this address
 abbrev pub tally_at : List (Ip × Tally) → Ip → Tally
 tally_at tallies ip = unwrap_or (lookup (same_ip ip) tallies) (record { failed = 0; silent = 0; attempts = 0 })
 
@@ -63,19 +63,20 @@ lost_of tally = tally.failed + tally.silent
 abbrev pub has_lost : Ip × Tally → Bool
 has_lost tallied = nat_lt 0 (lost_of tallied.1)
 
--- most of these first, those with as many by the number of the address, an IPv4 address by its number as an IPv6 one
+-- the order: most failed or silent attempts first, equal ones by the number of the address, an IPv4 address by its
+-- mapped IPv6 number
 abbrev pub rank_of : Ip × Tally → ℕ × ℕ
 rank_of tallied = (lost_of tallied.1, mapped_of tallied.0)
 
 abbrev pub most_first : ℕ × ℕ → ℕ × ℕ → Ordering
 most_first x y = ordering_then (nat_cmp y.0 x.0) (nat_cmp x.1 y.1)
 
--- the first ten of those that have some, in that order
+-- the first ten tallies that have such attempts, in that order
 abbrev pub AreRanked : List (Ip × Tally) → List (Ip × Tally) → Type 0
 AreRanked tallies told =
     (ranked : List (Ip × Tally)) × IsPermutation (filter has_lost tallies) ranked
     × IsSortedByKey rank_of most_first ranked × (told ≡ take 10 ranked)
 
--- the addresses of which is told how many of the attempts to them failed or were silent
+-- the addresses that are reported with their failed and silent attempts
 abbrev pub AreFailing : List Try → List (Ip × Tally) → Type 0
 AreFailing tries told = (tallies : List (Ip × Tally)) × AreTallies tries tallies × AreRanked tallies told

@@ -1,4 +1,4 @@
--- What is written of the races that are summed.
+-- The text on the races that are summed.
 use Rattle.std.specs.Prelude.{ℕ, zero, suc, ◌≡◌, ◌++◌, List, [], ◌∷◌, codes, filter, map, slice_get, take, IsPermutation, Option, Some}
 use Rattle.std.specs.List.Sorted.{IsSortedByKey}
 use Rattle.std.specs.Option.{unwrap_or}
@@ -28,7 +28,7 @@ use Rattle.he_summary.specs.declared.totals.Totals.{Totals}
 abbrev pub Tells : {S : Type 0} → List (Fact S) → List ℕ → List ℕ → Type 0
 Tells told old new = (text : List ℕ) × States told text × (new ≡ old ++ text)
 
--- the name of a file by its place; `-` where there is none
+-- the name of a file by its place; `-` if there is none
 abbrev pub name_at : List (List ℕ) → ℕ → List ℕ
 name_at names place = unwrap_or (slice_get names place) (codes "-")
 
@@ -36,22 +36,22 @@ name_at names place = unwrap_or (slice_get names place) (codes "-")
 abbrev pub slow_key : Kept → ℕ × (ℕ × ℕ)
 slow_key race = (unwrap_or (time_of race.ending) 0, (race.place.file, race.place.number))
 
--- the slowest first, those of one time as they were read
+-- the slowest first, equal ones in the order in which they were read
 abbrev pub slowest_first : ℕ × (ℕ × ℕ) → ℕ × (ℕ × ℕ) → Ordering
 slowest_first x y = ordering_then (nat_cmp y.0 x.0) (ordering_then (nat_cmp x.1.0 y.1.0) (nat_cmp x.1.1 y.1.1))
 
--- so many of the races that were won, in that order
+-- the `most` slowest of the races that were won, in that order
 abbrev pub AreSlowest : ℕ → List Kept → List Kept → Type 0
 AreSlowest most kept slow =
     (sorted : List Kept) × IsPermutation (filter (is_kind Won) kept) sorted
     × IsSortedByKey slow_key slowest_first sorted × (slow ≡ take most sorted)
 
--- where a race stands: at which line it begins, and its number
+-- the place of a race: its first line, and its number
 abbrev pub place_facts : {S : Type 0} → Form → Place → List (Fact S)
 place_facts forms.Text place = facts.Number place.line ∷ facts.Number place.number ∷ []
 place_facts _ place = facts.Number place.number ∷ facts.Number place.line ∷ []
 
--- the time to connect, to which address, and what the race lost
+-- the time to connect, the address, and the time that the race lost
 abbrev pub won_facts : Option ℕ → Ending → List (Fact Said)
 won_facts lost (endings.Won (Some ip) time) =
     facts.Number time ∷ facts.Ip ip ∷ facts.Number (unwrap_or lost 0) ∷ []
@@ -70,13 +70,13 @@ TellsEach [] old new = HasWords old new
 TellsEach (told ∷ each) old new =
     (words between : List ℕ) × Tells told (old ++ words) between × TellsEach each between new
 
--- so many of the slowest of these have been appended, or words alone
+-- the `most` slowest of these have been appended, or words alone
 abbrev pub TellsSlowest : Form → ℕ → List Kept → List ℕ → List ℕ → Type 0
 TellsSlowest form zero kept old new = HasWords old new
 TellsSlowest form (suc most) kept old new =
     (slow : List Kept) × AreSlowest (suc most) kept slow × TellsEach (map (slow_facts form) slow) old new
 
--- what is written of these races, and of so many of the slowest ones
+-- the text on these races, with the `most` slowest ones
 abbrev pub IsWritten : Form → List Run → ℕ → List ℕ → List ℕ → Type 0
 IsWritten form runs most old new =
     (totals : Totals) × (failing : List (Ip × Tally)) × (between : List ℕ)

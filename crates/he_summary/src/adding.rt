@@ -11,7 +11,7 @@ use he_stream::InputStream;
 use std::alloc::Allocator;
 use std::mem::drop;
 
-// Adds the next race of an input, if there is one. The race and its transcripts stand in the arena.
+// Adds the next race of an input, if there is one. The arena holds the race and its transcripts.
 pub(crate) fn add_next<A: Allocator + Copy, B: Allocator + Copy, I: InputStream>(
     arena: B,
     file: usize,

@@ -1,4 +1,4 @@
-//! What is reported of races, figure by figure.
+//! The report on races, figure by figure.
 ghost use Rattle.std.specs.Prelude.{◌≡◌, ◌++◌, ◌<◌, [], ◌∷◌, OnOk};
 ghost use Rattle.std.specs.List.{flat_map};
 ghost use Rattle.he_print.specs.Parts.{fact_of};
@@ -15,7 +15,7 @@ use he_addr::{Family, Ip, Memory};
 use he_print::{Part, push_parts};
 use std::alloc::Allocator;
 
-/// The form in which races are reported.
+/// The form of a report.
 #[derive(Clone, Copy, Debug, PartialEq, Eq)]
 pub enum Form {
     /// A few lines.
@@ -26,12 +26,12 @@ pub enum Form {
     Metrics,
 }
 
-/// What is said of races.
+/// The meaning of a figure.
 #[derive(Clone, Copy, Debug, PartialEq, Eq)]
 pub enum Said {
     Races,
     Are(Kind),
-    /// No race has such a number.
+    /// No race has a number of this kind.
     NoOne(Value),
     Count(Value),
     Total(Value),
@@ -39,13 +39,13 @@ pub enum Said {
     P90(Value),
     P99(Value),
     Greatest(Value),
-    /// Of the attempts to an address: how many failed, how many were silent, and how many there are.
+    /// The attempts to an address: the failed ones, the silent ones, and all.
     Failed,
     Silent,
     Attempts,
 }
 
-/// A number, and of how many it is the share that is written; of none where that is 0.
+/// A number. The report adds its share of `of`, unless `of` is 0.
 #[derive(Clone, Copy, Debug, PartialEq, Eq)]
 pub struct Figure {
     pub said: Said,
@@ -53,11 +53,11 @@ pub struct Figure {
     pub of: u64,
 }
 
-/// Tells what is counted of races.
+/// Appends the totals of races.
 ///
 /// # Errors
 ///
-/// `Memory` where an allocation was refused.
+/// `Memory` if an allocation was refused.
 pub fn push_totals<A: Allocator>(
     form: Form,
     totals: Totals,
@@ -155,7 +155,7 @@ fn push_none<A: Allocator>(
     push_parts(&[Part::Says(said, before(form, said))], text)
 }
 
-// The attempts, and how many races waited.
+// The attempts, and the number of races that waited.
 fn push_end<A: Allocator>(
     form: Form,
     totals: Totals,
@@ -181,7 +181,7 @@ fn push_end<A: Allocator>(
     )
 }
 
-// Tells of the attempts to an address.
+// Appends the figures on the attempts to an address.
 pub(crate) fn push_tally<A: Allocator>(
     form: Form,
     tallied: (Ip, Tally),
@@ -218,7 +218,7 @@ pub(crate) fn push_tally<A: Allocator>(
     }
 }
 
-// Tells the counts and the times to connect as metrics.
+// Appends the counts and the times to connect as metrics.
 pub(crate) fn push_metrics<A: Allocator>(
     totals: Totals,
     text: &mut Vec<Part<Said>, A>,
@@ -263,7 +263,7 @@ fn push_sums<A: Allocator>(totals: Totals, text: &mut Vec<Part<Said>, A>) -> Res
     )
 }
 
-/// The sum of some numbers; 0 of none.
+/// The sum of some numbers; 0 if there are none.
 pub fn total_of(spread: Option<Spread>) -> u64
     ensures { result ≡ total_of spread }
 {
@@ -316,7 +316,7 @@ fn push_figure<A: Allocator>(
     }
 }
 
-// Tells which share a number is of another, in tenths of a percent.
+// Appends the share of `of` that a number is, in tenths of a percent.
 fn push_share<A: Allocator>(
     number: u64,
     of: u64,
@@ -339,7 +339,7 @@ fn push_share<A: Allocator>(
     )
 }
 
-/// Of a thousand, rounded to the nearest, and at most all of them.
+/// The share of `of` in thousandths, rounded to the nearest, at most 1000.
 pub fn share(number: u64, of: u64) -> u64
     requires { 0 < of }
     ensures { result ≡ share number of }

@@ -1,4 +1,4 @@
-//! What is kept of a race.
+//! The record of a race.
 ghost use Rattle.std.specs.Prelude.{◌≡◌};
 ghost use Rattle.std.specs.List.{list_any};
 ghost use Rattle.he_summary.specs.Kept.{dead_before, ending_of, has_waited, is_loss, kept_of, lines_before, loss_of, time_before};
@@ -9,10 +9,10 @@ use he_plan::{Line, Mark, Outcome3, Transcript};
 use he_timeline::Timeline;
 use std::alloc::Allocator;
 
-/// Where a race stands.
+/// The place of a race in the inputs.
 #[derive(Clone, Copy, Debug, PartialEq, Eq)]
 pub struct Place {
-    /// Its input among all, counted from 0.
+    /// The place of its input, counted from 0.
     pub file: usize,
     /// Its number in that input, counted from 1.
     pub number: usize,
@@ -20,7 +20,7 @@ pub struct Place {
     pub line: u64,
 }
 
-/// How a race ended, and when, in milliseconds.
+/// How a race ended, with the tick, in milliseconds.
 #[derive(Clone, Copy, Debug, PartialEq, Eq)]
 pub enum Ending {
     /// It was won by the attempt at this address.
@@ -33,11 +33,12 @@ pub enum Ending {
 #[derive(Clone, Copy, Debug, PartialEq, Eq)]
 pub enum Loss {
     Failed,
-    /// It had no end for the Connection Attempt Delay or longer, and its address does nothing.
+    /// At the end of the race it had been under way for the Connection Attempt Delay or longer, and its address has
+    /// no outcome.
     Silent,
 }
 
-/// What is kept of a race that ran with the settings of one row.
+/// The record of a race that ran with the settings of one row.
 #[derive(Clone, Copy, Debug, PartialEq, Eq)]
 pub struct Kept {
     /// The row, counted from 0.
@@ -45,16 +46,17 @@ pub struct Kept {
     pub place: Place,
     pub ending: Ending,
     pub attempts: usize,
-    /// What a won race lost: the milliseconds from when the winner's answer was seen to the start of its attempt.
+    /// The milliseconds that a won race lost: from when the winner's answer was seen to the start of the winner's
+    /// attempt.
     pub lost: Option<u64>,
-    /// That of the attempts before the winner's one was silent; or one failed, and none was silent.
+    /// `Silent` if one of the attempts before the winner's was silent; else `Failed` if one failed.
     pub dead: Option<Loss>,
-    /// Whether the Resolution Delay was waited out before the first attempt.
+    /// Whether the Resolution Delay ended before the first attempt, without an AAAA answer.
     pub has_waited: bool,
 }
 
 impl Kept {
-    // Of the race that stands there, with this transcript.
+    // The record of the race at this place, with this transcript.
     pub(crate) fn of<A: Allocator, B: Allocator>(
         row: usize,
         place: Place,
@@ -88,7 +90,7 @@ impl Ending {
     }
 }
 
-// Whether one of the attempts was silent, or else failed.
+// `Silent` if one of the attempts was silent; else `Failed` if one failed.
 fn dead_before<A: Allocator>(race: &Timeline<A>, lines: &[Line]) -> Option<Loss>
     ensures { result ≡ dead_before race.now lines.now }
 {
@@ -117,8 +119,8 @@ fn is_loss(loss: Loss, lost: Option<Loss>) -> bool
     }
 }
 
-// Whether an attempt failed or was silent: it had no end for the Connection Attempt Delay or longer, and its address
-// does nothing.
+// Whether an attempt failed or was silent: at the end of the race it had been under way for the Connection Attempt
+// Delay or longer, and its address has no outcome.
 pub(crate) fn loss_of<A: Allocator>(race: &Timeline<A>, line: &Line) -> Option<Loss>
     ensures { result ≡ loss_of race.now line.now }
 {
@@ -136,7 +138,7 @@ pub(crate) fn loss_of<A: Allocator>(race: &Timeline<A>, line: &Line) -> Option<L
     }
 }
 
-// The milliseconds from when the winner's answer was seen to the start of its attempt.
+// The milliseconds from when the winner's answer was seen to the start of the winner's attempt.
 fn time_before<A: Allocator>(race: &Timeline<A>, winner: Option<Line>) -> Option<u64>
     ensures { result ≡ time_before race.now winner }
 {
@@ -155,7 +157,7 @@ fn lines_before(lines: &[Line], winner: Option<Line>) -> &[Line]
     }
 }
 
-// Whether the Resolution Delay was waited out, and an attempt made.
+// Whether the Resolution Delay ended without an AAAA answer, and an attempt was made.
 fn has_waited<A: Allocator, B: Allocator>(race: &Timeline<A>, transcript: &Transcript<B>) -> bool
     ensures { result ≡ has_waited race.now transcript.now }
 {

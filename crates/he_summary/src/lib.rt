@@ -1,8 +1,8 @@
-//! Many races at a glance.
+//! Summaries of many races.
 //!
 //! [`Races`] reads inputs of timelines, one after the other, and keeps a small record of each race ([`Kept`]) for
-//! each row of settings ([`Changes`](he_timeline::Changes)): a summary has one row, a comparison (he_compare) several.
-//! What is reported is counted over these records ([`Totals`]), in few lines, in one JSON object or as metrics:
+//! each row of settings ([`Changes`](he_timeline::Changes)): a summary has one row, a comparison (he_compare)
+//! several. The report counts these records ([`Totals`]), in a few lines, in one JSON object or as metrics:
 //!
 //! ```text
 //! 2000 races: 1890 won (94.5 %), 1500 by IPv6 (75.0 %), 390 by IPv4 (19.5 %), 90 exhausted (4.5 %), 20 at the ..
@@ -17,14 +17,14 @@
 //!   office.timeline:12 race 2: 2950 ms to 198.51.100.5, 500 ms lost
 //! ```
 //!
-//! Proved, whatever the inputs: what is kept is that of the transcripts of all races of the inputs with each row's
-//! settings, each input up to its first fault, which is the result (`specs/Kept`, `specs/Summed`). A percentile is the
-//! least number within which so many of 100 lie (`specs/Times`), each count one over what is kept (`specs/Totals`).
-//! The addresses are the ten to which most attempts failed or were silent (`specs/Tries`), the slowest races the first
-//! of the won ones by time (`specs/Written`). The text states these numbers, each with what it says, in this order
-//! (`specs/Figures`). The words between are free.
+//! Proved, whatever the inputs: the records are those of the transcripts of all races of the inputs with each row's
+//! settings, each input up to its first fault, which is the result (`specs/Kept`, `specs/Summed`). A percentile is
+//! the least number within which that percentage lies (`specs/Times`); each count is one over the records
+//! (`specs/Totals`). The addresses are the ten with the most failed or silent attempts (`specs/Tries`), the slowest
+//! races the first of the won ones by time (`specs/Written`). The text states these numbers, each with its meaning,
+//! in this order (`specs/Figures`). The words between are free.
 //!
-//! Not proved: that a call succeeds where memory is granted.
+//! Not proved: that a call succeeds if memory is granted.
 #![tactic(auto)]
 
 mod adding;

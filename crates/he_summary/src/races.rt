@@ -1,4 +1,4 @@
-//! The races of some inputs, each with the settings of one or more rows.
+//! The races of inputs, each with the settings of one or more rows.
 ghost use Rattle.std.specs.Prelude.{◌≡◌, ◌<◌, [], ◌∷◌, length, slice_get, Some, IfOk, OnOk};
 ghost use Rattle.he_stream.specs.Input.{Gives, GivesSoFar};
 ghost use Rattle.he_summary.specs.Steps.{AddsRace, AddsRuns};
@@ -17,11 +17,11 @@ use he_timeline::{Changes, Timeline};
 use std::alloc::Allocator;
 use std::marker::Model;
 
-// The bytes that the arena has at first in which a race and its transcripts are kept while it is added. No race is kept
-// when the next one is read, which takes the arena's memory again.
+// The initial size of the arena, which holds a race and its transcripts while the race is added. The next race reuses
+// the arena's memory.
 const ARENA_BYTES: usize = 65_536;
 
-/// What is kept of the races of some inputs, each of which runs with the settings of each row: a [`Kept`] for each
+/// The records of the races of inputs; each race runs with the settings of each row. There is a [`Kept`] for each
 /// race and row, and a tally for each address to which an attempt was made.
 #[derive(Drop)]
 pub struct Races<A: Allocator> {
@@ -40,7 +40,7 @@ impl<A: Allocator> Model for Races<A> {
 }
 
 impl<A: Allocator + Copy> Races<A> {
-    /// No races, which are to run with the settings of these rows.
+    /// No races yet; each one added runs with the settings of these rows.
     pub fn new(alloc: A, settings: Vec<Changes, A>) -> Races<A>
         ensures settings { result.settings ≡ settings.items }
         ensures none { HasSummed result [] }
@@ -53,20 +53,20 @@ impl<A: Allocator + Copy> Races<A> {
         }
     }
 
-    /// Takes an input of timelines to its end, and adds its races, as those of the file of this place among all. The
-    /// stream begins anew with it, in the memory of the input before.
+    /// Reads an input of timelines to its end, and adds its races as those of the file at this place. The stream
+    /// starts again with this input, and reuses its memory.
     ///
-    /// No more is held than the stream holds, and one race with its transcripts.
+    /// Holds no more than the stream does, and one race with its transcripts.
     ///
     /// # Errors
     ///
     /// The races before a fault of the input are added.
     ///
-    /// - `Text` where the input is no timeline text, with its first fault, its line counted over the whole input from
-    ///   1. The input is not read further where nothing that follows mends it.
-    /// - `Read` where a step of the input failed before a fault of the text was found, or the bound of 4,294,967,296
+    /// - `Text` if the input is no timeline text: its first fault, with its line counted over the whole input from 1.
+    ///   The input is not read further if nothing that follows mends it.
+    /// - `Read` if a step of the input failed before a fault of the text was found, or the bound of 4,294,967,296
     ///   steps was reached.
-    /// - `Memory` where an allocation was refused. Nothing is known of the races then: they may be dropped.
+    /// - `Memory` if an allocation was refused. The contents are then unspecified; they may be dropped.
     pub fn add<I: InputStream>(
         &mut self,
         file: usize,
@@ -79,17 +79,17 @@ impl<A: Allocator + Copy> Races<A> {
         stream.restart();
         let mut arena = Bump::try_with_capacity(self.alloc, ARENA_BYTES)?;
         while add_next(&arena, file, stream, input, self)? {
-            // An arena that can't be reset is no fault: it grows.
+            // If the arena can't be reset, it grows; that is no fault.
             let _ = arena.reset();
         }
         Ok(())
     }
 
-    /// Adds a race, which runs with the settings of each row. Its transcripts stand in the arena.
+    /// Adds a race, which runs with the settings of each row. The arena holds its transcripts.
     ///
     /// # Errors
     ///
-    /// `Memory` where an allocation was refused. Nothing is known of the races then.
+    /// `Memory` if an allocation was refused. The contents are then unspecified.
     pub fn add_race<B: Allocator + Copy, C: Allocator>(
         &mut self,
         arena: B,
@@ -128,18 +128,18 @@ impl<A: Allocator + Copy> Races<A> {
         self.tallies.add(race, transcript)
     }
 
-    /// What is kept, in the order in which the races were added, and of one race in the order of the rows.
+    /// The records, in the order in which the races were added, and for one race in the order of the rows.
     pub fn kept(&self) -> &[Kept]
         ensures { result.now ≡ self.now.kept }
     {
         self.kept.as_slice()
     }
 
-    /// The addresses to which most attempts failed or were silent.
+    /// The ten addresses with the most failed or silent attempts.
     ///
     /// # Errors
     ///
-    /// `Memory` where an allocation was refused.
+    /// `Memory` if an allocation was refused.
     pub fn failing(&self) -> Result<Vec<(Ip, Tally), A>, Memory>
         ensures { IfOk result (λ told. AreRanked self.now.tallies told.items) }
     {

@@ -1,4 +1,4 @@
-// How many attempts were made to each address, and how many of these failed and were silent.
+// The number of attempts to each address, and of the failed and the silent ones.
 ghost use Rattle.std.specs.Prelude.{◌≡◌, ◌++◌, [], ◌∷◌, List, map, IfOk, IsPermutation, OnOk, filter};
 ghost use Rattle.std.specs.List.Sorted.{IsSortedByKey};
 ghost use Rattle.he_summary.specs.Tries.{AreRanked, AreTallies, Try, has_lost, lost_of, most_first, rank_of, tally_at, tried, try_of};
@@ -13,11 +13,10 @@ use std::cmp::Reverse;
 use std::hash::{BuildHasherDefault, FoldHasher};
 use std::marker::Model;
 
-// The most addresses that are told.
+// The most addresses that are reported.
 const MOST_TOLD: usize = 10;
 
-/// How many attempts to an address there were, and how many of these failed and were silent. Each counts up to
-/// 2^64 - 1.
+/// The number of attempts to an address, and of the failed and the silent ones. Each counts up to 2^64 - 1.
 #[derive(Clone, Copy, Debug, PartialEq, Eq)]
 pub struct Tally {
     pub failed: u64,
@@ -32,7 +31,7 @@ impl Tally {
         attempts: 0,
     };
 
-    // With one attempt more.
+    // The tally with one attempt more.
     fn with(self, loss: Option<Loss>) -> Tally
         ensures { result ≡ tried self loss }
     {
@@ -52,7 +51,7 @@ impl Tally {
         }
     }
 
-    // How many attempts failed or were silent.
+    // The number of failed and silent attempts.
     fn lost(self) -> u128
         ensures { result ≡ lost_of self }
     {
@@ -115,7 +114,7 @@ impl<A: Allocator + Copy> Tallies<A> {
         self.by_address.get(&ip).copied().unwrap_or(Tally::NONE)
     }
 
-    // The addresses with most attempts that failed or were silent.
+    // The ten addresses with the most failed or silent attempts.
     pub(crate) fn ranked(&self, alloc: A) -> Result<Vec<(Ip, Tally), A>, Memory>
         ensures { IfOk result (λ told. AreRanked self.now told.items) }
     {
@@ -138,8 +137,7 @@ impl<A: Allocator + Copy> Tallies<A> {
     }
 }
 
-// Sorts tallies, that with most attempts that failed or were silent first, and those with as many by the number of the
-// address.
+// Sorts tallies, the one with the most failed or silent attempts first, equal ones by the number of the address.
 fn rank<A: Allocator>(tallies: &mut Vec<(Ip, Tally), A>)
     ensures permutation { IsPermutation tallies.old.items tallies.new.items }
     ensures sorted { IsSortedByKey rank_of most_first tallies.new.items }

@@ -1,12 +1,12 @@
-//! Numbers of races, as their times to connect, at a glance.
+//! Percentiles of numbers of races, such as times to connect.
 ghost use Rattle.std.specs.Prelude.{◌≡◌, ◌<◌, ◌≤◌, length, IsSorted};
 ghost use Rattle.std.specs.Ordering.{nat_cmp};
 ghost use Rattle.he_summary.specs.Times.{IsPercentile, IsSpread, total};
 
 use std::alloc::Allocator;
 
-/// Numbers at a glance: how many they are, their sum (at most 2^64 - 1), and the least within which so many of 100 of
-/// them lie.
+/// A summary of numbers: their count, their sum (at most 2^64 - 1), and the least numbers within which 50, 90, 99 and
+/// 100 percent of them lie.
 #[derive(Clone, Copy, Debug, PartialEq, Eq)]
 pub struct Spread {
     pub count: u64,
@@ -17,7 +17,7 @@ pub struct Spread {
     pub greatest: u64,
 }
 
-/// Of these numbers: None where there is none. They are sorted then.
+/// The summary of these numbers; None if there are none. Sorts them.
 pub fn spread_of<A: Allocator>(numbers: &mut Vec<u64, A>) -> Option<Spread>
     ensures { IsSpread numbers.old.items result }
 {
@@ -52,7 +52,7 @@ fn total(numbers: &[u64]) -> u64
     sum
 }
 
-// The least number within which at least so many of 100 of these lie: by the nearest rank.
+// The least number within which at least `percent` of 100 of these lie: by the nearest rank.
 fn percentile(sorted: &[u64], percent: u8) -> u64
     requires sorted { IsSorted nat_cmp sorted.now }
     requires some { 0 < length sorted.now }

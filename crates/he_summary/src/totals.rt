@@ -1,4 +1,4 @@
-//! What is counted of races.
+//! The counts of races.
 ghost use Rattle.std.specs.Prelude.{◌≡◌, count_by, IfOk};
 ghost use Rattle.std.specs.List.{filter_map};
 ghost use Rattle.he_summary.specs.Times.{IsSpread};
@@ -7,9 +7,9 @@ ghost use Rattle.he_summary.specs.Totals.{AreTotals, counts_of, is_kind, value_o
 use crate::kept::{Ending, Kept, Loss};
 use crate::times::{Spread, spread_of};
 use he_addr::{Family, Memory};
-use std::alloc::{AllocError, Allocator};
+use std::alloc::Allocator;
 
-/// How many races there are, and how many of them are of each kind.
+/// The number of races, and of those of each kind.
 #[derive(Clone, Copy, Debug, PartialEq, Eq)]
 pub struct Counts {
     pub races: u64,
@@ -18,20 +18,20 @@ pub struct Counts {
     pub by_v4: u64,
     pub exhausted: u64,
     pub limit: u64,
-    /// In how many races the Resolution Delay was waited out.
+    /// The races in which the Resolution Delay ended without an AAAA answer.
     pub waited: u64,
 }
 
-/// What is counted of races.
+/// The totals of races.
 #[derive(Clone, Copy, Debug, PartialEq, Eq)]
 pub struct Totals {
     pub counts: Counts,
     /// The times to connect of the races that were won, in milliseconds.
     pub times: Option<Spread>,
-    /// What races lost to addresses that failed, and to silent ones, in milliseconds.
+    /// The milliseconds that races lost to addresses that failed, and to silent ones.
     pub lost_to_failed: Option<Spread>,
     pub lost_to_silent: Option<Spread>,
-    /// How many attempts each race had.
+    /// The number of attempts of each race.
     pub attempts: Option<Spread>,
 }
 
@@ -50,17 +50,17 @@ pub enum Kind {
 pub enum Value {
     /// The time to connect, in milliseconds.
     Time,
-    /// What the race lost so, in milliseconds.
+    /// The milliseconds that the race lost to an address of this kind.
     LostTo(Loss),
     Attempts,
 }
 
 impl Totals {
-    /// Of these races.
+    /// The totals of these races.
     ///
     /// # Errors
     ///
-    /// `Memory` where an allocation was refused.
+    /// `Memory` if an allocation was refused.
     pub fn of<A: Allocator + Copy>(alloc: A, kept: &[Kept]) -> Result<Totals, Memory>
         ensures { IfOk result (AreTotals kept.now) }
     {
@@ -119,7 +119,7 @@ fn spread<A: Allocator + Copy>(
     Ok(spread_of(&mut values))
 }
 
-fn values_of<A: Allocator>(alloc: A, kept: &[Kept], value: Value) -> Result<Vec<u64, A>, AllocError>
+fn values_of<A: Allocator>(alloc: A, kept: &[Kept], value: Value) -> Result<Vec<u64, A>, Memory>
     ensures { IfOk result (λ values. values.items ≡ filter_map (value_of value) kept.now) }
 {
     kept.iter()
@@ -127,7 +127,7 @@ fn values_of<A: Allocator>(alloc: A, kept: &[Kept], value: Value) -> Result<Vec<
         .collect(alloc)
 }
 
-/// The number of a race, where it has one.
+/// The race's number of this kind, if it has one.
 pub fn value_of(value: Value, race: &Kept) -> Option<u64>
     ensures { result ≡ value_of value race.now }
 {

@@ -1,11 +1,11 @@
-// The words around the figures: each line of a text begins with its own line's end.
+// The words around the figures. Each line of a text begins with its line end.
 
 use crate::figures::{Form, Said};
 use crate::kept::Loss;
 use crate::totals::{Kind, Value};
 use he_addr::Family;
 
-// The words before a figure, or in the place of one that is not there.
+// The words before a figure, or in place of a missing one.
 pub(crate) fn before(form: Form, said: Said) -> &'static [u8] {
     match form {
         Form::Text => before_in_text(said),
@@ -105,7 +105,7 @@ fn after_in_json(said: Said) -> &'static [u8] {
     }
 }
 
-// The name of a metric, below its type where it is the first of it.
+// The name of a metric, after its type if it is the first of that type.
 fn before_in_metrics(said: Said) -> &'static [u8] {
     match said {
         Said::Are(Kind::WonBy(Family::V6)) => {

@@ -1,4 +1,4 @@
-// A summary, written.
+// Writes a summary.
 ghost use Rattle.std.specs.Prelude.{◌≡◌, ◌++◌, filter, IfOk, IsPermutation, List, OnOk, map, string_bytes};
 ghost use Rattle.std.specs.List.{flat_map};
 ghost use Rattle.std.specs.List.Sorted.{IsSortedByKey};
@@ -17,16 +17,16 @@ use crate::tallies::Tally;
 use crate::totals::{Kind, Totals, Value, is_kind, value_of};
 use he_addr::{Ip, Memory};
 use he_print::{Part, push_parts, write_parts, write_string};
-use std::alloc::{AllocError, Allocator};
+use std::alloc::Allocator;
 use std::cmp::Reverse;
 
 impl<A: Allocator + Copy> Races<A> {
-    /// Appends a summary, with the slowest races, so many, each with the name of its file: these are the names by
-    /// place, as they may be shown; a file without one stands as `-`.
+    /// Appends a summary with the `slowest` slowest races, each with the name of its file: `names` has these by
+    /// place, as they may be shown; a file without a name is `-`.
     ///
     /// # Errors
     ///
-    /// `Memory` where an allocation was refused. A first part of the summary may then have been appended.
+    /// `Memory` if an allocation was refused. A first part of the summary may then have been appended.
     pub fn write(
         &self,
         form: Form,
@@ -45,7 +45,7 @@ impl<A: Allocator + Copy> Races<A> {
         self.write_rest(form, slowest, names, text)
     }
 
-    // Appends so many of the slowest races, and the end.
+    // Appends the `slowest` slowest races, and the end.
     fn write_rest(
         &self,
         form: Form,
@@ -110,7 +110,7 @@ fn push_failing<A: Allocator>(
     push_parts(&[Part::Words(end)], text)
 }
 
-// The races that were won after the longest time, so many: the longest first, those of one time as they were read.
+// The `most` slowest races that were won: the longest time first, equal ones in the order in which they were read.
 fn slowest_of<A: Allocator>(alloc: A, kept: &[Kept], most: usize) -> Result<Vec<Kept, A>, Memory>
     ensures { IfOk result (λ slow. AreSlowest most kept.now slow.items) }
 {
@@ -120,7 +120,7 @@ fn slowest_of<A: Allocator>(alloc: A, kept: &[Kept], most: usize) -> Result<Vec<
     Ok(won)
 }
 
-fn won_of<A: Allocator>(alloc: A, kept: &[Kept]) -> Result<Vec<Kept, A>, AllocError>
+fn won_of<A: Allocator>(alloc: A, kept: &[Kept]) -> Result<Vec<Kept, A>, Memory>
     ensures { IfOk result (λ won. won.items ≡ filter (is_kind Won) kept.now) }
 {
     kept.iter()
@@ -165,7 +165,7 @@ fn write_slowest<A: Allocator + Copy>(
     Ok(())
 }
 
-/// The name of this place; `-` where there is none.
+/// The name at this place; `-` if there is none.
 pub fn name_of(place: usize, names: &[String]) -> &str
     ensures { result.now ≡ name_at (map string_bytes names.now) place }
 {
@@ -175,7 +175,7 @@ pub fn name_of(place: usize, names: &[String]) -> &str
     }
 }
 
-/// Appends a name, which is as it may be shown, between words; in JSON it is a string.
+/// Appends a name, which is as it may be shown, between words; in JSON as a string.
 pub fn write_name<A: Allocator>(
     form: Form,
     before: &[u8],
@@ -194,7 +194,7 @@ pub fn write_name<A: Allocator>(
     Ok(())
 }
 
-// Appends what is told of a slow race after the name of its file.
+// Appends the figures of a slow race, after the name of its file.
 fn write_slow<A: Allocator + Copy>(
     alloc: A,
     form: Form,
@@ -243,7 +243,7 @@ fn slow_words(form: Form) -> [&'static [u8]; 4] {
     }
 }
 
-/// Where a race stands, after the name of its file: at which line it begins, and its number.
+/// The place of a race, after the name of its file: its first line, and its number.
 pub fn place_parts<S: Copy>(form: Form, place: Place) -> [Part<S>; 4]
     ensures { flat_map fact_of result ≡ place_facts form place }
 {

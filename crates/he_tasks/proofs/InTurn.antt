@@ -3,7 +3,7 @@ use Rattle.std.proofs.Common.{◌≡◌, ◌≢◌, ◌≤◌, ◌⊎◌, ◌++�
 use Rattle.std.proofs.lemmas.List.{take-append-drop}
 use Rattle.std.specs.Borrow.{Bor}
 use Rattle.he_stream.specs.declared.stream.InputStream as inputs
-use Rattle.he_request.specs.Shown.{shown}
+use Rattle.he_options.specs.Shown.{shown}
 use Rattle.he_tasks.specs.Status.{first_fault}
 use Rattle.he_tasks.specs.Texts.{OfText, RunsFile, RunsFiles}
 

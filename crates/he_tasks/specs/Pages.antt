@@ -1,4 +1,4 @@
--- What is written of a page: the parts that its texts have, and the totals that end it.
+-- A page: the parts of its texts, and the totals that end it.
 use Rattle.std.specs.Prelude.{◌≡◌, ◌⊎◌, ◌-◌, ℕ, Bool, List, [], ◌∷◌, ◌++◌, max, Option, Some, None, option_map, Result, Ok, Err}
 use Rattle.he_timeline.specs.Changes.{ChangeValues}
 use Rattle.he_draw.specs.Page.{totals_facts}
@@ -29,8 +29,8 @@ use Rattle.he_summary.specs.declared.totals.Totals.{Totals}
 use Rattle.he_tasks.specs.Streams.{Gave, GaveSoFar, PutsText, TookRounds, TookRoundsPart}
 use Rattle.he_tasks.specs.declared.reports.TheConstants.{FAULT}
 
--- the input was given, whole or up to where it broke off: a text of each of its races, up to its first fault, was put,
--- and these races were added, as those of this file
+-- the input was given, whole or up to where it broke off: a text of each of its races, up to its first fault, was
+-- put, and these races were added, as those of this file
 pub record PutsAll (file : ℕ) (IsText : TextRelation) (Given : List ℕ → Bool → Type 0) (Put : List ℕ → Type 0)
     (old new : Sums) (fault : Option InputFault) : Type 0 where
   pub input : List ℕ
@@ -41,7 +41,7 @@ pub record PutsAll (file : ℕ) (IsText : TextRelation) (Given : List ℕ → Bo
   pub added : HasAdded file input is_broken old new fault
   pub put : Put text
 
--- of the input these bytes were taken, and no more: so it is of every input that begins with them
+-- these bytes of the input were taken, and no more: this holds of every input that begins with them
 pub record PutsSure (file : ℕ) (IsText : TextRelation) (Taken : List ℕ → Type 0) (Put : List ℕ → Type 0)
     (old new : Sums) (fault : TextFault) : Type 0 where
   pub input : List ℕ
@@ -52,9 +52,9 @@ pub record PutsSure (file : ℕ) (IsText : TextRelation) (Taken : List ℕ → T
       → HasAdded file (input ++ more) is_broken old new (Some (faults.Text fault))
   pub put : Put text
 
--- Given: what the input gave, and whether it broke off after that; Taken: what was taken of an input that was not read
--- further; Put and Part: the text of which all was put in rounds, or a first part until that failed. Where the output
--- failed, or memory was refused, a first part of the texts of some first races was put.
+-- Given: the bytes that the input gave, and whether it broke off after them; Taken: the bytes taken of an input that
+-- was not read further; Put and Part: the text that was put whole in rounds, or a first part until that failed. If
+-- the output failed, or memory was refused, a first part of the texts of some first races was put.
 abbrev pub PutsRaces : ℕ → TextRelation → (List ℕ → Bool → Type 0) → (List ℕ → Type 0) → (List ℕ → Type 0)
     → (List ℕ → Type 0) → Sums → Sums → Result (Unit {0}) StreamFault → Type 0
 PutsRaces file IsText Given Taken Put Part old new (Ok done) = PutsAll file IsText Given Put old new None
@@ -72,11 +72,11 @@ PutsParts input output file IsText first last before after =
     PutsRaces file IsText (Gave input first last) (GaveSoFar input first last) (TookRounds output before after)
     (TookRoundsPart output before after)
 
--- the part of a page that a race of the text of this place has
+-- a race's part of a page, for the text of this place
 abbrev pub IsPart : ℕ → ChangeValues → TextRelation
 IsPart place changes = IsTextWith (contents.Course (printers.Section place)) changes None
 
--- there are sums of the races, unless the output failed or memory was refused: then there are none from here on
+-- there are sums of the races, unless the output failed or memory was refused: then there are none from then on
 abbrev pub KeepsSums : (Sums → Type 0) → Option Sums → Result (Unit {0}) StreamFault → Type 0
 KeepsSums Put None (Err Write) = (new : Sums) × Put new
 KeepsSums Put None (Err Memory) = (new : Sums) × Put new
@@ -85,7 +85,8 @@ KeepsSums Put (Some new) (Err Write) = ⊥
 KeepsSums Put (Some new) (Err Memory) = ⊥
 KeepsSums Put (Some new) result = Put new
 
--- the parts of the races of a text were put, and the races added; or there are no sums any more, and nothing was done
+-- the parts of the races of a text were put, and the races added; or there were no sums any more, and nothing was
+-- done
 abbrev pub PutsSections : {I O : Type 0} → inputs.Ghosts I → outputs.Ghosts O → ChangeValues → I → I → O × Option Sums
     → O × Option Sums → Result (Unit {0}) StreamFault → Type 0
 PutsSections input output changes first last (before, None) after result =
@@ -95,7 +96,7 @@ PutsSections input output changes first last (before, Some old) after result =
     × KeepsSums (λ new. PutsParts input output place (IsPart place changes) first last before after.0 old new result)
     after.1 result
 
--- Mirrors the code: the races that a stream handed out are added, and of their text all but the end is put
+-- Mirrors the code: the races that a stream gave are added, and of their text all but the end is put
 pub record HasPut {I O : Type 0} (input : inputs.Ghosts I) (output : outputs.Ghosts O) (file : ℕ) (IsText : TextRelation)
     (first last : I) (stream : StreamState) (before after : O) (old new : Sums) (left : List ℕ) : Type 0 where
   pub read : HasRead file input first last stream old new
@@ -116,7 +117,7 @@ last_end (race ∷ kept) = max (end_of race.ending) (last_end kept)
 abbrev pub page_times : Option Spread → Option Times
 page_times times = option_map (λ t. record { median = t.median; p90 = t.p90; p99 = t.p99 }) times
 
--- what a page says of these races
+-- the totals of these races on a page
 abbrev pub ArePageTotals : List Kept → PageTotals → Type 0
 ArePageTotals kept told =
     (totals : Totals) × AreTotals kept totals

@@ -1,4 +1,4 @@
--- One summary, or one comparison, of the texts that a line names.
+-- The summary or the comparison of the texts that a line names.
 use Rattle.std.specs.Prelude.{◌≡◌, ◌≢◌, ◌⊎◌, ℕ, Bool, true, false, List, [], ◌∷◌, length, map, Option, Some, None, Result, Err, if◌then◌else◌}
 use Rattle.he_timeline.specs.Changes.{ChangeValues}
 use Rattle.he_stream.specs.declared.stream.InputStream as inputs
@@ -16,18 +16,18 @@ use Rattle.he_summary.specs.declared.figures.Form.TheVariants as forms
 use Rattle.he_summary.specs.declared.kept.Kept.{Kept}
 use Rattle.he_inputs.specs.declared.stream_fault.StreamFault.{StreamFault}
 use Rattle.he_inputs.specs.declared.stream_fault.StreamFault.TheVariants.{Memory}
-use Rattle.he_request.specs.Shown.{shown}
-use Rattle.he_request.specs.declared.texts.By.{By}
-use Rattle.he_request.specs.declared.texts.By.TheVariants as by
-use Rattle.he_request.specs.declared.texts.Task.{Task}
-use Rattle.he_request.specs.declared.texts.Task.TheVariants.{Compare, Group, Summarize, Write}
-use Rattle.he_request.specs.declared.texts.Content.TheVariants.{Section}
-use Rattle.he_request.specs.declared.texts.Texts.{Texts}
+use Rattle.he_options.specs.Shown.{shown}
+use Rattle.he_options.specs.declared.texts.By.{By}
+use Rattle.he_options.specs.declared.texts.By.TheVariants as by
+use Rattle.he_options.specs.declared.texts.Task.{Task}
+use Rattle.he_options.specs.declared.texts.Task.TheVariants.{Compare, Group, Summarize, Write}
+use Rattle.he_options.specs.declared.texts.Content.TheVariants.{Section}
+use Rattle.he_options.specs.declared.texts.Texts.{Texts}
 use Rattle.he_tasks.specs.Pages.{PutsTail}
 use Rattle.he_tasks.specs.Streams.{Gave, GaveSoFar, PutsText}
 use Rattle.he_tasks.specs.declared.reports.TheConstants.{DONE, FAULT}
 
--- whether races are kept, for what ends the output: a comparison, a summary, or the totals of a page
+-- whether races are kept for the end of the output: a comparison, a summary, or the totals of a page
 abbrev pub keeps : Task → Bool
 keeps (Compare json races) = true
 keeps (Summarize json metrics slowest) = true
@@ -47,7 +47,7 @@ abbrev pub rows_of : Texts → List ChangeValues
 rows_of texts = rows_by texts.task texts
 
 -- the races of a text were added, as those of some place, up to its first fault; or there was no memory for them, and
--- there are no sums from here on
+-- there are no sums from then on
 abbrev pub AddsSums : {I : Type 0} → inputs.Ghosts I → I → I → Option Sums → Option Sums
     → Result (Unit {0}) StreamFault → Type 0
 AddsSums input first last (Some old) (Some new) result =
@@ -59,12 +59,12 @@ AddsSums input first last old None result = result ≡ Err Memory
 abbrev pub form_of : Bool → Bool → Form
 form_of json metrics = if metrics then forms.Metrics else if json then forms.Json else forms.Text
 
--- the lines of races, where they are told
+-- the lines of races, if they are asked for
 abbrev pub AreLinesOf : Bool → Form → List Kept → List ℕ → List ℕ → Type 0
 AreLinesOf true form kept old new = AreLines form None kept old new
 AreLinesOf false form kept old new = new ≡ old
 
--- a table of so many rows, below the lines
+-- a table of `rows` rows, after the lines
 abbrev pub IsCompared : Bool → Form → List Kept → ℕ → List ℕ → List ℕ → Type 0
 IsCompared races form kept rows old new =
     (between : List ℕ) × AreLinesOf races form kept old between × IsTable form kept 0 rows between new
@@ -73,7 +73,7 @@ IsCompared races form kept rows old new =
 abbrev pub shown_names : Texts → List (List ℕ)
 shown_names texts = map (λ file. shown file.now) texts.files.items
 
--- by what the races are divided
+-- the criterion that divides the races
 abbrev pub by_of : By → Dividing
 by_of by.File = dividing.File
 by_of by.Hour = dividing.Hour
@@ -88,7 +88,7 @@ IsTold (Compare json races) texts runs old new =
     IsCompared races (form_of json false) (map kept_of runs) (length texts.labels.items) old new
 IsTold _ texts runs old new = Unit {0}
 
--- that, or a first part of it, was put into the output; or there was no memory for it
+-- that text, or a first part of it, was put into the output; or there was no memory for it
 abbrev pub PutsSums : {O : Type 0} → outputs.Ghosts O → Texts → Sums → O → O → ℕ → Type 0
 PutsSums output texts sums before after status =
     ((status ≡ FAULT) × (after ≡ before))
@@ -96,8 +96,8 @@ PutsSums output texts sums before after status =
     × ((runs : List Run) → HasSummed sums runs → IsTold texts.task texts runs [] text)
     × PutsText output text before after status)
 
--- what ends the output of a task: what is told of these sums, where it sums up; nothing, where there are none for want
--- of memory
+-- the end of the output of a task: the report on these sums, if it sums up; nothing, if there are none for want of
+-- memory
 abbrev pub EndsTask : {O : Type 0} → outputs.Ghosts O → Texts → Task → Option Sums → O → O → ℕ → Type 0
 EndsTask output texts (Summarize json metrics slowest) (Some sums) before after status =
     PutsSums output texts sums before after status

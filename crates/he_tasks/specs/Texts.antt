@@ -1,4 +1,4 @@
--- What is done with texts of races, of standard input or of files, and how the status tells how that ended.
+-- Tasks on texts of races, of standard input or of files, and the status that reports how they ended.
 use Rattle.std.specs.Prelude.{◌≡◌, ◌≢◌, ◌⊎◌, ◌++◌, ℕ, Bool, true, false, List, [], ◌∷◌, Option, Some, None, Result, Err, codes, if◌then◌else◌, option_map}
 use Rattle.std.specs.Borrow.{Bor}
 use Rattle.he_check.specs.Stream.{Checks, IsObject, PutsObject}
@@ -13,12 +13,12 @@ use Rattle.he_stream.specs.declared.stream.InputStream as inputs
 use Rattle.he_stream.specs.declared.stream.OutputStream as outputs
 use Rattle.he_inputs.specs.declared.stream_fault.StreamFault.{StreamFault}
 use Rattle.he_summary.specs.Summed.{Sums}
-use Rattle.he_request.specs.Shown.{shown}
-use Rattle.he_request.specs.declared.texts.Content.TheVariants as asked
-use Rattle.he_request.specs.declared.texts.Content.{Content as Asked}
-use Rattle.he_request.specs.declared.texts.Task.{Task}
-use Rattle.he_request.specs.declared.texts.Task.TheVariants.{Write, Compare, Check, Group, Summarize}
-use Rattle.he_request.specs.declared.texts.Texts.{Texts}
+use Rattle.he_options.specs.Shown.{shown}
+use Rattle.he_options.specs.declared.texts.Content.TheVariants as asked
+use Rattle.he_options.specs.declared.texts.Content.{Content as Asked}
+use Rattle.he_options.specs.declared.texts.Task.{Task}
+use Rattle.he_options.specs.declared.texts.Task.TheVariants.{Write, Compare, Check, Group, Summarize}
+use Rattle.he_options.specs.declared.texts.Texts.{Texts}
 use Rattle.he_tasks.specs.Pages.{PutsSections}
 use Rattle.he_tasks.specs.Status.{first_fault, status_of}
 use Rattle.he_tasks.specs.Streams.{Gave, GaveSoFar, TookAll, TookPart, TookRounds, TookRoundsPart, TookToTheEnd}
@@ -26,7 +26,7 @@ use Rattle.he_tasks.specs.Summaries.{AddsSums}
 use Rattle.he_tasks.specs.declared.name.Name.{Name}
 use Rattle.he_tasks.specs.declared.reports.TheConstants.{DONE, FAULT}
 
--- what he_streaming writes of a race where this is asked for, of the text of this place
+-- the content that he_streaming writes for this request, for the text of this place
 abbrev pub content_of : ℕ → Asked → Content
 content_of place (asked.Transcript json) = if json then contents.TranscriptJson else contents.Transcript
 content_of place (asked.Order json) = if json then contents.OrderJson else contents.Order
@@ -41,7 +41,7 @@ abbrev pub is_section : Asked → Bool
 is_section asked.Section = true
 is_section _ = false
 
--- the name of a text, as the system takes it and as it is shown
+-- the name of a text, for the system and for a terminal
 pub record Naming : Type 0 where
   pub path : List ℕ
   pub shown : List ℕ
@@ -52,7 +52,7 @@ naming name = option_map (λ n. record { path = n.path.now; shown = n.shown.now 
 abbrev pub file_of : Option Naming → Option (List ℕ)
 file_of name = option_map (λ n. n.path) name
 
--- a text was checked, and what it has was written, or as JSON what was found
+-- a text was checked, and the numbers of its races and lines were written, or the findings as JSON
 abbrev pub ChecksText : Bool → {I O : Type 0} → inputs.Ghosts I → outputs.Ghosts O → Bool → Option (List ℕ) → I → I → O
     → O → Result (Unit {0}) StreamFault → Type 0
 ChecksText false input output is_all file first last before after =
@@ -62,9 +62,9 @@ ChecksText true input output is_all file first last before after =
     PutsObject (TookAll output before after) (TookPart output before after) (after ≡ before)
     (IsObject is_all file (Gave input first last) (GaveSoFar input first last))
 
--- What comes of a text from a file of this name, if it has one, each of whose races has these changes of its settings,
--- where its input went from the first to the last state, and the output and the sums from before to after. Which
--- faults a check that is not written as JSON tells is no part of it.
+-- The result of a task on a text from a file of this name, if it has one, each of whose races has these changes of
+-- its settings: its input went from the first to the last state, and the output and the sums from before to after.
+-- The faults that a check reports other than as JSON are no part of it.
 abbrev pub RunsTask : {I O : Type 0} → inputs.Ghosts I → outputs.Ghosts O → Task → ChangeValues → Option (List ℕ) → I
     → I → O × Option Sums → O × Option Sums → Result (Unit {0}) StreamFault → Type 0
 RunsTask input output (Write content workers) changes file first last before after =
@@ -81,24 +81,24 @@ RunsTask input output (Summarize json metrics slowest) changes file first last b
 RunsTask input output (Group json by) changes file first last before after =
     λ result. (after.0 ≡ before.0) × AddsSums input first last before.1 after.1 result
 
--- a line as head(1) and tail(1) write it above each of several files
+-- a heading as head(1) and tail(1) write it for each of several files
 abbrev pub name_line : List ℕ → List ℕ
 name_line name = codes "==> " ++ name ++ codes " <==\n"
 
--- the name of a text stands above what is written of its races, where that has their places in the text, as
--- `race 1, line 1`, and does not stand for itself alone
+-- the name of a text heads the output for its races, if the output has their places in the text, as `race 1, line 1`,
+-- and is no document of its own
 abbrev pub heading_of : List ℕ → Task → Option (List ℕ)
 heading_of name (Write asked.Story workers) = Some name
 heading_of name (Write (asked.Picture ascii width) workers) = Some name
 heading_of name (Write asked.Section workers) = Some name
 heading_of name _ = None
 
--- how it stands there
+-- the form of the heading
 abbrev pub IsHeading : Task → List ℕ → List ℕ → Type 0
 IsHeading (Write asked.Section workers) name text = text ≡ name_text name
 IsHeading task name text = text ≡ name_line name
 
--- whether there are several, so that they have headings
+-- whether there are several texts, which then have headings
 abbrev pub has_headings : {N : Type 0} → List N → Bool
 has_headings [] = false
 has_headings (one ∷ []) = false
@@ -109,19 +109,19 @@ abbrev pub heading : Task → Bool → Option Naming → Option (List ℕ)
 heading task true (Some name) = heading_of name.shown task
 heading task headed name = None
 
--- the heading, where there is one, was put
+-- the heading, if there is one, was put
 abbrev pub HasHeading : {O : Type 0} → outputs.Ghosts O → Task → Option (List ℕ) → O → O → Type 0
 HasHeading output task None before after = after ≡ before
 HasHeading output task (Some name) before after =
     (text : List ℕ) × IsHeading task name text × TookAll output before after text
 
--- a first part of it was put until that failed, or nothing for want of memory
+-- a first part of the heading was put until that failed, or nothing for want of memory
 abbrev pub LacksHeading : {O : Type 0} → outputs.Ghosts O → Task → Option (List ℕ) → O → O → Type 0
 LacksHeading output task None before after = ⊥
 LacksHeading output task (Some name) before after =
     ((text : List ℕ) × IsHeading task name text × TookPart output before after text) ⊎ (after ≡ before)
 
--- the task was done below the heading; or there was a fault in that, and nothing was read
+-- the task was done after the heading; or the heading had a fault, and nothing was read
 abbrev pub RunsHeaded : {I O : Type 0} → inputs.Ghosts I → outputs.Ghosts O → Task → ChangeValues → Bool
     → Option Naming → I → I → O × Option Sums → O × Option Sums → Result (Unit {0}) StreamFault → Type 0
 RunsHeaded {I} {O} input output task changes headed name first last before after result =
@@ -130,12 +130,12 @@ RunsHeaded {I} {O} input output task changes headed name first last before after
     ⊎ ((fault : StreamFault) × (result ≡ Err fault) × (last ≡ first)
     × LacksHeading output task (heading task headed name) before.0 after.0)
 
--- what comes of a text of this name, if it has one, by the states of its input and of what it is worked into, and by
--- the status
+-- the result for a text of this name, if it has one, by the states of its input and of the state that it changes, and
+-- by the status
 abbrev pub OfText : Type 0 → Type 1
 OfText S = Option Naming → (I : Type 0) → inputs.Ghosts I → I → I → S → S → ℕ → Type 0
 
--- one of these texts: the task was done below its heading, and the status tells how that ended
+-- one of these texts: the task was done after its heading, and the status reports how that ended
 abbrev pub RunsOne : {O : Type 0} → outputs.Ghosts O → Texts → OfText (O × Option Sums)
 RunsOne output texts name I input first last before after status =
     (result : Result (Unit {0}) StreamFault)
@@ -143,7 +143,7 @@ RunsOne output texts name I input first last before after status =
     result
     × (status ≡ status_of result)
 
--- what comes of a name: `-` is the input; another is a file, which gave a text, or which can't be opened
+-- the result for a name: `-` is the input; another is a file, which gave a text, or which can't be opened
 abbrev pub RunsFile : {I F S : Type 0} → OfText S → inputs.Ghosts I → inputs.Ghosts F → Bor (List ℕ) → I → I → S → S
     → ℕ → Type 0
 RunsFile {I} {F} Runs input file name first last before after status =
@@ -153,8 +153,8 @@ RunsFile {I} {F} Runs input file name first last before after status =
     × Runs (Some (record { path = name.now; shown = shown name.now })) F file opened closed before after status)
     ⊎ ((after ≡ before) × (status ≡ FAULT))))
 
--- What comes of files, one after the other: those after one that has a fault are left out, or not. The status is that
--- of the first fault.
+-- The result for files, one after the other: those after one that has a fault are left out, or not. The status is
+-- that of the first fault.
 abbrev pub RunsFiles : {N I S : Type 0} → Bool → (N → I → I → S → S → ℕ → Type 0) → List N → I → I → S → S → ℕ
     → Type 0
 RunsFiles goes_on Runs [] first last before after status = (last ≡ first) × (after ≡ before) × (status ≡ DONE)
@@ -164,7 +164,7 @@ RunsFiles {N} {I} {S} goes_on Runs (name ∷ more) first last before after statu
     × Runs name first next before between one × RunsFiles goes_on Runs more next last between after rest
     × (status ≡ first_fault one rest))
 
--- what comes of the texts that a line names; of that of the input where it names no file
+-- the result for the texts that a line names; for the input's if it names no file
 abbrev pub RunsAll : {I F S : Type 0} → Bool → OfText S → inputs.Ghosts I → inputs.Ghosts F → List (Bor (List ℕ)) → I
     → I → S → S → ℕ → Type 0
 RunsAll {I} goes_on Runs input file [] = Runs None I input

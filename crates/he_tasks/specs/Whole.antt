@@ -1,9 +1,9 @@
--- What is written of all the texts that a line names, to the output or to a file.
+-- The output for all the texts that a line names, to the output or to a file.
 use Rattle.std.specs.Prelude.{◌≡◌, ◌⊎◌, ℕ, Bool, true, false, [], List, Option, Some, MatchOption}
-use Rattle.he_request.specs.declared.texts.Content.TheVariants.{Section}
-use Rattle.he_request.specs.declared.texts.Task.{Task}
-use Rattle.he_request.specs.declared.texts.Task.TheVariants.{Write}
-use Rattle.he_request.specs.declared.texts.Texts.{Texts}
+use Rattle.he_options.specs.declared.texts.Content.TheVariants.{Section}
+use Rattle.he_options.specs.declared.texts.Task.{Task}
+use Rattle.he_options.specs.declared.texts.Task.TheVariants.{Write}
+use Rattle.he_options.specs.declared.texts.Texts.{Texts}
 use Rattle.he_stream.specs.declared.stream.InputStream as inputs
 use Rattle.he_stream.specs.declared.stream.OutputStream as outputs
 use Rattle.he_summary.specs.Summed.{HasSummed, Sums}
@@ -23,15 +23,15 @@ abbrev pub HasHead : {O : Type 0} → outputs.Ghosts O → Bool → O → O → 
 HasHead output false before after = after ≡ before
 HasHead output true before after = (head : List ℕ) × TookAll output before after head
 
--- a first part of it was put until that failed; or there was no memory for it, or for the races that are kept, and
--- nothing was put
+-- a first part of the head was put until that failed; or there was no memory for it, or for the races that are kept,
+-- and nothing was put
 abbrev pub LacksStart : {O : Type 0} → outputs.Ghosts O → Task → O → O → Type 0
 LacksStart output task before after =
     ((is_page task ≡ true) × (head : List ℕ) × TookPart output before after head)
     ⊎ ((keeps task ≡ true) × (after ≡ before))
 
--- The head was put, then what comes of the texts, one after the other, with the sums of no race to begin with, then
--- what ends it; or there was a fault before that, and nothing was read.
+-- The head was put, then the output for the texts, one after the other, with the sums of no race at first, then the
+-- end; or there was a fault before that, and nothing was read.
 abbrev pub WritesTexts : {I F O : Type 0} → inputs.Ghosts I → inputs.Ghosts F → outputs.Ghosts O → Texts → I → I → O
     → O → ℕ → Type 0
 WritesTexts {I} {F} {O} input file output texts first last before after status =
@@ -43,7 +43,7 @@ WritesTexts {I} {F} {O} input file output texts first last before after status =
     × EndsTexts output texts sums told after end × (status ≡ first_fault own end))
     ⊎ ((status ≡ FAULT) × (last ≡ first) × LacksStart output texts.task before after)
 
--- that was done in a file that was made for it
+-- the texts were written so into a new file
 abbrev pub FillsFile : {I F P : Type 0} → inputs.Ghosts I → inputs.Ghosts F → outputs.Ghosts P → Texts → I → I → ℕ
     → Type 0
 FillsFile {I} {F} {P} input file page texts first last status =
@@ -57,7 +57,7 @@ WritesFile input file page texts first last status =
     × ((status ≡ one) ⊎ ((one ≡ DONE) × (status ≡ FAULT))))
     ⊎ ((status ≡ FAULT) × (last ≡ first))
 
--- what comes of the texts that a line names, in the output or in the file that it names for it
+-- the result for the texts that a line names, in the output or in the file that it names
 abbrev pub DoesTexts : {I F P O : Type 0} → inputs.Ghosts I → inputs.Ghosts F → outputs.Ghosts P → outputs.Ghosts O
     → Texts → I → I → O → O → ℕ → Type 0
 DoesTexts input file page output texts first last before after status =

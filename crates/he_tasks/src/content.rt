@@ -1,13 +1,13 @@
-//! What is written of a race, as `he_streaming` has it.
+//! The text of a race, in the terms of `he_streaming`.
 ghost use Rattle.std.specs.Prelude.{◌≡◌, if◌then◌else◌};
 ghost use Rattle.he_draw.specs.declared.look.Look.TheVariants.{Ascii, Unicode};
 ghost use Rattle.he_tasks.specs.Texts.{content_of};
 
 use he_draw::Look;
-use he_request::texts::Content as Asked;
+use he_options::texts::Content as Asked;
 use he_streaming::{Content, Printer};
 
-// What `he_streaming` writes where this is asked for, of the text of this place.
+// The content that `he_streaming` writes for this request, for the text of this place.
 pub(crate) fn content_of(place: usize, asked: Asked) -> Content
     ensures { result ≡ content_of place asked }
 {

@@ -1,6 +1,6 @@
 //! The texts that a line names, one after the other.
 ghost use Rattle.std.specs.Prelude.{◌≡◌};
-ghost use Rattle.he_request.specs.Requests.{HasTaskWorkers};
+ghost use Rattle.he_options.specs.Texts.{HasTaskWorkers};
 ghost use Rattle.he_tasks.specs.Texts.{RunsAll, RunsFile, RunsFiles, RunsOne};
 
 use crate::name::Name;
@@ -9,8 +9,8 @@ use crate::session::Session;
 use crate::system::TaskSystem;
 use crate::text::{Text, run_text};
 use he_inputs::StreamFault;
-use he_request::shown::shown;
-use he_request::{STANDARD, Task, Texts};
+use he_options::shown::shown;
+use he_options::{STANDARD, Task, Texts};
 use he_stream::{FromReader, InputStream, OutputStream};
 use he_summary::Races;
 use std::alloc::Global;
@@ -18,8 +18,8 @@ use std::fs;
 use std::io::Write;
 use std::mem::drop;
 
-// Does what is asked for with the texts that the line names, or with that of the input where it names none: with all
-// of them, or up to the first that has a fault.
+// Runs the task on the texts that the line names, or on the input's if it names none: on all of them, or up to the
+// first that has a fault.
 pub(crate) fn run_all<R: TaskSystem, I: InputStream, O: OutputStream, F: Write>(
     session: &mut Session<'_, '_, R, O, F>,
     texts: &Texts<'_>,
@@ -40,7 +40,7 @@ pub(crate) fn run_all<R: TaskSystem, I: InputStream, O: OutputStream, F: Write>(
     status
 }
 
-// Does it with the texts of these names. They are halved, so that no number of names is a deep recursion.
+// Runs the task on the texts of these names. Halves them, so that the recursion stays shallow.
 fn run_files<R: TaskSystem, I: InputStream, O: OutputStream, F: Write>(
     session: &mut Session<'_, '_, R, O, F>,
     texts: &Texts<'_>,
@@ -71,7 +71,7 @@ fn run_files<R: TaskSystem, I: InputStream, O: OutputStream, F: Write>(
     first_fault(first, run_files(session, texts, back, input, sums))
 }
 
-// Says how many files are not in a summary or a comparison, or only in part.
+// Reports the number of files that are missing from a summary or a comparison, in whole or in part.
 fn tell_unread<F: Write>(task: Task, unread: usize, faults: &mut F) {
     let _ = match (task, unread) {
         (Task::Compare { .. } | Task::Summarize { .. } | Task::Group { .. }, 1) => writeln!(
@@ -86,7 +86,7 @@ fn tell_unread<F: Write>(task: Task, unread: usize, faults: &mut F) {
     };
 }
 
-// Does it with the text of a name.
+// Runs the task on the text of a name.
 fn run_name<R: TaskSystem, I: InputStream, O: OutputStream, F: Write>(
     session: &mut Session<'_, '_, R, O, F>,
     texts: &Texts<'_>,

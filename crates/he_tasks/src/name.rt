@@ -1,10 +1,10 @@
-//! The names of files, as the system takes them and as a terminal may show them.
+//! The names of files, for the system and for a terminal.
 
 use crate::system::TaskSystem;
-use he_request::STANDARD;
+use he_options::STANDARD;
 use std::fs;
 
-/// The name of a file, and how it is shown.
+/// The name of a file, and its form for a terminal.
 #[derive(Clone, Copy)]
 pub struct Name<'n> {
     pub(crate) path: &'n str,

@@ -1,4 +1,4 @@
-//! A page: its head, what its texts have of it, and the totals that end it.
+//! A page: its head, the parts of its texts, and the totals that end it.
 ghost use Rattle.std.specs.Prelude.{ℕ, ◌≡◌, ◌⊎◌, IfOk, List, OnErr, OnOk};
 ghost use Rattle.he_streaming.specs.Rounds.{IsAsked};
 ghost use Rattle.he_tasks.specs.Pages.{ArePageTotals, IsTail, PutsParts, PutsSections, PutsTail, end_of, last_end, page_times};
@@ -18,13 +18,13 @@ use std::alloc::Global;
 use std::io::Write;
 use std::mem::drop;
 
-// The bytes that the arena has at first in which a race is kept while it is added and written.
+// The initial size of the arena, which holds a race while it is added and written.
 const ARENA_BYTES: usize = 65_536;
 
-// The bytes of the parts of races that are put at a time, or more.
+// The least size of the parts of races that are put at a time, in bytes.
 const PARTS_BYTES: usize = 65_536;
 
-// Puts what begins a page.
+// Puts the head of a page.
 pub(crate) fn put_head<O: OutputStream>(alloc: Global, output: &mut O) -> Result<(), StreamFault>
     ensures ok { OnOk result ((head : List ℕ) × TookAll O.OutputStream output.old output.new head) }
     ensures err { OnErr result (((head : List ℕ) × TookPart O.OutputStream output.old output.new head)
@@ -35,8 +35,8 @@ pub(crate) fn put_head<O: OutputStream>(alloc: Global, output: &mut O) -> Result
     put_text(&head, output)
 }
 
-// Puts the parts of a page that the races of a text have, and adds these races to those whose totals end the page.
-// After a fault of the output, and where there was no memory for a race, there are no sums, and so no totals.
+// Puts the parts of a page for the races of a text, and adds these races to those whose totals end the page. After a
+// fault of the output, or without memory for a race, there are no sums, and so no totals.
 pub(crate) fn put_sections<R, I: InputStream, O: OutputStream, F>(
     session: &mut Session<'_, '_, R, O, F>,
     changes: Changes,
@@ -68,7 +68,7 @@ pub(crate) fn put_sections<R, I: InputStream, O: OutputStream, F>(
     end
 }
 
-// Puts what is asked for of each race of a text, some races at a time, and adds the race, before the next one is read.
+// Puts the text that is asked for of each race, some races at a time, and adds the race, before the next one is read.
 fn put_parts<R, I: InputStream, O: OutputStream, F>(
     session: &mut Session<'_, '_, R, O, F>,
     file: usize,
@@ -100,12 +100,12 @@ fn put_parts<R, I: InputStream, O: OutputStream, F>(
             put_text(&text, &mut session.output)?;
             text.clear();
         }
-        // An arena that can't be reset is no fault: it grows.
+        // If the arena can't be reset, it grows; that is no fault.
         let _ = arena.reset();
     }
 }
 
-// Ends a page by the totals of its races, and answers the exit status.
+// Ends a page with the totals of its races, and returns the exit status.
 pub(crate) fn put_tail<R, O: OutputStream, F: Write>(
     session: &mut Session<'_, '_, R, O, F>,
     explains: bool,

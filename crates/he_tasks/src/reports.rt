@@ -1,18 +1,18 @@
-//! Exit statuses, and what is said of faults.
+//! Exit statuses, and reports of faults.
 ghost use Rattle.std.specs.Prelude.{◌≡◌};
 ghost use Rattle.he_tasks.specs.Status.{first_fault};
 
 use crate::name::Name;
 use crate::system::TaskSystem;
 use he_check::explain_fault;
-use he_request::shown::shown;
+use he_options::shown::shown;
 use he_words::TextFault;
 use std::alloc::Global;
 use std::fmt::Display;
 use std::fs;
 use std::io::{Error, Write};
 
-/// The exit status when all was done.
+/// The exit status of success.
 pub const DONE: u8 = 0;
 
 /// The exit status after a fault.
@@ -21,17 +21,17 @@ pub const FAULT: u8 = 1;
 /// The exit status of a command line that was refused.
 pub const USAGE: u8 = 2;
 
-/// The exit status where a connection had to be made and none was.
+/// The exit status if a connection had to be made and none was.
 pub const NO_CONNECTION: u8 = 3;
 
-// The status of what comes first, or of what comes then where all was done.
+// The first status, or the second one if the first is success.
 pub(crate) fn first_fault(first: u8, then: u8) -> u8
     ensures { result ≡ first_fault first then }
 {
     if first == DONE { then } else { first }
 }
 
-/// Writes the line of a fault, and answers the exit status.
+/// Writes the line of a fault, and returns the exit status.
 pub fn report<E: Display + Drop, F: Write>(fault: E, faults: &mut F) -> u8
     ensures { result ≡ FAULT }
 {
@@ -39,7 +39,7 @@ pub fn report<E: Display + Drop, F: Write>(fault: E, faults: &mut F) -> u8
     FAULT
 }
 
-// The same, with the name of the file that has the fault.
+// Writes the line of a fault, with the name of the file that has it, and returns the exit status.
 pub(crate) fn report_in<E: Display + Drop, F: Write>(
     name: Option<Name<'_>>,
     fault: E,
@@ -56,7 +56,7 @@ pub(crate) fn report_in<E: Display + Drop, F: Write>(
     }
 }
 
-/// The same, with the path of a file that was not opened yet.
+/// Writes the line of a fault, with the path of a file that was not opened yet, and returns the exit status.
 pub fn report_path<E: Display + Drop, F: Write>(
     alloc: Global,
     path: &str,
@@ -74,7 +74,7 @@ pub fn report_path<E: Display + Drop, F: Write>(
     }
 }
 
-/// Writes the line of a fault that is about this word, and answers the exit status.
+/// Writes the line of a fault with the word that it is about, and returns the exit status.
 pub fn report_of<E: Display + Drop, F: Write>(
     alloc: Global,
     fault: E,
@@ -92,14 +92,14 @@ pub fn report_of<E: Display + Drop, F: Write>(
     }
 }
 
-// Says why a stream failed, where it tells.
+// Writes why a stream failed, if the reason is known.
 pub(crate) fn tell_reason<F: Write>(failure: Option<Error>, faults: &mut F) {
     if let Some(error) = failure {
         let _ = writeln!(faults, "  {error}");
     }
 }
 
-// Writes lines that are told of a file, those that begin as a fault does with its name too.
+// Writes lines about a file. Those that begin as a fault does get its name too.
 pub(crate) fn tell_lines<F: Write>(name: Option<Name<'_>>, lines: &[u8], faults: &mut F) {
     let Some(name) = name else {
         let _ = faults.write_all(lines);
@@ -117,8 +117,8 @@ pub(crate) fn tell_lines<F: Write>(name: Option<Name<'_>>, lines: &[u8], faults:
     }
 }
 
-// Explains a fault of the text of a regular file, which is read again. Of anything else nothing is said: a pipe gives
-// its bytes once.
+// Explains a fault of the text of a regular file, which is read again. Explains no other: a pipe gives its bytes
+// once.
 pub(crate) fn explain_in<R: TaskSystem, F: Write>(
     rt: &R,
     alloc: Global,

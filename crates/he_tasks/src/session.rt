@@ -1,4 +1,4 @@
-//! What a run of the program is handed.
+//! The resources of a run of the program.
 ghost use Rattle.std.specs.Prelude.{◌≡◌, IfErr, OnErr, OnOk};
 ghost use Rattle.he_inputs.specs.declared.stream_fault.StreamFault.TheVariants as faults;
 ghost use Rattle.he_tasks.specs.Streams.{PutsText, TookAll, TookPart};
@@ -10,23 +10,23 @@ use he_stream::{OutputStream, write_whole};
 use std::alloc::Global;
 use std::io::{ErrorKind, Write};
 
-/// What a run of the program is handed, beside its input.
+/// The resources of a run of the program, beside its input.
 #[derive(Drop)]
 pub struct Session<'r, 'n, R, O, F> {
     /// The system: files, the network, threads, a clock.
     pub system: &'r R,
     pub alloc: Global,
-    /// What is asked for goes here.
+    /// The results go here.
     pub output: O,
-    /// What is wrong goes here. What can't be written to it leaves the exit status as it is.
+    /// The faults go here. A failed write to it leaves the exit status unchanged.
     pub faults: F,
     /// The file that the output is; None for standard output.
     pub file: Option<Name<'n>>,
-    /// The races of one input after the other, in the same memory.
+    /// Reads the races of one input after the other, in one memory.
     pub stream: RaceStream<Global>,
-    /// The place of the file that is read next, among all.
+    /// The place of the file that is read next, counted from 0.
     pub place: usize,
-    /// How many files were not read to their end.
+    /// The number of files that were not read to their end.
     pub unread: usize,
 }
 
@@ -39,7 +39,7 @@ pub(crate) fn put_text<O: OutputStream>(text: &[u8], output: &mut O) -> Result<(
     write_whole(output, text).map_err(|_| StreamFault::Write)
 }
 
-/// Puts a text into the output, and answers the exit status. Why that failed is said where it explains.
+/// Puts a text into the output, and returns the exit status. Reports why that failed if `explains` is set.
 pub fn put_all<R, O: OutputStream, F: Write>(
     session: &mut Session<'_, '_, R, O, F>,
     text: &[u8],
@@ -53,8 +53,8 @@ pub fn put_all<R, O: OutputStream, F: Write>(
     }
 }
 
-/// Says that the output can't be written, and why where it explains or a file is named, and answers the exit status.
-/// Nothing is said where the reader of a pipe has gone.
+/// Reports that the output can't be written, and why if `explains` is set or a file is named, and returns the exit
+/// status. Reports nothing if the reader of a pipe has gone.
 pub fn report_unwritten<R, O: OutputStream, F: Write>(
     session: &mut Session<'_, '_, R, O, F>,
     explains: bool,

@@ -1,4 +1,4 @@
-//! One summary, or one comparison, of the races of all texts.
+//! The summary or the comparison of the races of all texts.
 ghost use Rattle.std.specs.Prelude.{◌≡◌, IfOk, List, map, OnOk, string_bytes};
 ghost use Rattle.he_summary.specs.Kept.{Run};
 ghost use Rattle.he_summary.specs.Summed.{HasSummed};
@@ -10,14 +10,14 @@ use crate::session::{Session, put_all};
 use he_addr::Memory;
 use he_compare::{Grouping, write_groups, write_lines, write_table};
 use he_inputs::StreamFault;
-use he_request::shown::shown;
-use he_request::{By, Content, Task, Texts};
+use he_options::shown::shown;
+use he_options::{By, Content, Task, Texts};
 use he_stream::OutputStream;
 use he_summary::{Form, Kept, Races};
-use std::alloc::{AllocError, Global};
+use std::alloc::Global;
 use std::io::Write;
 
-// Ends what is written of the texts: by their summary or comparison, where that is asked for.
+// Ends the output of the texts: with their summary or comparison, if that is asked for.
 pub(crate) fn end_texts<R, O: OutputStream, F: Write>(
     session: &mut Session<'_, '_, R, O, F>,
     texts: &Texts<'_>,
@@ -49,7 +49,7 @@ pub(crate) fn end_texts<R, O: OutputStream, F: Write>(
     }
 }
 
-// Writes what is told of all races, and answers the exit status.
+// Writes the report on all races, and returns the exit status.
 fn put_sums<R, O: OutputStream, F: Write>(
     session: &mut Session<'_, '_, R, O, F>,
     texts: &Texts<'_>,
@@ -64,7 +64,7 @@ fn put_sums<R, O: OutputStream, F: Write>(
     }
 }
 
-// Appends what is told of all races. The names of the files stand in it as they may be shown.
+// Appends the report on all races. It has the names of the files as they may be shown.
 fn tell(
     alloc: Global,
     texts: &Texts<'_>,
@@ -104,7 +104,7 @@ fn tell(
     }
 }
 
-// Appends a line for each of the races and rows, where they are told.
+// Appends a line for each of the races and rows, if the report has them.
 fn append_lines(
     tells_races: bool,
     form: Form,
@@ -144,7 +144,7 @@ fn by_of(by: By) -> he_compare::By
 }
 
 // The names of the files, as they may be shown.
-fn shown_names(alloc: Global, texts: &Texts<'_>) -> Result<Vec<String>, AllocError>
+fn shown_names(alloc: Global, texts: &Texts<'_>) -> Result<Vec<String>, Memory>
     ensures { IfOk result (λ names. map string_bytes names.items ≡ shown_names texts.now) }
 {
     let mut names = Vec::new(alloc);

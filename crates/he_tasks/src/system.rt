@@ -1,4 +1,4 @@
-//! What a task is lent.
+//! The system that a task uses.
 
 use std::alloc::AllocGlobal;
 use std::random::RandomSource;

@@ -1,10 +1,10 @@
-//! What is written of one text of races, or reported of it.
+//! The output for one text of races, and the reports on it.
 ghost use Rattle.std.specs.Prelude.{◌≡◌, IfOk, OnErr, OnOk, true};
 ghost use Rattle.he_draw.specs.Page.{name_text};
 ghost use Rattle.he_json.specs.Documents.{name_of};
 ghost use Rattle.he_tasks.specs.Status.{status_of};
 ghost use Rattle.he_tasks.specs.Summaries.{AddsSums};
-ghost use Rattle.he_request.specs.Requests.{HasTaskWorkers};
+ghost use Rattle.he_options.specs.Texts.{HasTaskWorkers};
 ghost use Rattle.he_tasks.specs.Texts.{HasHeading, LacksHeading, RunsHeaded, RunsOne, RunsTask, is_section};
 ghost use Rattle.he_tasks.specs.Texts.{file_of, has_headings, heading, name_line, naming};
 
@@ -18,11 +18,11 @@ use he_addr::Memory;
 use he_check::{check, check_json};
 use he_draw::write_name;
 use he_inputs::{RaceStream, StreamFault};
-use he_request::{Content, Task, Texts};
+use he_options::{Content, Task, Texts};
 use he_stream::{InputStream, OutputStream};
 use he_streaming::{TextRequest, replay};
 use he_summary::Races;
-use std::alloc::{AllocError, Global};
+use std::alloc::Global;
 use std::io::Write;
 use std::mem::drop;
 
@@ -33,7 +33,7 @@ pub(crate) struct Text<'t> {
     pub(crate) name: Option<Name<'t>>,
 }
 
-// Does what is asked for with one text, and tells how that ended.
+// Runs the task on one text, and reports how that ended.
 pub(crate) fn run_text<R: TaskSystem, I: InputStream, O: OutputStream, F: Write>(
     session: &mut Session<'_, '_, R, O, F>,
     text: Text<'_>,
@@ -51,7 +51,7 @@ pub(crate) fn run_text<R: TaskSystem, I: InputStream, O: OutputStream, F: Write>
     status
 }
 
-// Does it with one text, below its heading where it has one. What a check tells of it stands in `told` then.
+// Runs the task on one text, after its heading if it has one. Leaves the report of a check in `told`.
 fn run_headed<R: TaskSystem, I: InputStream, O: OutputStream, F>(
     session: &mut Session<'_, '_, R, O, F>,
     text: Text<'_>,
@@ -70,14 +70,14 @@ fn run_headed<R: TaskSystem, I: InputStream, O: OutputStream, F>(
     run_task(session, text, input, sums, told)
 }
 
-// Whether there are several texts, so that they have headings.
+// Whether there are several texts, which then have headings.
 fn has_headings(texts: &Texts<'_>) -> bool
     ensures { result ≡ has_headings texts.now.files.items }
 {
     texts.files.len() > 1
 }
 
-// Puts the heading of a text, where what is written of it has one.
+// Puts the heading of a text, if the task has headings.
 fn put_heading<O: OutputStream>(
     alloc: Global,
     text: Text<'_>,
@@ -104,8 +104,8 @@ fn put_heading<O: OutputStream>(
     }
 }
 
-// The name as head(1) and tail(1) write it above each of several files.
-fn name_line(alloc: Global, name: &str) -> Result<Vec<u8>, AllocError>
+// The heading as head(1) and tail(1) write it for each of several files.
+fn name_line(alloc: Global, name: &str) -> Result<Vec<u8>, Memory>
     ensures { IfOk result (λ line. line.items ≡ name_line name.now) }
 {
     let mut line = Vec::new(alloc);
@@ -123,7 +123,7 @@ fn name_in_page(alloc: Global, name: &str) -> Result<Vec<u8>, Memory>
     Ok(line)
 }
 
-// Does it with one text. What a check tells of it stands in `told` then.
+// Runs the task on one text. Leaves the report of a check in `told`.
 fn run_task<R: TaskSystem, I: InputStream, O: OutputStream, F>(
     session: &mut Session<'_, '_, R, O, F>,
     text: Text<'_>,
@@ -173,7 +173,7 @@ fn is_section(content: Content) -> bool
     matches!(content, Content::Section)
 }
 
-// The name of the file, as JSON has it.
+// The name of the file, for JSON.
 fn file_of<'n>(name: Option<Name<'n>>) -> Option<&'n str>
     ensures { name_of result ≡ file_of (naming name.entry) }
 {
@@ -183,8 +183,7 @@ fn file_of<'n>(name: Option<Name<'n>>) -> Option<&'n str>
     }
 }
 
-// Adds the races of a text, whose place is this, to the sums. There are no sums after one for which there was no
-// memory.
+// Adds the races of a text at this place to the sums. If there is no memory for a race, the sums are dropped.
 fn add_text<I: InputStream>(
     place: usize,
     stream: &mut RaceStream<Global>,
@@ -204,7 +203,7 @@ fn add_text<I: InputStream>(
     end
 }
 
-// Says how it ended and what is told, and answers the exit status.
+// Reports the end and the findings of a text, and returns the exit status.
 fn tell_end<R: TaskSystem, I: InputStream, O: OutputStream, F: Write>(
     session: &mut Session<'_, '_, R, O, F>,
     text: Text<'_>,
@@ -218,9 +217,9 @@ fn tell_end<R: TaskSystem, I: InputStream, O: OutputStream, F: Write>(
     let texts = text.texts;
     let status = match end {
         Ok(()) => DONE,
-        // It stands in the object.
+        // The object has this fault.
         Err(StreamFault::Text(_)) if has_object(texts.task) => FAULT,
-        // It stands among those that are told.
+        // The lines of the check have this fault.
         Err(StreamFault::Text(_) | StreamFault::Read) if tells_each(texts.task) => FAULT,
         Err(StreamFault::Write) => report_unwritten(session, texts.explains),
         Err(fault) => report_in(text.name, fault, &mut session.faults),
@@ -238,12 +237,12 @@ fn tell_end<R: TaskSystem, I: InputStream, O: OutputStream, F: Write>(
     status
 }
 
-// Whether what is found in a text is written as an object.
+// Whether the findings of a text are written as an object.
 fn has_object(task: Task) -> bool {
     matches!(task, Task::Check { is_json: true, .. })
 }
 
-// Whether lines tell each fault of a text.
+// Whether lines report each fault of a text.
 fn tells_each(task: Task) -> bool {
     task.tells_faults() && !has_object(task)
 }

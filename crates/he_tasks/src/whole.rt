@@ -1,6 +1,6 @@
-//! What is written of all the texts that a line names, to the output or to a file.
+//! The output for all the texts that a line names, to the output or to a file.
 ghost use Rattle.std.specs.Prelude.{◌≡◌, IfOk, OnErr, OnOk, true};
-ghost use Rattle.he_request.specs.Requests.{IsTexts};
+ghost use Rattle.he_options.specs.Texts.{IsTexts};
 ghost use Rattle.he_tasks.specs.Summaries.{keeps, rows_of};
 ghost use Rattle.he_tasks.specs.Whole.{DoesTexts, FillsFile, HasHead, LacksStart, WritesFile, WritesTexts, is_page};
 
@@ -11,19 +11,20 @@ use crate::reports::{DONE, first_fault, report, report_path};
 use crate::session::{Session, report_unwritten};
 use crate::sums::end_texts;
 use crate::system::TaskSystem;
+use he_addr::Memory;
 use he_files::create_beside;
 use he_inputs::{RaceStream, StreamFault};
-use he_request::shown::shown;
-use he_request::{Content, Task, Texts};
+use he_options::shown::shown;
+use he_options::{Content, Task, Texts};
 use he_stream::{FromReader, InputStream, OutputStream, ToWriter};
 use he_summary::Races;
 use he_timeline::Changes;
-use std::alloc::{AllocError, Global};
+use std::alloc::Global;
 use std::io::Write;
 use std::mem::drop;
 
-/// Does what is asked for with the texts of the files that are named, or with that of the input where none is, into
-/// the output or into the file of a page, and answers the exit status.
+/// Runs the task on the texts of the named files, or on the input's if none is named, into the output or into the
+/// file of a page, and returns the exit status.
 pub fn run_texts<R: TaskSystem, I: InputStream, O: OutputStream, F: Write>(
     session: &mut Session<'_, '_, R, O, F>,
     texts: &Texts<'_>,
@@ -39,7 +40,7 @@ pub fn run_texts<R: TaskSystem, I: InputStream, O: OutputStream, F: Write>(
     }
 }
 
-// Does it into a new file, which takes the place of the one of this path once it is whole.
+// Runs the task into a new file, which replaces the one at this path once it is whole.
 fn write_file<R: TaskSystem, I: InputStream, O: OutputStream, F: Write>(
     session: &mut Session<'_, '_, R, O, F>,
     texts: &Texts<'_>,
@@ -67,7 +68,7 @@ fn write_file<R: TaskSystem, I: InputStream, O: OutputStream, F: Write>(
     }
 }
 
-// Does it into a file that was made for it.
+// Runs the task into a new file.
 fn fill_file<R: TaskSystem, I: InputStream, O: OutputStream, F: Write>(
     session: &mut Session<'_, '_, R, O, F>,
     texts: &Texts<'_>,
@@ -99,7 +100,7 @@ fn fill_file<R: TaskSystem, I: InputStream, O: OutputStream, F: Write>(
     status
 }
 
-// Does it into the output, below what begins it, which a page alone has, and above what ends it, which a summary has.
+// Runs the task into the output, after the head, which only a page has, and before the end, which a summary has.
 fn write_texts<R: TaskSystem, I: InputStream, O: OutputStream, F: Write>(
     session: &mut Session<'_, '_, R, O, F>,
     texts: &Texts<'_>,
@@ -125,7 +126,7 @@ fn write_texts<R: TaskSystem, I: InputStream, O: OutputStream, F: Write>(
 }
 
 // The settings of each race, row by row: those of a comparison, or those of a summary.
-fn rows_of(alloc: Global, texts: &Texts<'_>) -> Result<Vec<Changes>, AllocError>
+fn rows_of(alloc: Global, texts: &Texts<'_>) -> Result<Vec<Changes>, Memory>
     ensures ok { IfOk result (λ rows. rows.items ≡ rows_of texts.now) }
     ensures err { OnErr result (keeps texts.now.task ≡ true) }
 {
@@ -143,7 +144,7 @@ fn rows_of(alloc: Global, texts: &Texts<'_>) -> Result<Vec<Changes>, AllocError>
     Ok(rows)
 }
 
-// Puts what begins a page, where it is one.
+// Puts the head of a page, if the task is one.
 fn begin<O: OutputStream>(alloc: Global, task: Task, output: &mut O) -> Result<(), StreamFault>
     ensures ok { OnOk result (HasHead O.OutputStream (is_page task) output.old output.new) }
     ensures err { OnErr result (LacksStart O.OutputStream task output.old output.new) }

@@ -1,5 +1,5 @@
-// Explanations that are written with each growth refused in turn: what is refused is told as want of memory, and what
-// isn't writes the same as ever.
+// Explanations that are written with each growth refused in turn: a refused call reports want of memory, and any
+// other has its usual output.
 
 use crate::explanations::RACES;
 use he_addr::Memory;
@@ -9,7 +9,7 @@ use he_text::{TextKind, read_race};
 use he_timeline::Timeline;
 use refusing::{Refusing, refused_in_turn};
 
-// Whether what is written of this race is what is wanted; none where memory was refused.
+// Whether the explanation of this race is the wanted one; none if memory was refused.
 fn is_written<'h>(heap: &'h Refusing, race: &Timeline<&'h Refusing>, wanted: &str) -> Option<bool> {
     match explained(heap, race) {
         Ok(text) => Some(text.as_slice() == wanted.as_bytes()),
@@ -27,7 +27,7 @@ fn explained<'h>(
     Ok(out)
 }
 
-// The same of the race with which the text begins.
+// Whether that holds of the race at the front of the text.
 fn is_right(heap: &Refusing, text: &str, wanted: &str) -> Option<bool> {
     match read_race(heap, text.as_bytes(), 0) {
         Ok(Some(read)) => is_written(heap, &read.0, wanted),

@@ -1,5 +1,5 @@
-// Races with the objects that explain them. These stand among the examples too, as `explained-late-aaaa` and so on,
-// and are worked out by hand.
+// Races with the objects that explain them, worked out by hand. They are among the examples too, as
+// `explained-late-aaaa` and so on.
 
 // The Resolution Delay ends, and the AAAA answer comes when no address is left.
 const LATE_AAAA: (&str, &str) = (

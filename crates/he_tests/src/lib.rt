@@ -1,6 +1,5 @@
 //! Tests that no file of races can hold: of `he_text` timelines written and texts that may go on, of `he_text`,
-//! `he_course` and `he_json` want of memory. What is read, written and explained is tried by examples,
-//! `crates/cases/data`.
+//! `he_course` and `he_json` want of memory. The examples, `crates/cases/data`, test reading, writing and explaining.
 #![tactic(auto)]
 
 #[cfg(test)]

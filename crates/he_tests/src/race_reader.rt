@@ -1,5 +1,5 @@
-// What a reader tells of the first race of a text that may go on, or that ends. Each growth is refused in turn: what
-// is refused is told as want of memory, and what isn't is told as ever.
+// The results of a reader on the first race of a text that may go on, or that ends. Each allocation fails in turn:
+// that call returns `Memory`, and any other has its usual result.
 
 use he_select::PolicyFault;
 use he_text::{Ending, InputFault, RaceReader, RaceReaderFault, TextKind};
@@ -18,10 +18,10 @@ connect 2001:db8:1::1 ok 35
 end
 ";
 
-// A policy table of one row, which is none, in 24 bytes, and the beginning of another row.
+// One policy row, which is an incomplete table, in 24 bytes, and the beginning of another row.
 const ROW: &[u8] = b"race 1\npolicy ::/0 40 1\npolicy x";
 
-// The same row, and the beginning of a line that can be none.
+// That row, and the beginning of a line that can't be another row.
 const ROW_BEFORE_A_SOURCE: &[u8] = b"race 1\npolicy ::/0 40 1\ns";
 
 const ROW_BEFORE_ANOTHER_WORD: &[u8] = b"race 1\npolicy ::/0 40 1\npolicyx";
@@ -29,16 +29,24 @@ const ROW_BEFORE_ANOTHER_WORD: &[u8] = b"race 1\npolicy ::/0 40 1\npolicyx";
 // A floor above the attempt delay, in 21 bytes, and the beginning of another setting.
 const FLOOR: &[u8] = b"race 2\nset floor 300\nset x";
 
-// The same floor, and the beginning of a source.
+// That floor, and the beginning of a source.
 const FLOOR_BEFORE_A_SOURCE: &[u8] = b"race 2\nset floor 300\nso";
 
-// What is wrong with that floor, if the attempt delay isn't given after it.
+// A record line of 14 bytes, and then that row.
+const RECORDED_ROW: &[u8] = b"record to a 1\nrace 1\npolicy ::/0 40 1\npolicy x";
+
+const RECORDED_ROW_BYTES: usize = 38;
+
+// A race of 25 bytes with a record line.
+const RECORDED: &[u8] = b"record to a 1\nrace 1\nend\n";
+
+// The fault of that floor, unless a later line sets the attempt delay.
 const FLOOR_ABOVE_DELAY: Told = Told::Fault(2, TextKind::Range);
 
-// What is wrong with a table of that row alone.
+// The fault of a table with only that row.
 const NO_TABLE: Told = Told::Fault(2, TextKind::Policy(PolicyFault::NoMapped));
 
-// The bytes of that row's text, those of it and `policy ` after it, and the most bytes of a line.
+// The length of that row's text; the length with `policy ` after it; the maximum length of a line.
 const ROW_BYTES: usize = 24;
 
 const ROW_AND_WORD: usize = 31;
@@ -49,20 +57,20 @@ const LONGEST_LINE: usize = 16_384;
 enum Told {
     // A race, and the place after it.
     Race(usize),
-    // No race: the text ends, or what stands there depends on what follows.
+    // No race: the text ends, or the next bytes decide.
     None,
     // The line of a fault, and its kind.
     Fault(u64, TextKind),
-    // Want of memory.
+    // An allocation failed.
     Memory,
-    // A broken end, or a reader that is not where its answer says.
+    // `Read`, or a reader whose position doesn't match its result.
     Else,
 }
 
-// A text, how many of its bytes are there, what follows them, and what is told of it.
+// A text, the number of its bytes in memory, their ending, and the result.
 type Row = (&'static [u8], usize, Ending, Told);
 
-static ROWS: [Row; 34] = [
+static ROWS: [Row; 45] = [
     (RACE, 156, Ending::Open, Told::Race(156)),
     (RACE, 155, Ending::Open, Told::None),
     (
@@ -109,7 +117,7 @@ static ROWS: [Row; 34] = [
         Ending::Open,
         Told::Fault(2, TextKind::Range),
     ),
-    // Texts that only one of the versions has, and what is wrong with them.
+    // Texts that are valid in one version only, and their faults.
     (
         b"race 1\naaaa 5 2001:db8::1\nrtt 2001:db8::1 5\nend\n",
         48,
@@ -164,9 +172,51 @@ static ROWS: [Row; 34] = [
         Ending::Whole,
         Told::Race(41),
     ),
+    // Record lines before a race, and beginnings of such lines.
+    (RECORDED, 25, Ending::Open, Told::Race(25)),
+    (RECORDED, 24, Ending::Open, Told::None),
+    (RECORDED, 14, Ending::Open, Told::None),
+    (
+        RECORDED,
+        14,
+        Ending::Whole,
+        Told::Fault(2, TextKind::Unfinished),
+    ),
+    (RECORDED, 3, Ending::Open, Told::None),
+    (
+        RECORDED,
+        3,
+        Ending::Whole,
+        Told::Fault(1, TextKind::Unfinished),
+    ),
+    (
+        b"record to a 0\n",
+        14,
+        Ending::Open,
+        Told::Fault(1, TextKind::Range),
+    ),
+    (
+        b"record to a 1\nrecord at x\n",
+        26,
+        Ending::Open,
+        Told::Fault(2, TextKind::Word),
+    ),
+    (
+        b"record to a 1\nrace 3\n",
+        21,
+        Ending::Open,
+        Told::Fault(2, TextKind::Header),
+    ),
+    (RECORDED_ROW, RECORDED_ROW_BYTES, Ending::Open, Told::None),
+    (
+        RECORDED_ROW,
+        RECORDED_ROW_BYTES,
+        Ending::Whole,
+        Told::Fault(3, TextKind::Policy(PolicyFault::NoMapped)),
+    ),
 ];
 
-// What a reader tells of the bytes. It passes a race that it answers, and else stays.
+// The result of a reader on the bytes. Its position is after the race, or unchanged without a race.
 fn told_of(heap: &Refusing, bytes: &[u8], ending: Ending) -> Told {
     let mut reader = RaceReader::START;
     match reader.next(heap, bytes, ending) {
@@ -182,7 +232,7 @@ fn told_of(heap: &Refusing, bytes: &[u8], ending: Ending) -> Told {
     }
 }
 
-// Whether what is told of the row is what is wanted; none where memory was refused.
+// Whether the row has the expected result; None if an allocation failed.
 fn is_right(heap: &Refusing, row: &Row) -> Option<bool> {
     let (text, bytes, ending, wanted) = row;
     let told = told_of(heap, text.get(..*bytes)?, *ending);
@@ -193,7 +243,7 @@ fn is_right(heap: &Refusing, row: &Row) -> Option<bool> {
     }
 }
 
-// How many growths of all rows were refused; none if a run told something else.
+// The number of failed allocations of all rows; 0 if a run had another result.
 fn refused_in_all(heap: &Refusing) -> u64 {
     let mut refused: u64 = 0;
     for row in &ROWS {
@@ -211,14 +261,28 @@ fn texts_that_may_go_on(rt: HostRuntime) {
     assert!(rt; refused_in_all(&heap) > 0);
 }
 
-// The row, and after it a `policy` line without its line end, of one byte more than a line may have.
+#[test]
+fn record_beside_its_race(rt: HostRuntime) {
+    let heap = Refusing::new(rt.alloc());
+    let mut reader = RaceReader::START;
+    let found = reader.next_recorded(&heap, RECORDED, Ending::Whole);
+    let is_told = match &found {
+        Ok(Some((record, _race))) => record.to() == Some((b"a".as_slice(), 1)),
+        _ => false,
+    };
+    assert!(rt; is_told);
+    assert!(rt; reader.lines == 3);
+    drop(found);
+}
+
+// The row, and then a `policy` line without a line end, one byte longer than a line may be.
 fn row_before_a_long_line() -> [u8; ROW_BYTES + LONGEST_LINE + 1] {
     let mut text = [b'1'; ROW_BYTES + LONGEST_LINE + 1];
     text[..ROW_AND_WORD].copy_from_slice(&ROW[..ROW_AND_WORD]);
     text
 }
 
-// What is told of the first bytes of a text that may go on.
+// The result for the first bytes of a text that may go on.
 fn told_of_first(heap: &Refusing, text: &[u8], bytes: usize) -> Told {
     match text.get(..bytes) {
         Some(part) => told_of(heap, part, Ending::Open),

@@ -1,5 +1,5 @@
-// Texts that are read, and written again, with each growth refused in turn: what is refused is told as want of memory,
-// and what isn't answers and writes the same as ever.
+// Texts that are read, and written again, with each growth refused in turn: a refused call reports want of memory,
+// and any other has its usual result and output.
 
 use he_addr::Memory;
 use he_plan::{Transcript, transcript_of};
@@ -43,7 +43,7 @@ attempt 0 0 2001:db8:1::1 cancelled 3600000
 limit 3600000
 ";
 
-// The shortest race but for its limit and its answers.
+// The shortest race except for its limit and its answers.
 const SHORT: &str = "race 1
 set limit 9
 aaaa 20 2001:DB8:1:0::1
@@ -51,7 +51,7 @@ a 25 none
 end
 ";
 
-// What is written of it: the standard settings and table (RFC 8305 section 8, RFC 6724 section 2.1), the order of an
+// The text written of it: the standard settings and table (RFC 8305 section 8, RFC 6724 section 2.1), the order of an
 // address that can't be reached, and the transcript of a race that ends before its first answer.
 const SHORT_WRITTEN: &str = "race 1
 set resolution 50
@@ -75,9 +75,9 @@ end
 limit 9
 ";
 
-// A race of version 2, as it is written, and after it its order and its transcript. A round trip time that is known
-// comes before one that isn't, and before an earlier use (RFC 8305 section 4). The first attempt fails at 30, the
-// floor after its start.
+// A race of version 2, as it is written, and after it its order and its transcript. An address with a known round
+// trip time comes before one without, and before one that was used earlier (RFC 8305 section 4). The first attempt
+// fails at 30, the floor after its start.
 const SECOND: &str = "race 2
 set resolution 50
 set attempt 250
@@ -109,8 +109,8 @@ a 25 none
 end
 ";
 
-// Each function below holds at most one value that has to be dropped, and returns at one place while it does: where
-// such a value is live, each place at which a function returns is dear to prove.
+// Each function below holds at most one value that has to be dropped, and returns at one place while it does: while
+// such a value is live, each return is costly to prove.
 
 // Appends a race's text, its order and its transcript, up to the first of them that is refused.
 fn append<'h>(
@@ -124,7 +124,7 @@ fn append<'h>(
     write_transcript(transcript, out)
 }
 
-// Whether these texts are the wanted ones; none where memory was refused.
+// Whether these texts are the wanted ones; none if memory was refused.
 fn is_written<'h>(
     heap: &'h Refusing,
     race: &Timeline<&'h Refusing>,
@@ -145,7 +145,7 @@ fn is_told<'h>(heap: &'h Refusing, race: &Timeline<&'h Refusing>, wanted: &str) 
     }
 }
 
-// The same of the race with which the text begins.
+// Whether they are for the race at the front of the text.
 fn is_right(heap: &Refusing, text: &str, wanted: &str) -> Option<bool> {
     match read_race(heap, text.as_bytes(), 0) {
         Ok(Some(read)) => is_told(heap, &read.0, wanted),

@@ -1,5 +1,5 @@
--- The ranges that the parts of a race have in the program by their types. A race of the definitions may have others,
--- which no text spells.
+-- The ranges that the parts of a race have in the program by their types. A race of the definitions may have values
+-- outside of them, which no text spells.
 use Rattle.std.specs.Prelude.{ℕ, ◌≤◌}
 use Rattle.std.specs.List.{All}
 use Rattle.he_addr.specs.Ip.{InRange}

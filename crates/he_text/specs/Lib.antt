@@ -18,6 +18,8 @@ pub use Rattle.he_write.specs.Written
 pub use Rattle.he_inputs.specs.Beginnings
 pub use Rattle.he_inputs.specs.FirstFault
 pub use Rattle.he_inputs.specs.Inputs
+pub use Rattle.he_inputs.specs.Plain
 pub use Rattle.he_inputs.specs.RaceReading
 pub use Rattle.he_inputs.specs.RaceReadingSteps
+pub use Rattle.he_inputs.specs.Recorded
 pub use Rattle.he_inputs.specs.StreamFaults

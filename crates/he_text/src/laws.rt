@@ -1,4 +1,4 @@
-// Laws of the texts of races, each the contract of a function that runs nothing.
+// Laws of the texts of races. Each is the contract of an empty function.
 
 ghost use Rattle.std.specs.Prelude.{◌≡◌, ◌++◌, ℕ, List, [], Bool, Ok};
 ghost use Rattle.he_addr.specs.declared.ip.Ip.{Ip};
@@ -13,7 +13,9 @@ ghost use Rattle.he_write.specs.Written.{timeline_text};
 use crate::ranges::timeline_range;
 use he_addr::Family;
 pub use he_inputs::laws::{
-    faults_come_no_earlier, faults_stand, first_faults, mendable_faults_change, one_race_first,
+    begins_recorded_where_no_fault, faults_come_no_earlier, faults_stand, first_faults,
+    first_recorded_faults, mendable_faults_change, one_race_first, plain_texts,
+    records_change_no_race,
 };
 pub use he_reading::laws::begins_where_no_fault;
 use he_timeline::Timeline;
@@ -31,8 +33,8 @@ pub fn no_race_is_a_prefix()
         → more ≡ [] }
 {}
 
-/// What the form of a line, its tokens checked from left to right, makes of it is what the line says, where it
-/// doesn't end the race. Runs nothing.
+/// The parts that the reader gets from a line, its tokens checked from left to right, are those that the grammar
+/// gives it, unless the line ends the race. Runs nothing.
 pub fn lines_say()
     ensures says { (known : Ip → Bool) (line : List ℕ) (said : Said) → said_in known line ≡ Ok said
         → (said ≡ Ended → ⊥) → Says line said × IsAllowed known said }
@@ -40,13 +42,13 @@ pub fn lines_say()
         → said_in known line ≡ Ok said }
 {}
 
-/// What is written of a race is a text of this race, so it is read as this race, whatever follows it. Runs nothing.
+/// The written text of a race is a text of this race, so it is read as this race, whatever follows it. Runs nothing.
 pub fn written_reads_back()
     ensures { (race : Race) → IsRace race → RaceInRange race → IsRaceText (timeline_text race) race }
 {}
 
-/// The same of a timeline: what `write_timeline` appends is read back by `read_race` as an equal timeline, whatever
-/// follows it. Looks at the timeline's parts and changes nothing.
+/// What `write_timeline` appends is read back by `read_race` as an equal timeline, whatever follows it. Looks at the
+/// timeline's parts and changes nothing.
 pub fn timeline_reads_back<A: Allocator + Copy>(timeline: &Timeline<A>)
     ensures { IsRaceText (timeline_text timeline.now) timeline.now }
 {

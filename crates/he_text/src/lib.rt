@@ -1,10 +1,11 @@
-//! Texts of timelines, transcripts and orders: all of it under one name, and the laws of reading and writing together.
+//! Texts of timelines, transcripts and orders: one name for several crates, and the laws of reading and writing
+//! together.
 //!
 //! [`read_race`] and its faults are those of `he_reading` and `he_words`, the writers those of `he_write`, inputs of
-//! many races those of `he_inputs`. A crate that needs only one of these names that one.
+//! many races those of `he_inputs`. A crate that needs only one of these depends on that one.
 //!
-//! Proved, by [`laws`]: a text is at most one race's, no race's text is the beginning of another's, a line says what
-//! the reader makes of it, and a timeline that is written is read back, whatever follows it.
+//! Proved, by [`laws`]: a text is at most one race's, no race's text is the beginning of another's, the reader gets
+//! from a line exactly its content, and a timeline that is written is read back, whatever follows it.
 #![tactic(auto)]
 
 pub mod laws;

@@ -1,4 +1,4 @@
-// The ranges that the parts of a timeline have by their types, told of all of it at once.
+// The ranges that the parts of a timeline have by their types, all at once.
 
 ghost use Rattle.std.specs.Prelude.{◌≡◌, ℕ};
 ghost use Rattle.std.specs.List.{All};

@@ -1,5 +1,5 @@
-use Rattle.he_inputs.proofs.Mending.{mendable_changes}
+use Rattle.he_inputs.proofs.RecordedFaults.{recorded_changes}
 use Rattle.he_inputs.proofs.laws.mendable_faults_change.Goals as goal
 
 pub returns : goal.returns
-returns c = mendable_changes
+returns c = recorded_changes

@@ -7,8 +7,8 @@ use Rattle.he_streaming.proofs.pieces.run_worker.Goals.{then-take+in_ok-tell_pie
 
 pub loop-number-preserved : goal.loop-number-preserved
 loop-number-preserved g c =
-    let told = one_told (IsAsked c.args.asked.now) c.args.board.now c.args.bytes.now c.args.count (notes c.args.pass).parts c.loop-number.number _ c.loop-number.pass c.take.new.pass c.loop-number.pieces.items in
-    let known = one_known (IsAsked c.args.asked.now) c.args.board.now c.args.bytes.now c.args.count (notes c.args.pass).parts c.loop-number.number _ c.loop-number.pass c.take.new.pass c.loop-number.pieces.items in
+    let told = one_told (IsAsked c.args.work.asked.now) c.args.work.board.now c.args.work.bytes.now c.args.work.count (notes c.args.pass).parts c.loop-number.number _ c.loop-number.pass c.take.new.pass c.loop-number.pieces.items in
+    let known = one_known (IsAsked c.args.work.asked.now) c.args.work.board.now c.args.work.bytes.now c.args.work.count (notes c.args.pass).parts c.loop-number.number _ c.loop-number.pass c.take.new.pass c.loop-number.pieces.items in
     elim c.if-take.branch [
       | then-take+in_ok-tell_piece+in_ok-push w ↦
           let taken : (notes c.take.new.pass).taken ≡ (notes c.loop-number.pass).taken ++ c.loop-number.number ∷ [] = rw w.if-take.true at c.take.ensures.taken in

@@ -7,8 +7,8 @@ use Rattle.he_inputs.specs.declared.race_reader.Ending.TheVariants as endings
 use Rattle.he_streaming.specs.Rounds.{IsAsked, IsAt}
 use Rattle.he_streaming.proofs.streaming.stream_races.Given as goal
 
--- what is held was taken and not told; what was taken before was told and put in rounds; and there is room for the next
--- step
+-- the held bytes were taken and not written yet; those taken before were written and put in rounds; there is room for
+-- the next step
 abbrev pub invariant-loop-text : goal.invariant-loop-text
 invariant-loop-text g l =
     (l.held.reader.lines + length l.held.input.bytes ≤ read_size * l.held.input.steps)

@@ -1,5 +1,5 @@
 use Rattle.std.proofs.Common.{◌≡◌, map, string_bytes, take}
-use Rattle.he_request.specs.Shown.{shown}
+use Rattle.he_options.specs.Shown.{shown}
 use Rattle.he_tasks.proofs.sums.shown_names.Given as goal
 
 abbrev pub invariant-loop-name : goal.invariant-loop-name

@@ -2,10 +2,10 @@ use Rattle.std.proofs.Common.{ℕ, ◌≡◌, ◌∙◌, Bool, false, List, ap, 
 use Rattle.std.proofs.lemmas.Result.{on_ok_weaker}
 use Rattle.he_compare.specs.Groups.{IsGroupTable}
 use Rattle.he_compare.specs.declared.grouping.By.{By as Dividing}
-use Rattle.he_request.specs.declared.texts.By.{By}
-use Rattle.he_request.specs.declared.texts.Task.{Task}
-use Rattle.he_request.specs.declared.texts.Task.TheVariants.{Group}
-use Rattle.he_request.specs.declared.texts.Texts.{Texts}
+use Rattle.he_options.specs.declared.texts.By.{By}
+use Rattle.he_options.specs.declared.texts.Task.{Task}
+use Rattle.he_options.specs.declared.texts.Task.TheVariants.{Group}
+use Rattle.he_options.specs.declared.texts.Texts.{Texts}
 use Rattle.he_summary.specs.Kept.{Run, kept_of}
 use Rattle.he_summary.specs.declared.figures.Form.{Form}
 use Rattle.he_summary.specs.declared.kept.Kept.{Kept}
