@@ -1,8 +1,8 @@
-// The machine of each recording, and what is left out of it.
+// The machine of each recording, and the lines that are left out of it.
 //
-// A recording `NAME` is `NAME.if_inet6`, `NAME.fib_trie`, `NAME.ipv6_route` and `NAME.route`, as `/proc/net` has them,
-// and `NAME.interfaces`, a line for each interface: its name, `ifindex`, `flags`, `carrier` and `type` of
-// `/sys/class/net`. A recording of the kernel's answers is `NAME.ways`.
+// A recording `NAME` is `NAME.if_inet6`, `NAME.fib_trie`, `NAME.ipv6_route` and `NAME.route`, in the formats of
+// `/proc/net`, and `NAME.interfaces`, a line for each interface: its name, `ifindex`, `flags`, `carrier` and `type`
+// of `/sys/class/net`. A recording of the kernel's answers is `NAME.ways`.
 
 use crate::files::read;
 use crate::ways;
@@ -70,7 +70,7 @@ fn tell(rt: &HostRuntime, name: &str, text: Option<Vec<u8>>) -> io::Result<()> {
     }
 }
 
-// The lines of a recording's host, and then of what is left out.
+// The lines of a recording's host, and then those of the rest.
 fn written(alloc: Global, told: &[u8], files: Files<'_>) -> Option<Vec<u8>> {
     let mut interfaces = Vec::new(alloc);
     for line in read_lines(alloc, told).ok()?.iter() {

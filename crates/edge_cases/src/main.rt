@@ -1,8 +1,8 @@
-//! Prints what is read of recorded files of machines: first the machine of each recording and what is left out of it,
-//! then what the files of names say, what texts name that people write for a host and a port, and which addresses are
-//! globally reachable.
+//! Prints the results of reading recorded files of machines: first the machine of each recording and the lines that
+//! are left out of it, then the contents of the files of names, the hosts and ports in texts that people write, and
+//! which addresses are globally reachable.
 //!
-//! It reads the folder in which it is started. Nothing is proved of this program but that it is safe and ends.
+//! It reads the folder in which it is started. It is proved only to be safe and to end.
 #![tactic(auto)]
 
 mod files;

@@ -1,4 +1,4 @@
-// What files of hosts and of resolver settings say, and of names beside them.
+// The contents of files of hosts and of resolver settings, and of names beside them.
 //
 // A recording `NAME` is `NAME.hosts`, `NAME.resolv` and `NAME.names`, a name a line.
 
@@ -39,7 +39,7 @@ fn show(rt: &HostRuntime, name: &str) -> io::Result<()> {
     show_with(rt, name, &settings)
 }
 
-// Shows a recording with the settings that the environment has amended.
+// Shows a recording with the settings as the environment amends them.
 fn show_amended(rt: &HostRuntime, name: &str) -> io::Result<()> {
     println!(rt; "{name}, amended")?;
     let mut settings = read(rt, name, "resolv")?;
@@ -111,7 +111,7 @@ fn write_flag(is_set: bool, word: &[u8], out: &mut Vec<u8>) -> Result<(), Memory
     Ok(())
 }
 
-// The names that are asked for a name.
+// The names that are asked for to find a name.
 fn write_asked(
     alloc: Global,
     settings: &[u8],

@@ -1,4 +1,4 @@
-//! What the kernel answered for destinations, as a recording has it, and the lines that come of it.
+//! The kernel's answers for destinations, as a recording has them, and the lines that follow from them.
 //!
 //! A recording of answers is `NAME.ways`: lines `own ADDRESS/LENGTH INTERFACE` with the marks `deprecated` and
 //! `tunnel`, and after them lines `way DESTINATION SOURCE`, or `way DESTINATION none`.
@@ -11,7 +11,7 @@ use he_kernel::writing::write_host;
 use he_select::{Policy, Source};
 use std::alloc::Global;
 
-// Where the first mark stands in a line, and how many there may be.
+// The place of the first mark in a line, and the most marks.
 const MARKS: usize = 3;
 
 const MOST_MARKS: usize = 2;
@@ -49,7 +49,7 @@ fn read_way(line: &[u8]) -> Option<Way> {
 }
 
 /// The lines of the machine, and after them a line `unsaid DESTINATION` for each destination for which the rules take
-/// another source than the kernel; `None` where an allocation was refused.
+/// another source than the kernel; `None` if an allocation was refused.
 pub fn written(alloc: Global, recording: &[u8]) -> Option<Vec<u8>> {
     let mut own = Vec::new(alloc);
     let mut ways = Vec::new(alloc);

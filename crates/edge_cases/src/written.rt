@@ -1,4 +1,4 @@
-// What texts name that people write for a host and for a port.
+// The hosts and ports in texts that people write.
 //
 // `hosts.written` and `ports.written` have a text a line, `written.services` is the file of services.
 

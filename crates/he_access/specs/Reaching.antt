@@ -1,4 +1,4 @@
--- Whom the proxy serves, and what it connects to.
+-- Which clients the proxy serves, and what it connects to.
 use Rattle.std.specs.Prelude.{ℕ, ◌+◌, ◌*◌, ◌/◌, ◌^◌, ◌<◌, ◌≡◌, ◌⊎◌, Bool, List, [], ◌∷◌, Option, Some, true, false}
 use Rattle.he_addr.specs.declared.ip.Ip.{Ip}
 use Rattle.he_addr.specs.declared.ip.Ip.TheVariants.{V4, V6}
@@ -8,7 +8,7 @@ use Rattle.he_access.specs.declared.reach.Place.{Place}
 use Rattle.he_addr.specs.Ip.{mapped_of}
 use Rattle.he_access.specs.Registries.{Says, judged, rows}
 
--- ---- addresses, by what they begin with
+-- ---- addresses, by their first bits
 
 -- 127.0.0.0/8, also in its mapped form, and ::1
 abbrev pub IsLoopback : Ip → Type 0
@@ -21,8 +21,7 @@ IsPrivate (V4 n) =
     (n / 2 ^ 24 ≡ 10) ⊎ ((n / 2 ^ 20 ≡ 0xac1) ⊎ ((n / 2 ^ 16 ≡ 0xc0a8) ⊎ ((n / 2 ^ 16 ≡ 0xa9fe) ⊎ (n / 2 ^ 22 ≡ 0x191))))
 IsPrivate (V6 n) = (n / 2 ^ 121 ≡ 0x7e) ⊎ ((n / 2 ^ 118 ≡ 0x3fa) ⊎ (n / 2 ^ 118 ≡ 0x3fb))
 
--- the number of an IPv6 address is made of that of an IPv4 one: ::, 64:ff9b:: or ::ffff:0:0 and it, or 2002, it and
--- the rest
+-- the IPv6 address embeds the IPv4 address: after ::, 64:ff9b:: or ::ffff:0:0, or between 2002 and the rest
 abbrev pub Carries : ℕ → ℕ → Type 0
 Carries n carried =
     (carried < 2 ^ 32)
@@ -37,7 +36,7 @@ IsGlobal ip = Says rows (judged (mapped_of ip)) true
 
 -- ---- clients
 
--- one of loopback, or of a network that is allowed
+-- a loopback client, or one in an allowed network
 abbrev pub IsServed : Ip → List PrefixBits → Type 0
 IsServed client allow = IsLoopback client ⊎ Any (λ network. contains network client ≡ true) allow
 
@@ -46,26 +45,26 @@ IsServed client allow = IsLoopback client ⊎ Any (λ network. contains network 
 abbrev pub IsUnspecified : Ip → Type 0
 IsUnspecified ip = (mapped_of ip ≡ 0) ⊎ (mapped_of ip ≡ 0xffff_0000_0000)
 
--- an address of this machine: loopback's, the unspecified one, or the one that the kernel would come from itself
+-- an address of this machine: loopback, unspecified, or the one from which the kernel would connect to it
 abbrev pub IsHere : Ip → Option Ip → Type 0
 IsHere ip source =
     IsLoopback ip ⊎ (IsUnspecified ip ⊎ ((own : Ip) × (source ≡ Some own) × (mapped_of own ≡ mapped_of ip)))
 
--- a connection comes to the place: by the same address and port; by any address of this machine where the place has
--- the unspecified one; by the unspecified one where the place is loopback's
+-- a connection reaches the place: by its address and port; by any address of this machine if the place is
+-- unspecified; by the unspecified address if the place is loopback
 pub data ComesTo (place to : Place) (source : Option Ip) : Type 0 where
   Same : place.port ≡ to.port → mapped_of place.ip ≡ mapped_of to.ip → ComesTo place to source
   Wild : place.port ≡ to.port → IsUnspecified place.ip → IsHere to.ip source → ComesTo place to source
   Loop : place.port ≡ to.port → IsLoopback place.ip → IsUnspecified to.ip → ComesTo place to source
 
--- a connection comes to the proxy itself
+-- a connection reaches the proxy itself
 abbrev pub IsOwn : List Place → Place → Option Ip → Type 0
 IsOwn [] to source = ⊥
 IsOwn (place ∷ others) to source = ComesTo place to source ⊎ IsOwn others to source
 
--- a client's races may connect to the place, to which the kernel connects from this source: never to the proxy itself,
--- and, where not all is reached, to no address of this machine, to none that is private, and only to what is globally
--- reachable, as is the IPv4 address inside it
+-- a client's races may connect to the place, to which the kernel connects from this source: never to the proxy
+-- itself; and, unless `is_wide`, to no address of this machine, to no private one, and only to one that is globally
+-- reachable, as is the IPv4 address embedded in it
 pub record IsReached (is_wide : Bool) (places : List Place) (to : Place) (source : Option Ip) : Type 0 where
   pub itself : IsOwn places to source → ⊥
   pub here : is_wide ≡ false → IsHere to.ip source → ⊥

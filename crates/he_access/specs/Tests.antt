@@ -1,4 +1,4 @@
--- The tests of the program.
+-- Mirrors the code: its tests of addresses.
 use Rattle.std.specs.Prelude.{◌/◌, ◌^◌, ◌==◌, ◌&&◌, ◌||◌, Bool, false, Option, Some, None}
 use Rattle.he_addr.specs.declared.ip.Ip.{Ip}
 use Rattle.he_addr.specs.declared.ip.Ip.TheVariants.{V4, V6}

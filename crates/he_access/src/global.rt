@@ -1,4 +1,4 @@
-//! Whether the registries call an address globally reachable.
+//! Whether the registries list an address as globally reachable.
 ghost use Rattle.std.specs.Prelude.{◌≡◌};
 ghost use Rattle.he_access.specs.Registries.{Says, judged, rows};
 ghost use Rattle.he_addr.specs.Ip.{mapped_of};
@@ -15,8 +15,8 @@ const NAT64: u128 = 0x0064_ff9b_0000_0000_0000_0000;
 // The first 16 bits of 2002::/16 (RFC 3056 section 2).
 const SIX_TO_FOUR: u128 = 0x2002;
 
-/// Whether the registries call the address globally reachable. An IPv6 address that has an IPv4 address inside, in
-/// `::/96`, `::ffff:0:0/96`, `64:ff9b::/96` or `2002::/16`, is judged as that one.
+/// Whether the registries list the address as globally reachable. An IPv6 address with an embedded IPv4 address, in
+/// `::/96`, `::ffff:0:0/96`, `64:ff9b::/96` or `2002::/16`, is judged as that IPv4 address.
 pub fn is_global(ip: Ip) -> bool
     ensures { Says rows (judged (mapped_of ip)) result }
 {

@@ -1,4 +1,4 @@
-//! Which clients are served, and what their races may connect to.
+//! Which clients are served, and which addresses their races may connect to.
 ghost use Rattle.std.specs.Prelude.{◌≡◌, [], true, false, IsTrue};
 ghost use Rattle.std.specs.List.{list_any};
 ghost use Rattle.he_addr.specs.Prefix.{contains};
@@ -15,8 +15,8 @@ pub struct Place {
     pub port: u16,
 }
 
-/// Whether a client of this address is served: one of loopback always is, any other where a network that is allowed
-/// has its address.
+/// Whether a client with this address is served: a loopback client always is, any other if an allowed network
+/// contains its address.
 pub fn is_served(client: Ip, allow: &[Prefix]) -> bool
     ensures served { IsTrue result → IsServed client allow.now }
     ensures all { IsServed client allow.now → IsTrue result }
@@ -31,9 +31,9 @@ fn is_allowed(client: Ip, allow: &[Prefix]) -> bool
     allow.iter().any(|network| network.contains(client))
 }
 
-/// Whether a client's races may connect to the place. `is_wide`: the client is a program of this machine, or is
-/// allowed as much. `places`: where the proxy listens. `source`: the address from which the kernel connects to the
-/// place, which is the place's own where it is an address of this machine.
+/// Whether a client's races may connect to the place. `is_wide`: the client is a program of this machine, or has the
+/// same rights. `places`: where the proxy listens. `source`: the address from which the kernel connects to the place;
+/// it is the place's own address if that belongs to this machine.
 pub fn may_reach(is_wide: bool, places: &[Place], to: Place, source: Option<Ip>) -> bool
     ensures reached { IsTrue result → IsReached is_wide places.now to source }
     ensures wide { is_wide ≡ true → (IsOwn places.now to source → ⊥) → IsTrue result }
@@ -46,7 +46,7 @@ pub fn may_reach(is_wide: bool, places: &[Place], to: Place, source: Option<Ip>)
     is_wide || (!is_here(to.ip, source) && is_global(to.ip))
 }
 
-// Whether a connection comes to the proxy itself.
+// Whether a connection reaches the proxy itself.
 fn is_own(places: &[Place], to: Place, source: Option<Ip>) -> bool
     ensures { result ≡ list_any (λ place. comes_to place to source) places.now }
 {
@@ -62,8 +62,7 @@ fn comes_to(place: Place, to: Place, source: Option<Ip>) -> bool
             || (is_loopback(place.ip) && is_unspecified(to.ip)))
 }
 
-/// Whether it is an address of this machine: of loopback, unspecified, or the one from which the kernel connects to
-/// it.
+/// Whether it is an address of this machine: loopback, unspecified, or the one from which the kernel connects to it.
 pub fn is_here(ip: Ip, source: Option<Ip>) -> bool
     ensures { result ≡ is_here ip source }
 {
@@ -79,7 +78,7 @@ fn is_same(source: Option<Ip>, ip: Ip) -> bool
     }
 }
 
-/// Whether it is an address of loopback, 127.0.0.0/8 (RFC 1122 section 3.2.1.3), also mapped, or ::1 (RFC 4291 section
+/// Whether it is a loopback address: 127.0.0.0/8 (RFC 1122 section 3.2.1.3), also mapped, or ::1 (RFC 4291 section
 /// 2.5.3).
 pub fn is_loopback(ip: Ip) -> bool
     ensures { result ≡ is_loopback ip }

@@ -1,4 +1,5 @@
--- What an address is, and what its calls answer: its number as a mapped one, its scope, whether one can connect to it.
+-- An address and the answers of its methods: its number as an IPv4-mapped one, its scope, whether a client can
+-- connect to it.
 use Rattle.std.specs.Prelude.{ℕ, ◌+◌, ◌*◌, ◌^◌, ◌<◌, ◌==◌, ◌&&◌, ◌||◌, Bool, true, false, not, if◌then◌else◌, IsTrue}
 use Rattle.he_addr.specs.declared.ip.Family.{Family}
 use Rattle.he_addr.specs.declared.ip.Family.TheVariants as families
@@ -26,12 +27,12 @@ same_ip (V6 m) (V6 n) = m == n
 same_ip (V4 m) (V6 n) = false
 same_ip (V6 m) (V4 n) = false
 
--- the number as an IPv6 number: an IPv4 address stands in ::ffff:0:0/96 (RFC 4291 section 2.5.5.2)
+-- the address as an IPv6 number: an IPv4 address is mapped into ::ffff:0:0/96 (RFC 4291 section 2.5.5.2)
 abbrev pub mapped_of : Ip → ℕ
 mapped_of (V4 n) = 65535 * 2 ^ 32 + n
 mapped_of (V6 n) = n
 
--- a number of the family's width: a value of the definitions may have any, one of the program always has
+-- the number fits the family's width: a value of the definitions may be any number, one of the code always fits
 abbrev pub InRange : Ip → Type 0
 InRange (V4 n) = n < 2 ^ 32
 InRange (V6 n) = n < 2 ^ 128
@@ -65,11 +66,11 @@ is_multicast_v6 n = agrees 128 n (0xff00 * 2 ^ 112) 8
 abbrev pub is_mapped_v6 : ℕ → Bool
 is_mapped_v6 n = agrees 128 n (0xffff * 2 ^ 32) 96
 
--- neither the unspecified address, nor multicast, nor an IPv6 address that stands for an IPv4 one
+-- neither the unspecified address, nor multicast, nor an IPv4-mapped IPv6 address
 abbrev pub is_usable : Ip → Bool
 is_usable (V4 n) = not (n == 0) && not (is_multicast_v4 n)
 is_usable (V6 n) = not (n == 0) && not (is_multicast_v6 n) && not (is_mapped_v6 n)
 
--- an address that may be tried
+-- an address that may be tried, in range
 abbrev pub IsUsable : Ip → Type 0
 IsUsable ip = IsTrue (is_usable ip) × InRange ip

@@ -1,4 +1,4 @@
--- Laws of the texts: between what is written and what is read, and of how a text looks.
+-- Laws of the texts: what is written reads back, and which bytes a text consists of.
 use Rattle.std.specs.Prelude.{◌≡◌, ℕ, ◌^◌, ◌<◌, ◌≤◌, Bool, List, Some, decimal}
 use Rattle.he_addr.specs.declared.ip.Ip.{Ip}
 use Rattle.he_addr.specs.Ip.{InRange}
@@ -35,7 +35,7 @@ PrintsOnePrefix =
     (is_dotted : Bool) (prefix : PrefixBits) (text : List ℕ) → IsPrintedPrefix is_dotted prefix text
     → text ≡ prefix_text is_dotted prefix
 
--- what is written spells what was written, and is read as it
+-- a written text spells its value and reads back as it
 abbrev pub NumbersReadBack : Type 0
 NumbersReadBack = (n : ℕ) → n < 10 ^ number_digits → SpellsNumber (decimal n) n × (number_in (decimal n) ≡ Some n)
 
@@ -51,7 +51,7 @@ abbrev pub PrefixesReadBack : Type 0
 PrefixesReadBack = (is_dotted : Bool) (prefix : PrefixBits) → IsPrefix prefix.bits prefix.len
     → SpellsPrefix (prefix_text is_dotted prefix) prefix × (prefix_in (prefix_text is_dotted prefix) ≡ Some prefix)
 
--- what is written can stand between spaces in a line
+-- a written text can appear between spaces in a line
 abbrev pub NumbersAreTokens : Type 0
 NumbersAreTokens = (n : ℕ) → n < 10 ^ number_digits → IsToken number_digits (decimal n)
 

@@ -1,4 +1,4 @@
--- Mirrors the code: the printed texts as functions, what the writers append. What these texts are stands in `Printed`.
+-- Mirrors the code: the printed texts as functions, which the writers append. `Printed` defines them.
 use Rattle.std.specs.Prelude.{ℕ, ◌+◌, ◌-◌, ◌%◌, ◌^◌, ◌==◌, ◌&&◌, Bool, List, [], ◌∷◌, ◌++◌, decimal, nat_le, if◌then◌else◌}
 use Rattle.he_addr.specs.declared.ip.Ip.{Ip}
 use Rattle.he_addr.specs.declared.ip.Ip.TheVariants.{V4, V6}
@@ -6,12 +6,12 @@ use Rattle.he_addr.specs.declared.printing.ZeroGroups.{ZeroGroups}
 use Rattle.he_addr.specs.Prefix.{PrefixBits, is_inside_mapped}
 use Rattle.he_addr.specs.Printed.{dotted, groups_of, joined, shortened}
 
--- how many zero groups stand first
+-- the number of leading zero groups
 abbrev pub zeros : List ℕ → ℕ
 zeros [] = 0
 zeros (g ∷ gs) = if g == 0 then zeros gs + 1 else 0
 
--- of a run that begins here and the longest one behind it, the longer; this one if they are equally long
+-- the longer of a run that begins here and the longest one after it; the first of two equally long ones
 abbrev pub longer : ℕ → ZeroGroups → ZeroGroups
 longer here behind =
     if nat_le behind.len here then record { start = 0; len = here }
@@ -37,7 +37,7 @@ printed (V6 n) = printed_v6 n
 abbrev pub source_text : Ip → ℕ → List ℕ
 source_text ip len = printed ip ++ 47 ∷ decimal len
 
--- the text of a prefix, in IPv4 form if that is asked for and it is one of IPv4 addresses
+-- the text of a prefix, in IPv4 form if `is_dotted` holds and the prefix is one of IPv4 addresses
 abbrev pub prefix_text : Bool → PrefixBits → List ℕ
 prefix_text is_dotted prefix =
     if is_dotted && is_inside_mapped prefix then source_text (V4 (prefix.bits % 2 ^ 32)) (prefix.len - 96)

@@ -1,14 +1,14 @@
--- The numbers of the definitions. The law `laws::ranges` ties the constants of the program to them.
+-- The numbers of the definitions. The law `laws::ranges` shows that the constants of the code equal them.
 use Rattle.std.specs.Prelude.{ℕ}
 
--- the bits of an address of either family
+-- the number of bits of an address of each family
 abbrev pub v4_bits : ℕ
 v4_bits = 32
 
 abbrev pub v6_bits : ℕ
 v6_bits = 128
 
--- the length of ::ffff:0:0/96, where the IPv4 addresses stand (RFC 4291 section 2.5.5.2)
+-- the length of ::ffff:0:0/96, the prefix of the IPv4-mapped addresses (RFC 4291 section 2.5.5.2)
 abbrev pub mapped_len : ℕ
 mapped_len = 96
 
@@ -22,14 +22,14 @@ site_local_scope = 5
 abbrev pub global_scope : ℕ
 global_scope = 14
 
--- the most decimal digits of a number of the texts, and of a prefix length
+-- the maximum number of decimal digits of a number in a text, and of a prefix length
 abbrev pub number_digits : ℕ
 number_digits = 10
 
 abbrev pub length_digits : ℕ
 length_digits = 3
 
--- the most bytes of a printed address, and of a printed source or prefix
+-- the maximum length in bytes of a printed address, and of a printed source or prefix
 abbrev pub address_text_len : ℕ
 address_text_len = 39
 

@@ -1,4 +1,4 @@
--- Mirrors the code: what the readers answer, as functions on lists. What a text spells stands in `Text`.
+-- Mirrors the code: the results of the readers, as functions on lists. `Text` defines which value a text spells.
 use Rattle.std.specs.Prelude.{ℕ, ◌+◌, ◌*◌, ◌-◌, ◌%◌, ◌^◌, ◌==◌, ◌&&◌, Bool, List, [], ◌∷◌, Option, Some, None, option_and_then, length, slice_index, take, drop, nat_lt, nat_le, if◌then◌else◌, position}
 use Rattle.std.specs.Char.{digit_value}
 use Rattle.std.specs.Int.{w32, w128, from_be_bytes}
@@ -16,7 +16,7 @@ infixl 10 ◌>>=◌
 abbrev pub ◌>>=◌ : {A B : Type 0} → Option A → (A → Option B) → Option B
 o >>= f = option_and_then f o
 
--- the number that the decimal digits write when they follow those of value; none if a byte is no digit
+-- the number that the digits of `value` and then these write; None if a byte is no digit
 abbrev pub digits_after : ℕ → List ℕ → Option ℕ
 digits_after value [] = Some value
 digits_after value (c ∷ cs) = if nat_lt (digit_value c) 10 then digits_after (value * 10 + digit_value c) cs else None
@@ -33,7 +33,7 @@ numeral_in most text = if slice_index text 0 == 48 && nat_lt 1 (length text) the
 unfoldable pub number_in : List ℕ → Option ℕ
 number_in text = numeral_in 10 text
 
--- what stands before the first mark, and what stands after it
+-- the text before the first mark, and the text after it
 unfoldable pub cut_in : ℕ → List ℕ → Option (List ℕ × List ℕ)
 cut_in mark text = option_map (λ at. (take at text, drop (at + 1) text)) (position (λ b. b == mark) text)
 
@@ -48,7 +48,7 @@ v6_in text = option_map (λ groups. from_be_bytes w128 (octets_of groups)) (whol
 unfoldable pub ip_in : List ℕ → Option Ip
 ip_in text = option_map_or (λ n. Some (V4 n)) (v4_in text) (option_map (λ n. V6 n) (v6_in text))
 
--- the address of a text, where it is one of the family
+-- the address of a text, if it is of the family
 unfoldable pub ip_of_in : Family → List ℕ → Option Ip
 ip_of_in family text = do
   ip ← ip_in text

@@ -6,8 +6,8 @@ ghost use Rattle.he_addr.specs.Prefix.{common_of, width_of};
 
 use crate::ip::Ip;
 
-/// The common prefix length of a source and a destination of one family (RFC 6724 section 2.2): the greatest number of
-/// leading bits that the two have in common, at most the source's prefix length. 0 for addresses of two families.
+/// The common prefix length of a source and a destination (RFC 6724 section 2.2), in bits: the number of leading bits
+/// that the two share, at most the source's prefix length. 0 if the addresses are of two families.
 pub fn common_len(source: Ip, prefix_len: u8, destination: Ip) -> u8
     requires length { prefix_len ≤ width_of source }
     ensures { result ≡ common_of source prefix_len destination }
@@ -31,8 +31,8 @@ fn common_v6(a: u128, b: u128) -> u8
     (a ^ b).leading_zeros() as u8
 }
 
-/// The law behind [`common_len`]: what its definition calls the greatest number that qualifies is at most the bound,
-/// does qualify, and no greater one within the bound does. Runs nothing.
+/// The law of [`common_len`]: the number that its definition calls the greatest is at most the bound and qualifies,
+/// and no greater number within the bound qualifies. Runs nothing.
 pub fn greatest_is_greatest()
     ensures { GreatestIsGreatest }
 {}

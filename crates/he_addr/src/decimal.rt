@@ -1,4 +1,4 @@
-// Numbers in the texts: one to ten decimal digits without leading zeros.
+// Decimal numbers in texts: one to ten digits without leading zeros.
 
 ghost use Rattle.std.specs.Prelude.{◌≡◌, ℕ, ◌≤◌, ◌++◌, IfSome, IfNone, OnOk, OnErr, decimal};
 ghost use Rattle.he_addr.specs.Reading.{digits_in, numeral_in, number_in};
@@ -7,12 +7,12 @@ ghost use Rattle.he_addr.specs.Text.{SpellsNumber};
 use itoa::Buffer;
 use std::alloc::{AllocError as Memory, Allocator};
 
-/// The most digits of a number in the texts.
+/// The maximum number of digits of a number in a text.
 pub const NUMBER_DIGITS: usize = 10;
 
 const DECIMAL: u32 = 10;
 
-// The number that one to `most` decimal digits write.
+// Reads one to `most` decimal digits; leading zeros are allowed.
 #[tactic(auto, unfolding(crate::specs::Reading::digits_in))]
 fn read_digits(text: &[u8], most: usize) -> Option<u64>
     requires { most ≤ NUMBER_DIGITS }
@@ -29,7 +29,7 @@ fn read_digits(text: &[u8], most: usize) -> Option<u64>
     Some(value)
 }
 
-// One to `most` decimal digits without leading zeros.
+// Reads one to `most` decimal digits without leading zeros.
 #[tactic(auto, unfolding(crate::specs::Reading::numeral_in))]
 pub(crate) fn read_numeral(text: &[u8], most: usize) -> Option<u64>
     requires { most ≤ NUMBER_DIGITS }
@@ -41,8 +41,7 @@ pub(crate) fn read_numeral(text: &[u8], most: usize) -> Option<u64>
     read_digits(text, most)
 }
 
-/// The number that a text of one to ten decimal digits without leading zeros writes (`0` itself is one). None for
-/// every other text.
+/// Reads a decimal number of one to ten digits without leading zeros (`0` itself is one). None for every other text.
 #[tactic(auto, unfolding(crate::specs::Reading::number_in))]
 pub fn read_number(text: &[u8]) -> Option<u64>
     ensures value { result ≡ number_in text.now }
@@ -52,8 +51,8 @@ pub fn read_number(text: &[u8]) -> Option<u64>
     read_numeral(text, NUMBER_DIGITS)
 }
 
-/// Appends the number in decimal. After [`Memory`] the text is as it was. A number below 10 to the tenth is read
-/// again by [`read_number`].
+/// Appends the number in decimal. On [`Memory`] the text is unchanged. [`read_number`] reads a number below 10^10
+/// back.
 pub fn write_number<A: Allocator + Copy>(number: u64, out: &mut Vec<u8, A>) -> Result<(), Memory>
     ensures ok { OnOk result (out.new.items ≡ out.old.items ++ decimal number) }
     ensures err { OnErr result (out.new.items ≡ out.old.items) }

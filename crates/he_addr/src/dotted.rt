@@ -1,12 +1,12 @@
-// A quick reader of IPv4 texts. What it reads it reads as the standard library's reader does, which is asked for every
-// text that is refused here.
+// A fast reader of IPv4 texts. It agrees with the standard library's reader, which reads every text that this one
+// refuses.
 
 ghost use Rattle.std.specs.Prelude.{◌≡◌, ℕ, ◌+◌, ◌<◌, ◌++◌, ◌∷◌, [], IfSome, decimal};
 ghost use Rattle.he_addr.specs.Reading.{v4_in};
 
 const DOT: u8 = b'.';
 
-// The value of a decimal digit. One comparison tells it from every other byte.
+// The value of a decimal digit. One comparison rejects every other byte.
 fn digit(byte: u8) -> Option<u32>
     ensures { IfSome result (λ value. (value < 10) × (byte ≡ 48 + value)) }
 {
@@ -50,8 +50,8 @@ fn three(a: u8, b: u8, c: u8) -> Option<u8>
     }
 }
 
-// The number before the first dot, and what follows the dot. The dot is looked for first, so that no digit is read
-// before it is known how many there are.
+// The number before the first dot, and the text after the dot. The match finds the dot first, so the number of digits
+// is known before any is read.
 fn octet(text: &[u8]) -> Option<(u8, &[u8])>
     ensures { IfSome result (λ read. (read.0 < 256) × (text.now ≡ decimal read.0 ++ 46 ∷ read.1.now)) }
 {
@@ -63,7 +63,7 @@ fn octet(text: &[u8]) -> Option<(u8, &[u8])>
     }
 }
 
-// The number that is the whole text.
+// Reads the whole text as one number.
 fn last_octet(text: &[u8]) -> Option<u8>
     ensures { IfSome result (λ n. (n < 256) × (text.now ≡ decimal n)) }
 {
@@ -75,7 +75,7 @@ fn last_octet(text: &[u8]) -> Option<u8>
     }
 }
 
-// The number of an IPv4 text.
+// Reads an IPv4 text as a number.
 pub(crate) fn read_dotted(text: &[u8]) -> Option<u32>
     ensures { IfSome result (λ n. v4_in text.now ≡ Some n) }
 {

@@ -1,6 +1,5 @@
-// A quick reader of IPv6 texts: of groups joined by colons, with `::` at most once. What it reads it reads as the
-// standard library's reader does, which is asked for every text that is refused here, as one with an IPv4 text at its
-// end.
+// A fast reader of IPv6 texts: groups joined by colons, with `::` at most once. It agrees with the standard library's
+// reader, which reads every text that this one refuses, such as one that ends in an IPv4 text.
 
 ghost use Rattle.std.specs.Prelude.{◌≡◌, ◌<◌, ◌≤◌, ◌∷◌, IfSome, Some, length, slice_index, take};
 ghost use Rattle.std.specs.Char.{digit_value};
@@ -14,8 +13,8 @@ const GROUPS: u32 = 8;
 
 const GROUP_BITS: u32 = 16;
 
-// The value of each byte as a hexadecimal digit, 16 for a byte that is none. One look into it stands for comparisons
-// with the three ranges of digits, which a colon would have to fail too.
+// The value of each byte as a hexadecimal digit, 16 for every other byte. One look-up replaces comparisons with the
+// three ranges of digits, all of which a colon would have to fail.
 static VALUES: [u8; 256] = [
     16, 16, 16, 16, 16, 16, 16, 16, 16, 16, 16, 16, 16, 16, 16, 16, 16, 16, 16, 16, 16, 16, 16, 16,
     16, 16, 16, 16, 16, 16, 16, 16, 16, 16, 16, 16, 16, 16, 16, 16, 16, 16, 16, 16, 16, 16, 16, 16,
@@ -42,7 +41,7 @@ fn digit(byte: u8) -> Option<u32>
     }
 }
 
-// The value of the digit at this place.
+// The value of the hexadecimal digit at this place.
 fn digit_at(text: &[u8], at: usize) -> Option<u32>
     ensures { IfSome result
         (λ value. (at < length text.now) × (value < 16) × (digit_value (slice_index text.now at) ≡ value)) }
@@ -54,7 +53,7 @@ fn digit_at(text: &[u8], at: usize) -> Option<u32>
     }
 }
 
-// The value of the one to four digits at the front, and how many they are: a fifth is no part of them.
+// The value of the first one to four hexadecimal digits, and their number. A fifth digit is left unread.
 fn digits(text: &[u8]) -> Option<(u32, usize)>
     ensures { IfSome result
         (λ read. (read.0 < 65536) × (read.1 ≤ length text.now) × IsGroup (take read.1 text.now) read.0) }
@@ -74,7 +73,7 @@ fn digits(text: &[u8]) -> Option<(u32, usize)>
     Some((three * 16 + fourth, 4))
 }
 
-// The value of the group at the front, and what follows it.
+// The value of the first group, and the text after it.
 fn group(text: &[u8]) -> Option<(u32, &[u8])>
     ensures { IfSome result (λ read. IsFront text.now read.1.now read.0) }
 {
@@ -82,12 +81,12 @@ fn group(text: &[u8]) -> Option<(u32, &[u8])>
     Some((value, &text[len..]))
 }
 
-// Whether no group follows: the text ends here, or with `::` a gap begins.
+// Whether no group follows: the text ends here, or `::` comes next.
 fn ends(text: &[u8]) -> bool {
     matches!(text, [] | [COLON, COLON, ..])
 }
 
-// What follows a colon.
+// The text after a leading colon.
 fn behind_colon(text: &[u8]) -> Option<&[u8]>
     ensures { IfSome result (λ rest. text.now ≡ 58 ∷ rest.now) }
 {
@@ -97,14 +96,14 @@ fn behind_colon(text: &[u8]) -> Option<&[u8]>
     }
 }
 
-// Some groups of a text: their number, the first group the highest, and how many they are.
+// Some groups of a text: their value, the first group the most significant, and their count.
 #[derive(Clone, Copy)]
 struct Side {
     number: u128,
     count: u32,
 }
 
-// The groups at the front, at least one and at most eight, and what follows them. A group is sixteen bits.
+// The groups at the front, one to eight, and the text after them. A group is 16 bits.
 fn groups(text: &[u8]) -> Option<(Side, &[u8])>
     ensures { IfSome result (λ read. IsSide text.now read.1.now read.0.number read.0.count) }
 {
@@ -127,7 +126,7 @@ fn groups(text: &[u8]) -> Option<(Side, &[u8])>
     None
 }
 
-// The groups on one side of `::`, or of a text without it: there may be none.
+// The groups on one side of `::`, or all groups of a text without it; there may be none.
 fn read_side(text: &[u8]) -> Option<(Side, &[u8])>
     ensures { IfSome result (λ read. IsSide text.now read.1.now read.0.number read.0.count) }
 {
@@ -144,7 +143,7 @@ fn read_side(text: &[u8]) -> Option<(Side, &[u8])>
     }
 }
 
-// The number of an IPv6 text.
+// Reads an IPv6 text as a number.
 pub(crate) fn read_groups(text: &[u8]) -> Option<u128>
     ensures { IfSome result (λ n. v6_in text.now ≡ Some n) }
 {

@@ -1,4 +1,4 @@
-// Addresses: family, number, scope, and whether one can be connected to.
+// Addresses: family, number, scope, and whether a client can connect to one.
 
 ghost use Rattle.std.specs.Prelude.{◌≡◌};
 ghost use Rattle.he_addr.specs.Ip.{family_of, mapped_of, scope_of, is_usable, InRange};
@@ -22,7 +22,7 @@ pub enum Family {
     V6,
 }
 
-/// An IPv4 or IPv6 address. `::ffff:192.0.2.1` is an IPv6 address and not equal to `192.0.2.1`.
+/// An IPv4 or IPv6 address. `::ffff:192.0.2.1` is an IPv6 address and differs from `192.0.2.1`.
 #[derive(Clone, Copy, Debug, PartialEq, Eq, PartialOrd, Ord, Hash)]
 pub enum Ip {
     V4(u32),
@@ -30,14 +30,14 @@ pub enum Ip {
 }
 
 impl Ip {
-    /// The IPv4 address with this number, its first byte the highest.
+    /// The IPv4 address with this number, its first byte the most significant.
     pub fn v4(number: u32) -> Ip
         ensures { result ≡ Ip.V4 number }
     {
         Self::V4(number)
     }
 
-    /// The IPv6 address with this number, its first byte the highest.
+    /// The IPv6 address with this number, its first byte the most significant.
     pub fn v6(number: u128) -> Ip
         ensures { result ≡ Ip.V6 number }
     {
@@ -54,7 +54,7 @@ impl Ip {
         }
     }
 
-    /// The number as an IPv6 address: an IPv4 address as its IPv4-mapped one (RFC 4291 section 2.5.5.2).
+    /// The address as an IPv6 number; an IPv4 address as its IPv4-mapped one (RFC 4291 section 2.5.5.2).
     pub fn mapped(self) -> u128
         ensures { result ≡ mapped_of self }
     {
@@ -77,8 +77,8 @@ impl Ip {
         }
     }
 
-    /// Whether the address can be connected to: not the unspecified address of either family, not multicast
-    /// (`224.0.0.0/4`, `ff00::/8`) and not an IPv6 address in `::ffff:0:0/96`.
+    /// Whether a client can connect to the address: it is not the unspecified address, not multicast (`224.0.0.0/4`,
+    /// `ff00::/8`) and not an IPv6 address in `::ffff:0:0/96`.
     pub fn is_usable(self) -> bool
         ensures usable { result ≡ is_usable self }
         ensures range { InRange self }

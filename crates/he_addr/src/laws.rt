@@ -1,4 +1,4 @@
-// Laws of the texts, each the contract of a function that runs nothing.
+// Laws of the texts. Each is the contract of a function that runs nothing.
 
 ghost use Rattle.std.specs.Prelude.{◌≡◌};
 ghost use Rattle.he_addr.specs.Laws.{SpellsOneNumber, SpellsOneAddress, SpellsOneSource, SpellsOnePrefix, PrintsOneText, PrintsOneSource, PrintsOnePrefix, NumbersReadBack, AddressesReadBack, SourcesReadBack, PrefixesReadBack, NumbersAreTokens, AddressesAreTokens, SourcesAreTokens, PrefixesAreTokens};
@@ -25,8 +25,8 @@ pub fn one_text()
     ensures prefix { PrintsOnePrefix }
 {}
 
-/// What is written of a number below 10 to the tenth, an address, a source and a prefix spells it, and is read as it.
-/// Runs nothing.
+/// The written text of a number below 10^10, of an address, a source or a prefix spells that value, and the readers
+/// read it back. Runs nothing.
 pub fn reads_back()
     ensures number { NumbersReadBack }
     ensures address { AddressesReadBack }
@@ -34,7 +34,7 @@ pub fn reads_back()
     ensures prefix { PrefixesReadBack }
 {}
 
-/// What is written of these is not empty and has neither a space nor an LF. Runs nothing.
+/// The written text of each of these is not empty and has neither a space nor an LF. Runs nothing.
 pub fn tokens()
     ensures number { NumbersAreTokens }
     ensures address { AddressesAreTokens }
@@ -42,7 +42,7 @@ pub fn tokens()
     ensures prefix { PrefixesAreTokens }
 {}
 
-/// The program's constants are the numbers of the definitions (`specs/Ranges.antt`). Runs nothing.
+/// The constants of the code are those of the definitions (`specs/Ranges.antt`). Runs nothing.
 pub fn ranges()
     ensures widths { (V4_BITS ≡ v4_bits) × (V6_BITS ≡ v6_bits) × (MAPPED_LEN ≡ mapped_len) }
     ensures scopes { (LINK_LOCAL_SCOPE ≡ link_local_scope) × (SITE_LOCAL_SCOPE ≡ site_local_scope)

@@ -1,4 +1,4 @@
-// A text cut at a mark.
+// Splits a text at a mark.
 
 ghost use Rattle.std.specs.Prelude.{◌≡◌, ◌==◌, position};
 ghost use Rattle.std.specs.Option.{option_map};
@@ -10,7 +10,7 @@ fn find(text: &[u8], mark: u8) -> Option<usize>
     text.iter().position(|byte| *byte == mark)
 }
 
-// What stands before the first mark, and what stands after it.
+// The text before the first mark, and the text after it.
 #[tactic(auto, unfolding(crate::specs::Reading::cut_in))]
 pub(crate) fn cut(text: &[u8], mark: u8) -> Option<(&[u8], &[u8])>
     ensures { option_map (λ parts. (parts.0.now, parts.1.now)) result ≡ cut_in mark text.now }

@@ -1,4 +1,4 @@
-// Address prefixes and the common part of two addresses.
+// Address prefixes.
 
 ghost use Rattle.std.specs.Prelude.{◌≡◌, ◌-◌, ◌%◌, ◌^◌, ◌≤◌, ◌==◌, IfSome, IfNone};
 ghost use Rattle.he_addr.specs.Bits.{agrees};
@@ -14,19 +14,19 @@ pub const V6_BITS: u8 = 128;
 /// The number of bits of an IPv4 address.
 pub const V4_BITS: u8 = 32;
 
-/// The length of `::ffff:0:0/96`, the prefix of the mapped IPv4 addresses.
+/// The length of `::ffff:0:0/96`, the prefix of the IPv4-mapped addresses.
 pub const MAPPED_LEN: u8 = V6_BITS - V4_BITS;
 
-/// An address prefix: its first `len` bits over IPv6 numbers, the bits past them zero. An IPv4 prefix of length n is
-/// the mapped prefix of length 96 + n, so `0.0.0.0/0` and `::ffff:0:0/96` are one prefix.
+/// An address prefix: the first `len` bits of an IPv6 number; the bits past them are zero. An IPv4 prefix of length n
+/// is the mapped prefix of length 96 + n, so `0.0.0.0/0` and `::ffff:0:0/96` are one prefix.
 #[derive(Clone, Copy)]
 #[derive_where(Debug, PartialEq, Eq)]
 pub struct Prefix {
     bits: u128,
     len: u8,
 
-    // The last number that begins with the prefix. With it two comparisons tell whether an address does, which costs
-    // less than shifts.
+    // The last number that begins with the prefix. Two comparisons with the bounds test an address, which costs less
+    // than shifts.
     #[derive_where(skip)]
     last: u128,
 }
@@ -50,7 +50,7 @@ impl Model for Prefix {
 impl Prefix {
     ghost use Rattle.he_addr.specs.Reading.{checked};
 
-    /// The prefix of the first `len` bits of `bits`; the bits past them are zero.
+    /// The prefix of the first `len` bits of `bits`; the other bits must be zero.
     pub fn new(bits: u128, len: u8) -> Prefix
         requires { IsPrefix bits len }
         ensures { result ≡ record { bits = bits; len = len } }
@@ -62,7 +62,7 @@ impl Prefix {
         }
     }
 
-    /// The prefix of the first `len` bits of `bits`: None where `len` is above 128 or a bit past the length is set.
+    /// The prefix of the first `len` bits of `bits`. None if `len` is above 128 or a bit past the length is set.
     pub fn try_new(bits: u128, len: u8) -> Option<Prefix>
         ensures value { result ≡ checked (record { bits = bits; len = len }) }
         ensures found { IfSome result (λ prefix. (prefix.bits ≡ bits) × (prefix.len ≡ len) × IsPrefix bits len) }
@@ -74,14 +74,14 @@ impl Prefix {
         Some(Prefix::new(bits, len))
     }
 
-    /// The bits, the first one the highest.
+    /// The bits of the prefix, the first one the most significant.
     pub fn bits(self) -> u128
         ensures { result ≡ self.bits }
     {
         self.bits
     }
 
-    /// The number of bits that count, at most 128.
+    /// The length of the prefix in bits, at most 128.
     pub fn len(self) -> u8
         ensures length { result ≡ self.len }
         ensures prefix { IsPrefix self.bits self.len }
@@ -89,15 +89,15 @@ impl Prefix {
         self.len
     }
 
-    /// Whether the address, an IPv4 address as its mapped one, begins with this prefix.
+    /// Whether the address begins with this prefix; an IPv4 address counts as its mapped one.
     pub fn contains(self, ip: Ip) -> bool
         ensures { result ≡ contains self ip }
     {
         self.begins(ip.mapped())
     }
 
-    /// Whether the number, of an address as [`Ip::mapped`] gives it, begins with this prefix. Who asks many prefixes
-    /// about one address makes its number once.
+    /// Whether the number of an address ([`Ip::mapped`]) begins with this prefix. To test one address against many
+    /// prefixes, compute its number once.
     #[tactic(auto, using(crate::proofs::Between::before_first))]
     pub fn begins(self, number: u128) -> bool
         ensures { result ≡ agrees 128 number self.bits self.len }
@@ -105,7 +105,7 @@ impl Prefix {
         number >= self.bits && number <= self.last
     }
 
-    /// Whether the prefix lies inside `::ffff:0:0/96`, so that it holds IPv4 addresses alone.
+    /// Whether the prefix is inside `::ffff:0:0/96`, so that it contains only IPv4 addresses.
     pub fn is_v4(self) -> bool
         ensures { result ≡ is_inside_mapped self }
     {
@@ -113,7 +113,7 @@ impl Prefix {
     }
 }
 
-// The number with all bits past the length set.
+// The number whose bits past the length are all set.
 fn free_ones(len: u8) -> u128
     requires { len ≤ V6_BITS }
     ensures { result ≡ 2 ^ (128 - len) - 1 }

@@ -1,17 +1,17 @@
-// Texts made from their end to their front, in a buffer of fixed size: the least digit of a number comes first out of
-// a division, and no length has to be known before. Each call takes where the text in the buffer begins, and answers
-// where it begins then; what is in front of it there stays as it was.
+// Texts written from their end to their front, in a buffer of fixed size: division yields the least digit of a number
+// first, and no length has to be known before. Each call takes the index at which the text in the buffer begins, and
+// returns the new one. The bytes before that index are unchanged.
 
 ghost use Rattle.std.specs.Prelude.{◌≡◌, ◌+◌, ◌<◌, ◌≤◌, ◌∷◌, [], length, decimal};
 ghost use Rattle.he_addr.specs.Prepending.{Prepends};
 
 use itoa::write_digits;
 
-/// The most digits of a number of 64 bits.
+/// The maximum number of digits of a 64-bit number.
 pub const WIDEST_NUMBER: usize = 20;
 
-/// Puts a byte in front of the text that stands in the buffer from `end` on, where there is room for it, and answers
-/// where the text begins then.
+/// Puts a byte before the text that begins at `end` in the buffer, and returns the new start of the text. The buffer
+/// must have room for it.
 #[inline(always)]
 pub fn prepend_byte(byte: u8, buffer: &mut [u8], end: usize) -> usize
     requires { (0 < end) × (end ≤ length buffer.old) }
@@ -22,8 +22,8 @@ pub fn prepend_byte(byte: u8, buffer: &mut [u8], end: usize) -> usize
     start
 }
 
-/// Puts bytes in front of the text that stands in the buffer from `end` on, where there is room for them, and answers
-/// where the text begins then.
+/// Puts bytes before the text that begins at `end` in the buffer, and returns the new start of the text. The buffer
+/// must have room for them.
 #[inline(always)]
 pub fn prepend_bytes(part: &[u8], buffer: &mut [u8], end: usize) -> usize
     requires { (length part.now ≤ end) × (end ≤ length buffer.old) }
@@ -34,8 +34,8 @@ pub fn prepend_bytes(part: &[u8], buffer: &mut [u8], end: usize) -> usize
     start
 }
 
-/// Puts the number, in decimal, in front of the text that stands in the buffer from `end` on, where there is room for
-/// the most digits, and answers where the text begins then.
+/// Puts the number, in decimal, before the text that begins at `end` in the buffer, and returns the new start of the
+/// text. The buffer must have room for [`WIDEST_NUMBER`] bytes.
 #[inline]
 pub fn prepend_number(number: u64, buffer: &mut [u8], end: usize) -> usize
     requires { (WIDEST_NUMBER ≤ end) × (end ≤ length buffer.old) }

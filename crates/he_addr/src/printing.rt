@@ -1,4 +1,4 @@
-// Texts of addresses, made in a buffer from its end to its front.
+// Texts of addresses, written into a buffer from its end to its front.
 
 ghost use Rattle.std.specs.Prelude.{◌≡◌, ◌+◌, ◌-◌, ◌*◌, ◌/◌, ◌%◌, ◌^◌, ◌<◌, ◌≤◌, ◌++◌, ◌∷◌, [], length, false, decimal};
 ghost use Rattle.std.specs.Fmt.{digit_glyph};
@@ -10,10 +10,10 @@ use crate::ip::Ip;
 use crate::prepending::prepend_byte;
 use itoa::write_digits;
 
-/// The most bytes of the text of an address.
+/// The maximum length of the text of an address, in bytes.
 pub const ADDRESS_LEN: usize = 39;
 
-/// The most bytes of the text of a prefix or a source: an address, `/` and three digits.
+/// The maximum length of the text of a prefix or a source, in bytes: an address, `/` and three digits.
 pub const PREFIX_LEN: usize = 43;
 
 const COLON: u8 = b':';
@@ -22,19 +22,19 @@ const DOT: u8 = b'.';
 
 pub(crate) const SLASH: u8 = b'/';
 
-// The groups of an IPv6 address.
+// The number of groups of an IPv6 address.
 const GROUPS: usize = 8;
 
-// The most digits of a group.
+// The maximum number of digits of a group.
 const GROUP_DIGITS: usize = 4;
 
-// The most bytes that a group takes in a text, with the colon behind it.
+// The maximum number of bytes of a group in a text, with the colon after it.
 const GROUP_LEN: usize = 5;
 
-// The most digits of a number up to 255.
+// The maximum number of digits of a number up to 255.
 const BYTE_DIGITS: usize = 3;
 
-// Zero groups that stand side by side.
+// A run of consecutive zero groups.
 #[derive(Clone, Copy)]
 struct ZeroGroups {
     start: usize,
@@ -93,7 +93,7 @@ fn digit(value: u16) -> u8
     }
 }
 
-// The last digit first, then those before it.
+// Writes the last digit first, then those before it.
 fn prepend_group(group: u16, buffer: &mut [u8], end: usize) -> usize
     requires { (length (hex group) ≤ end) × (end ≤ length buffer.old) }
     ensures { Prepends buffer.old end buffer.new result (hex group) }
@@ -105,7 +105,7 @@ fn prepend_group(group: u16, buffer: &mut [u8], end: usize) -> usize
     prepend_group(group / 16, buffer, start)
 }
 
-// The groups, parted by colons.
+// The groups, joined by colons.
 fn prepend_groups(groups: &[u16], buffer: &mut [u8], end: usize) -> usize
     requires { (GROUP_LEN * length groups.now - 1 ≤ end) × (end ≤ length buffer.old) }
     ensures joined { Prepends buffer.old end buffer.new result (joined groups.now) }
@@ -161,7 +161,7 @@ fn prepend_v4(number: u32, buffer: &mut [u8], end: usize) -> usize
     prepend_dotted(first, buffer, start)
 }
 
-// A number up to 255 and the dot behind it.
+// A number up to 255 and the dot after it.
 fn prepend_dotted(byte: u8, buffer: &mut [u8], end: usize) -> usize
     requires { (BYTE_DIGITS < end) × (end ≤ length buffer.old) }
     ensures written { Prepends buffer.old end buffer.new result (decimal byte ++ 46 ∷ []) }
@@ -171,9 +171,9 @@ fn prepend_dotted(byte: u8, buffer: &mut [u8], end: usize) -> usize
     prepend_small(byte, buffer, dot)
 }
 
-/// Puts the text of the address, as [`write_ip`](crate::write_ip) appends it (RFC 5952 section 4), in front of the
-/// text that stands in the buffer from `end` on, where there is room for the longest address, and answers where the
-/// text begins then.
+/// Puts the text of the address (RFC 5952 section 4), as [`write_ip`](crate::write_ip) appends it, before the text
+/// that begins at `end` in the buffer, and returns the new start of the text. The buffer must have room for
+/// [`ADDRESS_LEN`] bytes.
 pub fn prepend_ip(ip: Ip, buffer: &mut [u8], end: usize) -> usize
     requires { (ADDRESS_LEN ≤ end) × (end ≤ length buffer.old) }
     ensures written { Prepends buffer.old end buffer.new result (printed ip) }

@@ -1,4 +1,4 @@
-// Addresses, sources and prefixes read from texts.
+// Reads addresses, sources and prefixes from texts.
 
 ghost use Rattle.std.specs.Prelude.{◌≡◌, ◌≤◌, ℕ, IfSome, IfNone};
 ghost use Rattle.he_addr.specs.Ip.{InRange, family_of};
@@ -15,11 +15,11 @@ use crate::prefix::{MAPPED_LEN, Prefix, V4_BITS, V6_BITS};
 use crate::printing::SLASH;
 use std::net::{IpAddr, Ipv4Addr, Ipv6Addr};
 
-/// The most digits of a prefix length in the texts.
+/// The maximum number of digits of a prefix length.
 pub const LENGTH_DIGITS: usize = 3;
 
-/// The address that a text spells; None for every other text. An IPv4 text is four decimal numbers up to 255 without
-/// leading zeros, joined by dots; an IPv6 text is one of RFC 4291 section 2.2, without a zone index.
+/// Reads an address. None if the text is not one. An IPv4 text is four decimal numbers up to 255 without leading
+/// zeros, joined by dots; an IPv6 text is one of RFC 4291 section 2.2, without a zone index.
 #[tactic(auto, using(crate::proofs::NetTexts::ip_in_text, crate::proofs::NetTexts::ip_in_no_text))]
 pub fn read_ip(text: &[u8]) -> Option<Ip>
     ensures value { result ≡ ip_in text.now }
@@ -51,8 +51,8 @@ fn parse_ip_of(family: Family, text: &[u8]) -> Option<Ip>
     }
 }
 
-/// The address of this family that a text spells, as [`read_ip`] reads it; None for every other text. Only the reader
-/// of the family looks at the text.
+/// Reads an address of this family, as [`read_ip`] does. None for every other text. Only the reader of that family
+/// runs.
 pub fn read_ip_of(family: Family, text: &[u8]) -> Option<Ip>
     ensures value { result ≡ ip_of_in family text.now }
     ensures found { IfSome result (λ ip. Spells text.now ip × (family_of ip ≡ family)) }
@@ -62,7 +62,7 @@ pub fn read_ip_of(family: Family, text: &[u8]) -> Option<Ip>
     parse_ip_of(family, text)
 }
 
-// The number of the IPv4 address that a text spells.
+// Reads an IPv4 text as a number.
 #[tactic(auto, using(crate::proofs::NetTexts::v4_in_text, crate::proofs::NetTexts::v4_in_no_text))]
 fn read_v4(text: &[u8]) -> Option<u32>
     ensures { result ≡ v4_in text.now }
@@ -76,7 +76,7 @@ fn read_v4(text: &[u8]) -> Option<u32>
     }
 }
 
-// The number of the IPv6 address that a text spells.
+// Reads an IPv6 text as a number.
 #[tactic(auto, using(crate::proofs::NetTexts::v6_in_text, crate::proofs::NetTexts::v6_in_no_text))]
 fn read_v6(text: &[u8]) -> Option<u128>
     ensures { result ≡ v6_in text.now }
@@ -90,7 +90,7 @@ fn read_v6(text: &[u8]) -> Option<u128>
     }
 }
 
-// The bits of an address of this family.
+// The number of bits of an address of this family.
 fn width(ip: Ip) -> u8
     ensures { result ≡ width_of ip }
 {
@@ -114,9 +114,8 @@ fn parse_source(text: &[u8]) -> Option<(Ip, u8)>
     Some((ip, len as u8))
 }
 
-/// The address and the prefix length that a source text spells: an address, `/`, and a length of one to three digits
-/// without leading zeros, at most 32 for IPv4 and 128 for IPv6. Bits past the length are free. None for every other
-/// text.
+/// Reads a source text: an address, `/`, and a length of one to three digits without leading zeros, at most 32 for
+/// IPv4 and 128 for IPv6. Bits past the length may be set. None for every other text.
 pub fn read_source(text: &[u8]) -> Option<(Ip, u8)>
     ensures value { result ≡ source_in text.now }
     ensures found { IfSome result (λ source. SpellsSource text.now source.0 source.1) }
@@ -137,8 +136,8 @@ fn parse_prefix(text: &[u8]) -> Option<Prefix>
     }
 }
 
-/// The prefix that a text spells: a source text with no bit set past the length. An IPv4 prefix of length n is the
-/// mapped prefix of length 96 + n. None for every other text.
+/// Reads a prefix: a source text with no bit set past the length. An IPv4 prefix of length n is the mapped prefix of
+/// length 96 + n. None for every other text.
 pub fn read_prefix(text: &[u8]) -> Option<Prefix>
     ensures value { result ≡ prefix_in text.now }
     ensures found { IfSome result (λ prefix. SpellsPrefix text.now prefix) }

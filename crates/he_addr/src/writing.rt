@@ -1,4 +1,4 @@
-// Addresses, sources and prefixes written to texts.
+// Writes addresses, sources and prefixes to texts.
 
 ghost use Rattle.std.specs.Prelude.{◌≡◌, ◌++◌, OnOk, OnErr};
 ghost use Rattle.he_addr.specs.Prefix.{width_of};
@@ -10,8 +10,9 @@ use crate::prefix::{MAPPED_LEN, Prefix};
 use crate::printing::{ADDRESS_LEN, PREFIX_LEN, prepend_ip, prepend_source};
 use std::alloc::{AllocError as Memory, Allocator};
 
-/// Appends the text of the address (RFC 5952 section 4): for IPv6 lower case, no leading zeros in a group, `::` for
-/// the first of the longest runs of at least two zero groups, no dotted part. After [`Memory`] the text is as it was.
+/// Appends the text of the address (RFC 5952 section 4): IPv6 in lower case, without leading zeros in a group, with
+/// `::` for the first of the longest runs of at least two zero groups, and without a dotted part. On [`Memory`] the
+/// text is unchanged.
 pub fn write_ip<A: Allocator + Copy>(ip: Ip, out: &mut Vec<u8, A>) -> Result<(), Memory>
     ensures ok { OnOk result (out.new.items ≡ out.old.items ++ printed ip) }
     ensures text { IsPrinted ip (printed ip) }
@@ -23,7 +24,7 @@ pub fn write_ip<A: Allocator + Copy>(ip: Ip, out: &mut Vec<u8, A>) -> Result<(),
     Ok(())
 }
 
-/// Appends the address, `/` and the length. After [`Memory`] the text is as it was.
+/// Appends the address, `/` and the length. On [`Memory`] the text is unchanged.
 pub fn write_source<A: Allocator + Copy>(
     ip: Ip,
     len: u8,
@@ -39,8 +40,8 @@ pub fn write_source<A: Allocator + Copy>(
     Ok(())
 }
 
-/// Appends the text of the prefix, its bits, `/` and its length: with `dotted` a prefix of IPv4 addresses in IPv4
-/// form, and every other one in IPv6 form. After [`Memory`] the text is as it was.
+/// Appends the prefix: its bits as an address, `/` and its length. With `dotted`, a prefix of IPv4 addresses is in
+/// IPv4 form; every other prefix is in IPv6 form. On [`Memory`] the text is unchanged.
 pub fn write_prefix<A: Allocator + Copy>(
     prefix: Prefix,
     dotted: bool,

@@ -1,4 +1,4 @@
--- What a server's answer is an event of.
+-- The log event for a server's answer.
 use Rattle.std.specs.Prelude.{Option, Some, None, Ok, Err, length, map}
 use Rattle.std.specs.declared.net.socket_addr.SocketAddr.{SocketAddr}
 use Rattle.he_addr.specs.declared.ip.Family.{Family}
@@ -10,7 +10,7 @@ use Rattle.he_settings.specs.declared.fault.NamesFault.TheVariants as faults
 use Rattle.he_asking.specs.declared.log.LookupEventKind.{LookupEventKind}
 use Rattle.he_asking.specs.declared.log.LookupEventKind.TheVariants as events
 
--- none of a fault of this machine
+-- a fault of this machine has no event
 abbrev pub event_of_fault : SocketAddr → NamesFault → Option LookupEventKind
 event_of_fault server faults.NoAddress = Some (events.NoAddress server)
 event_of_fault server faults.NoSuchName = Some (events.NoSuchName server)
@@ -18,7 +18,7 @@ event_of_fault server faults.NoAnswer = Some (events.Silent server)
 event_of_fault server (faults.Server fault) = Some (events.Failed fault)
 event_of_fault server fault = None
 
--- of addresses how many count: each that is meant once, and at most 256
+-- the event of addresses has their number: each counts once with unspecified ones replaced, at most 256
 abbrev pub event_of : Family → SocketAddr → Heard → Option LookupEventKind
 event_of family server (Ok answer) =
     Some (events.Addresses (length (cleaned family (map meant_by answer.addresses.items))) server)

@@ -1,4 +1,4 @@
--- Which sources of events a query waits for, of its socket and its timer.
+-- The sources of events that a query waits for: its socket and its timer.
 use Rattle.std.specs.Prelude.{ℕ, ◌≡◌, ◌⊎◌, ⊤, IsSomeAnd}
 use Rattle.futures.specs.Task.{Covers}
 use Rattle.futures.specs.declared.task.context.Context.{Context}
@@ -12,7 +12,7 @@ use Rattle.he_asking.specs.declared.streams.Stage.TheVariants.{Connecting, Sendi
 use Rattle.he_asking.specs.declared.streams.StageOutcome.{StageOutcome}
 use Rattle.he_asking.specs.declared.streams.StageOutcome.TheVariants as steps
 
--- over TCP: for the connection, for room to send in, or for what comes
+-- over TCP: the connection, room to send, or bytes to read
 abbrev pub stage_needs : Stage → ℕ → Type 0
 stage_needs (Connecting connecting request) s = ConnectNeeds (connect_state connecting) s
 stage_needs (Sending sending) s = IsSomeAnd sending.state (λ w. s ≡ stream_writable w.0)
@@ -20,16 +20,16 @@ stage_needs (Length reading) s = IsSomeAnd reading.state (λ r. s ≡ stream_rea
 stage_needs (Message reading) s = IsSomeAnd reading.state (λ r. s ≡ stream_readable r.reader)
 stage_needs Over s = ⊥
 
--- a step that waits has registered for all that its stage waits for
+-- a waiting step has registered for all that its stage waits for
 abbrev pub CoversWait : Context → StageOutcome → Type 0
 CoversWait cx (steps.Waits stage) = Covers cx (stage_needs stage)
 CoversWait cx other = ⊤
 
--- over UDP: for what comes
+-- over UDP: a datagram to read
 abbrev pub transport_needs : Transport → ℕ → Type 0
 transport_needs (transports.Datagrams query) s = s ≡ stream_readable query.socket
 transport_needs (transports.Stream query) s = stage_needs query.stage s
 
--- and for the time at which it is sent again
+-- and the time of the next send
 unfoldable pub query_needs : Query → ℕ → Type 0
 query_needs query s = transport_needs query.transport s ⊎ (s ≡ sleep_source query.timer)

@@ -1,5 +1,5 @@
--- What a message comes to that may answer a question, by what he_dns says of it.
-use Rattle.std.specs.Prelude.{◌≡◌, ◌<◌, ◌⊎◌, ◌==◌, ⊤, ℕ, Bool, true, false, List, [], Option, Some, None, length, if◌then◌else◌}
+-- The reply that a message makes to a question, by he_dns.
+use Rattle.std.specs.Prelude.{◌≡◌, ◌<◌, ◌⊎◌, ◌==◌, ⊤, ℕ, true, List, [], Option, Some, None, length, if◌then◌else◌}
 use Rattle.std.specs.Global.{Global}
 use Rattle.he_addr.specs.declared.ip.Family.{Family}
 use Rattle.he_dns.specs.declared.answer.Answer.{Answer}
@@ -15,7 +15,7 @@ use Rattle.he_settings.specs.declared.failure.Failure.TheVariants as failures
 use Rattle.he_asking.specs.declared.replies.Reply.{Reply}
 use Rattle.he_asking.specs.declared.replies.Reply.TheVariants as replies
 
--- the failure that a response code tells (RFC 1035 section 4.1.1, RFC 6891 section 9)
+-- the failure of a response code (RFC 1035 section 4.1.1, RFC 6891 section 9)
 abbrev pub failure_of : ℕ → Failure
 failure_of code = if code == 1 then failures.FormatError
     else if code == 2 then failures.ServerFailure
@@ -24,12 +24,12 @@ failure_of code = if code == 1 then failures.FormatError
     else if code == 16 then failures.BadVersion
     else failures.Code code
 
--- a server that says of a query with an OPT record that it can't read one is asked without one from then on
+-- a server that answers that it can't read a query with an OPT record is asked without one from then on
 abbrev pub LeavesOut : Reply → Option ℕ → Option ℕ → Type 0
 LeavesOut (replies.Failure failure) (Some room) left = is_of_room failure ≡ true → left ≡ None
 LeavesOut reply room left = ⊤
 
--- one that is cut off is asked for again; there is no such name; else the server failed
+-- a truncated answer is asked for again; there is no such name; otherwise the server failed
 abbrev pub fault_reply : AnswerFault → Reply
 fault_reply answers.Truncated = replies.Truncated
 fault_reply answers.NoSuchName = replies.NoSuchName
@@ -48,7 +48,8 @@ TellsAnswer message answer (replies.Failure failure) =
     (answer.addresses.items ≡ []) × IsLame message × (failure ≡ failures.Lame)
 TellsAnswer message answer other = ⊥
 
--- a message of another question, or none, is passed over, unless the server refuses without its question
+-- a message for another question, or without one, is ignored, unless the server refuses without repeating the
+-- question
 abbrev pub StrangeReply : List ℕ → ℕ → Option Reply → Type 0
 StrangeReply message id None = (code : ℕ) → IsRefusal message id code → ⊥
 StrangeReply message id (Some reply) =
@@ -58,7 +59,7 @@ abbrev pub FaultReply : List ℕ → ℕ → AnswerFault → Option Reply → Ty
 FaultReply message id answers.NotOurs reply = StrangeReply message id reply
 FaultReply message id fault reply = reply ≡ Some (fault_reply fault)
 
--- the message answers addresses, or has a fault
+-- the message has addresses, or a fault
 abbrev pub ComesTo : List ℕ → ℕ → List ℕ → Family → Option Reply → Type 0
 ComesTo message id name family reply =
     ((answer : Answer Global) × (told : Reply) × Answers message id name family answer.addresses.items

@@ -21,22 +21,22 @@ use std::os::fd::OwnedFd;
 use std::random::RandomSource;
 use tokio::net::TcpStream;
 
-// A query, and the socket at which its answer comes.
+// A query, and the socket for its answer.
 #[derive(Drop)]
 pub(crate) struct Datagrams {
     socket: TcpStream,
     id: u16,
     query: Vec<u8>,
     room: Vec<u8>,
-    // Whether it left this machine at first.
+    // Whether the first send succeeded.
     is_sent: bool,
 }
 
 impl Datagrams {
-    // Sends the query from a port that the kernel chooses; None where there is no way to the server. One that can't be
-    // sent, as where a firewall lets no more through, is as one that is lost. The socket is connected, so no datagram
-    // of another peer is seen. The event loop has no UDP of its own: its stream reads by `recv` and writes by `send`,
-    // which serve a connected socket as well.
+    // Sends the query from a port that the kernel chooses; None if the server is unreachable. A query that can't be
+    // sent for another reason, as where a firewall rejects it, counts as lost. The socket is connected, so it
+    // receives no datagram of another peer. The event loop has no UDP: its stream reads with `recv` and writes with
+    // `send`, which work on a connected UDP socket too.
     pub(crate) fn send<R: Net + RandomSource>(
         setup: &Setup<'_, R>,
         server: SocketAddr,
@@ -67,8 +67,8 @@ impl Datagrams {
         self.is_sent
     }
 
-    // Sends the query again, without the record of RFC 6891, for a server or a firewall that drops what it can't read
-    // (section 6.2.2 of RFC 6891 has a requestor fall back so). Whether there is a way to the server.
+    // Sends the query again without the OPT record, for a server or a firewall that drops what it can't read (a
+    // requestor falls back like this: RFC 6891 section 6.2.2). Returns whether the server is reachable.
     pub(crate) fn send_again(&mut self, alloc: Global, question: Question<'_>) -> bool
         ensures sent { IsSent question.entry.name.now.octets question.entry.family self.old
             → IsSent question.entry.name.now.octets question.entry.family self.new }
@@ -97,8 +97,8 @@ impl Datagrams {
         true
     }
 
-    // What the server told. Any other datagram is passed over, and looked behind at once: one event may stand for
-    // several of them. So is an error that is none of the way to the server.
+    // The server's reply. Ignores any other datagram and reads on at once: one event may announce several datagrams.
+    // Also ignores errors that don't make the server unreachable.
     pub(crate) fn poll_reply(
         &mut self,
         alloc: Global,
@@ -133,7 +133,7 @@ impl Datagrams {
     }
 }
 
-// Whether the query left this machine; None where there is no way to the server.
+// Whether the query was sent; None if the server is unreachable.
 fn send_first(socket: &UdpSocket, server: SocketAddr, query: &[u8]) -> Option<bool> {
     if !connects(socket, server) {
         return None;
@@ -160,7 +160,7 @@ fn connects(socket: &UdpSocket, server: SocketAddr) -> bool {
     false
 }
 
-// Whether there is no way to a server, or nothing listens there: any other error is of this machine, and passes.
+// Whether the server is unreachable or nothing listens there. Any other error is this machine's and temporary.
 fn is_unreachable(error: &io::Error) -> bool {
     matches!(
         error.kind(),
@@ -170,14 +170,14 @@ fn is_unreachable(error: &io::Error) -> bool {
     )
 }
 
-// An id that no other can guess.
+// An id that others can't guess.
 pub(crate) fn random_id<R: RandomSource>(rt: &R) -> io::Result<u16> {
     let mut id = [0u8; 2];
     rt.fill_bytes(&mut id)?;
     Ok(u16::from_be_bytes(id))
 }
 
-// Any address and port of this machine, of the server's family.
+// The unspecified address of the server's family, and port 0.
 fn unspecified(server: SocketAddr) -> SocketAddr {
     match server {
         SocketAddr::V4(_) => SocketAddr::from(([0u8, 0, 0, 0], 0u16)),

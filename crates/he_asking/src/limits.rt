@@ -1,23 +1,23 @@
-//! The limits of what is asked, each in one place.
+//! The limits of queries.
 
-/// How many milliseconds a name server is waited for alone: then the next one is asked beside it.
+/// Milliseconds until the next name server is asked too.
 pub const ALONE: u64 = 250;
 
-/// After how many milliseconds without an answer a query is sent again.
+/// Milliseconds without an answer until a query is sent again.
 pub const AGAIN: u64 = 1_000;
 
-/// The bytes that a datagram may have, as a server is told (RFC 6891 section 6.2.3): one of so many is not cut up on
-/// any link that carries IPv6.
+/// The size of datagrams that a query offers the server, in bytes (RFC 6891 section 6.2.3): a datagram of this size
+/// is not fragmented on any link that carries IPv6.
 pub const OFFERED_ROOM: u16 = 1_232;
 
-/// The bytes of a datagram that are read: more than are offered, for a server that sends more.
+/// The most bytes that are read of a datagram: more than are offered, for a server that sends more.
 pub const DATAGRAM_ROOM: usize = 4_096;
 
-/// The most datagrams that are looked at in a row before other work has its turn.
+/// The most datagrams read in one poll.
 pub const DATAGRAMS_IN_A_ROW: usize = 64;
 
-/// The most events of a look-up that are kept until they are taken.
+/// The most events that a look-up keeps between two takes.
 pub const MOST_EVENTS: usize = 1_024;
 
-/// The most steps of one poll of a query before other work has its turn.
+/// The most steps in one poll of a query.
 pub const MOST_STEPS: usize = 64;

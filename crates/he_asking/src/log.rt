@@ -4,60 +4,60 @@ ghost use Rattle.std.specs.Prelude.{◌≡◌, IfOk};
 ghost use Rattle.he_asking.specs.Events.{event_of, event_of_fault};
 
 use crate::limits::{ALONE, MOST_EVENTS};
-use he_addr::Family;
+use he_addr::{Family, Memory};
 use he_dns::Answer;
 use he_settings::{Failure, NamesFault, ServerFault, ShownServer, addresses_of};
-use std::alloc::{AllocError, Global};
+use std::alloc::Global;
 use std::cell::Cell;
 use std::fmt;
 use std::net::SocketAddr;
 use std::rc::Rc;
 use std::time::{Clock, Instant};
 
-/// Something that happened in a look-up.
+/// An event of a look-up.
 #[derive(Clone, Copy, PartialEq, Eq)]
 pub struct LookupEvent {
-    /// The milliseconds since the look-up began.
+    /// Milliseconds since the look-up began.
     pub tick: u64,
-    /// The family that is looked up.
+    /// The family that it concerns.
     pub family: Family,
     pub kind: LookupEventKind,
 }
 
-/// What happened to a family's look-up.
+/// An event of a family's look-up.
 #[derive(Clone, Copy, PartialEq, Eq)]
 pub enum LookupEventKind {
-    /// It isn't asked for: the other family is wanted alone.
+    /// The family is not queried: only the other one is wanted.
     NotAsked,
-    /// IPv6 isn't asked for, by the option no-aaaa of the settings.
+    /// IPv6 is not queried, by the option no-aaaa.
     LeftOut,
-    /// So many addresses were known without a name server.
+    /// This number of addresses was known without a name server.
     Known(usize, Origin),
-    /// The first server has not answered for [`ALONE`] milliseconds, and the second one is asked too.
+    /// The first server has not answered for [`ALONE`] milliseconds, and the second is asked too.
     Slow(SocketAddr, SocketAddr),
-    /// The server has not answered in all its time.
+    /// The server did not answer in all its time.
     Silent(SocketAddr),
     /// The server failed.
     Failed(ServerFault),
-    /// The name has so many addresses, by this server.
+    /// This number of addresses, from this server.
     Addresses(usize, SocketAddr),
-    /// The name has no address of the family, by this server.
+    /// The server answered that the name has no address of the family.
     NoAddress(SocketAddr),
-    /// There is no such name, by this server.
+    /// The server answered that there is no such name.
     NoSuchName(SocketAddr),
 }
 
-/// Where addresses come from that no name server told.
+/// The origin of addresses that are from no name server.
 #[derive(Clone, Copy, PartialEq, Eq)]
 pub enum Origin {
-    /// The host itself, the file of hosts, or an earlier look-up.
+    /// The host itself, the hosts file, or an earlier look-up.
     Known,
     /// The system's resolver.
     System,
 }
 
 impl LookupEventKind {
-    /// The event that a server's answer is; None where the machine failed.
+    /// The event for a server's answer; None for a fault of this machine.
     ///
     /// # Errors
     ///
@@ -92,7 +92,7 @@ fn event_of_fault(server: SocketAddr, fault: NamesFault) -> Option<LookupEventKi
     }
 }
 
-// One line, without its tick: `AAAA answer: 2 addresses from 192.0.2.1`.
+// Prints one line without the tick: `AAAA answer: 2 addresses from 192.0.2.1`.
 impl fmt::Display for LookupEvent {
     fn fmt<W: fmt::Write>(&self, f: &mut fmt::Formatter<W>) -> fmt::Result {
         let (kind, only) = match self.family {
@@ -150,7 +150,7 @@ fn write_failure<W: fmt::Write>(
     }
 }
 
-// A count of addresses.
+// Prints a number of addresses.
 #[derive(Clone, Copy)]
 struct Counted(usize);
 
@@ -164,7 +164,7 @@ impl fmt::Display for Counted {
     }
 }
 
-/// The events of one look-up, which may be read while it goes on.
+/// The events of a look-up, which can be read during it.
 #[derive(Drop)]
 pub struct LookupLog {
     alloc: Global,
@@ -177,8 +177,8 @@ impl LookupLog {
     ///
     /// # Errors
     ///
-    /// `AllocError`.
-    pub fn new<R: Clock>(clock: &R, alloc: Global) -> Result<LookupLog, AllocError> {
+    /// `Memory`.
+    pub fn new<R: Clock>(clock: &R, alloc: Global) -> Result<LookupLog, Memory> {
         Ok(LookupLog {
             alloc,
             start: Instant::now(clock).ok(),
@@ -186,12 +186,12 @@ impl LookupLog {
         })
     }
 
-    /// The same events, for another holder.
+    /// Another handle to these events.
     ///
     /// # Errors
     ///
-    /// `AllocError` where there are too many holders.
-    pub fn share(&self) -> Result<LookupLog, AllocError> {
+    /// `Memory` if there are too many handles.
+    pub fn share(&self) -> Result<LookupLog, Memory> {
         Ok(LookupLog {
             alloc: self.alloc,
             start: self.start,
@@ -199,13 +199,13 @@ impl LookupLog {
         })
     }
 
-    /// Hands over the events since the last call, in their order. At most [`MOST_EVENTS`] are kept from one call to
-    /// the next, and none that no memory was granted for.
+    /// Takes the events since the last call, in order. At most [`MOST_EVENTS`] are kept between two calls; an event
+    /// is lost if its allocation fails.
     pub fn take(&self) -> Vec<LookupEvent> {
         self.events.replace(Vec::new(self.alloc))
     }
 
-    /// The whole milliseconds since the look-up began; 0 where the clock fails.
+    /// Whole milliseconds since the look-up began; 0 if the clock fails.
     pub fn tick<R: Clock>(&self, clock: &R) -> u64 {
         let (Some(start), Ok(now)) = (self.start, Instant::now(clock)) else {
             return 0;
@@ -214,7 +214,7 @@ impl LookupLog {
         millis.min(u128::from(u64::MAX)) as u64
     }
 
-    /// Notes an event. That a server is slow, which both families see, is noted once.
+    /// Records an event. `Slow`, which both families see, is recorded once.
     pub fn note<R: Clock>(&self, clock: &R, family: Family, kind: LookupEventKind) {
         let tick = self.tick(clock);
         let mut events = self.take();

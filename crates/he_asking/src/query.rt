@@ -1,4 +1,4 @@
-//! A query to one name server: over UDP, and over TCP where its answer is cut off (RFC 7766 section 5).
+//! A query to a name server: over UDP, and over TCP if its answer is truncated (RFC 7766 section 5).
 
 ghost use Rattle.std.specs.Prelude.{◌≡◌, IfErr, IfOk, IfSome, None, true};
 ghost use Rattle.futures.specs.Poll.{IfReady, OnPending};
@@ -49,26 +49,26 @@ impl Transport {
     }
 }
 
-/// A query to one name server that is under way.
+/// A query to a name server in progress.
 #[derive(Drop)]
 pub struct Query {
     server: SocketAddr,
     transport: Transport,
-    // The bytes that a datagram of the answer may have, where the server was told them.
+    // The datagram size that was offered to the server, if any.
     room: Option<u16>,
-    // How many times it was sent, or would have been over UDP.
+    // The number of sends so far, over TCP counted as if over UDP.
     sends: u64,
-    // Until it is sent again.
+    // Until the next send.
     timer: Sleep,
 }
 
 impl Query {
-    /// The server that is asked.
+    /// The server.
     pub fn server(&self) -> SocketAddr {
         self.server
     }
 
-    /// Whether its first datagram left this machine.
+    /// Whether its first datagram was sent.
     pub fn is_sent(&self) -> bool {
         match &self.transport {
             Transport::Datagrams(query) => query.is_sent(),
@@ -76,11 +76,11 @@ impl Query {
         }
     }
 
-    /// Asks the server, over UDP unless the settings say TCP.
+    /// Sends the query, over UDP unless the plan has TCP only.
     ///
     /// # Errors
     ///
-    /// `Server` where there is no way to it; `Files`, `Runtime`, `Memory`.
+    /// `Server` if the server is unreachable; `Files`, `Runtime`, `Memory`.
     pub fn begin<R: Net + RandomSource + Clock>(
         setup: &Setup<'_, R>,
         server: SocketAddr,
@@ -99,7 +99,7 @@ impl Query {
         })
     }
 
-    /// The server's answer to the question, which is the one that it was asked, or that none came in its time.
+    /// The server's answer, or `NoAnswer` after all its time. The question must be that of [`begin`](Query::begin).
     ///
     /// # Errors
     ///
@@ -135,7 +135,7 @@ impl Query {
         cx.yield_now()
     }
 
-    // Sends the query again, unless it was sent as often as the settings say.
+    // Sends the query again, unless that was the plan's last send.
     fn send_again<R: Clock>(
         &mut self,
         setup: &Setup<'_, R>,
@@ -155,7 +155,7 @@ impl Query {
         }
     }
 
-    // Sends the datagram again, where it is one. Whether there is a way to the server.
+    // Sends the datagram again, if it is one. Returns whether the server is reachable.
     fn sends_datagram(&mut self, alloc: Global, question: Question<'_>) -> bool {
         match &mut self.transport {
             Transport::Datagrams(query) => {
@@ -166,7 +166,7 @@ impl Query {
         }
     }
 
-    // What a reply tells; None where it has the server asked in another way.
+    // The answer in a reply; None if the server is asked again in another way.
     fn take<R: Net + RandomSource>(
         &mut self,
         reply: Reply,
@@ -191,7 +191,7 @@ impl Query {
         }
     }
 
-    // Asks the same server over TCP. A message that is cut off there is no answer.
+    // Asks the server over TCP. A truncated answer over TCP is malformed.
     fn ask_over_tcp<R: Net + RandomSource>(
         &mut self,
         setup: &Setup<'_, R>,
@@ -207,7 +207,7 @@ impl Query {
         Ok(())
     }
 
-    // Asks a server again without the record of RFC 6891 (section 7), which it could not read or doesn't implement.
+    // Asks the server again without the OPT record, which it can't read or doesn't support (RFC 6891 section 7).
     fn ask_plainly<R: Net + RandomSource>(
         &mut self,
         setup: &Setup<'_, R>,

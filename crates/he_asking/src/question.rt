@@ -1,9 +1,9 @@
-//! The question that a name server is asked.
+//! The question to a name server.
 
 use he_addr::Family;
 use he_dns::Name;
 
-/// The addresses of one family that a name has.
+/// A query for the addresses of one family of a name.
 #[derive(Clone, Copy)]
 pub struct Question<'n> {
     pub name: &'n Name,

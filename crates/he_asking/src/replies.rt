@@ -1,4 +1,4 @@
-// What the messages of a name server come to.
+// The replies of a name server.
 
 ghost use Rattle.std.specs.Prelude.{◌≡◌, IfSome};
 ghost use Rattle.he_asking.specs.Said.{RepliesTo};
@@ -9,13 +9,13 @@ use he_dns::{Answer, AnswerFault, is_lame, read_answer, read_refusal};
 use he_settings::Failure;
 use std::alloc::Global;
 
-// What a name server told.
+// A name server's reply.
 #[derive(Drop)]
 pub(crate) enum Reply {
     Addresses(Answer),
     NoAddress,
     NoSuchName,
-    // Cut off: to be asked again over TCP.
+    // Truncated: to be asked again over TCP.
     Truncated,
     Failure(Failure),
     Memory,
@@ -23,7 +23,7 @@ pub(crate) enum Reply {
     Files,
 }
 
-// What a message tells; None where it is no response to the question.
+// The reply in a message; None if it is no response to the question.
 pub(crate) fn read_reply(
     alloc: Global,
     message: &[u8],
@@ -71,7 +71,7 @@ fn fault_reply(fault: AnswerFault) -> Reply
     }
 }
 
-// The failure that a response code tells.
+// The failure for a response code.
 fn failure_of(code: u16) -> Failure
     ensures { result ≡ failure_of code }
 {

@@ -1,4 +1,4 @@
-//! The machine that a look-up asks from, and what it asks.
+//! The environment of a look-up.
 
 use crate::log::{LookupEventKind, LookupLog};
 use he_addr::Family;
@@ -9,7 +9,7 @@ use std::time::{Clock, Duration};
 use tokio::reactor::Handle;
 use tokio::time::Sleep;
 
-/// The machine, the memory, the event loop, the plan of what is asked, and the log of it.
+/// The runtime, the allocator, the event loop, the plan, and the log.
 #[derive(Drop)]
 pub struct Setup<'h, R> {
     pub rt: &'h R,
@@ -21,12 +21,12 @@ pub struct Setup<'h, R> {
 }
 
 impl<R: Clock> Setup<'_, R> {
-    /// Notes an event of the family, at this time.
+    /// Records an event of the family, now.
     pub fn note(&self, family: Family, kind: LookupEventKind) {
         self.log.note(self.rt, family, kind);
     }
 
-    /// A timer that ends after so many milliseconds.
+    /// A timer of this number of milliseconds.
     ///
     /// # Errors
     ///

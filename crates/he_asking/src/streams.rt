@@ -1,4 +1,4 @@
-// A query over TCP (RFC 1035 section 4.2.2): each message stands behind its length in two bytes.
+// A query over TCP (RFC 1035 section 4.2.2): each message follows its length in two bytes.
 
 ghost use Rattle.std.specs.Prelude.{◌≡◌, ◌++◌, IfErr, IfOk, false, length};
 ghost use Rattle.std.specs.Int.{to_be_bytes, w16};
@@ -26,7 +26,7 @@ use std::random::RandomSource;
 use tokio::io::{ReadExact, WriteAll, read_exact, write_all};
 use tokio::net::{ConnectFuture, TcpStream};
 
-// How far a query is.
+// The stage of a query.
 #[derive(Drop)]
 pub(crate) enum Stage {
     Connecting(ConnectFuture, Vec<u8>),
@@ -36,7 +36,6 @@ pub(crate) enum Stage {
     Over,
 }
 
-// The bytes of a message's length.
 const LENGTH_LEN: usize = 2;
 
 #[derive(Drop)]
@@ -66,7 +65,7 @@ impl StreamQuery {
         })
     }
 
-    // What the server told. A message that is no response to the question is passed over, as over UDP.
+    // The server's reply. Ignores messages that are no response to the question, as over UDP.
     pub(crate) fn poll_reply(
         &mut self,
         alloc: Global,
@@ -101,7 +100,7 @@ impl StreamQuery {
     }
 }
 
-// The message behind its length.
+// The message after its length.
 fn framed(alloc: Global, message: &[u8]) -> Result<Vec<u8>, NamesFault>
     ensures framed { IfOk result (λ request. request.items ≡ to_be_bytes w16 (length message.now) ++ message.now) }
     ensures fault { IfErr result (λ fault. is_of_host fault ≡ false) }
@@ -114,7 +113,7 @@ fn framed(alloc: Global, message: &[u8]) -> Result<Vec<u8>, NamesFault>
     Ok(request)
 }
 
-// What a poll of a stage comes to.
+// The outcome of a stage's poll.
 #[derive(Drop)]
 pub(crate) enum StageOutcome {
     Waits(Stage),
@@ -123,12 +122,12 @@ pub(crate) enum StageOutcome {
     Ends(io::Error),
 }
 
-// Reads so many bytes.
+// Reads `len` bytes.
 fn fill(alloc: Global, stream: TcpStream, len: usize) -> io::Result<ReadExact<TcpStream>> {
     Ok(read_exact(stream, vec![in alloc; 0; len]?))
 }
 
-// The length that two bytes tell.
+// The length in two bytes.
 fn length_of(bytes: &[u8]) -> usize {
     match bytes {
         [high, low] => u16::from_be_bytes([*high, *low]) as usize,
@@ -136,7 +135,7 @@ fn length_of(bytes: &[u8]) -> usize {
     }
 }
 
-// A connection that isn't made or breaks off.
+// The reply for a connection that fails or breaks off.
 fn reply_of(error: io::Error) -> Reply
     ensures { (id : _) (octets : _) (family : _) → RepliesTo id octets family result }
 {

@@ -1,6 +1,5 @@
--- The rule of the board's table, by sums and minima over the views of all passes. `Lawful` says the same in other
--- words. Word 0 is spare, word 1 + r is the winner word of the race r, and word 1 + RACES + j is the word of the job
--- j.
+-- The rule of the board's table, by sums and minima over the views of all passes, equivalent to `Lawful`. Word 0 is
+-- spare, word 1 + r is the winner word of the race r, and word 1 + RACES + j is the word of the job j.
 use Rattle.std.specs.Prelude.{◌≡◌, ℕ, ◌+◌, ◌<◌, ◌≤◌, min, List, [], ◌∷◌, length, slice_index, true}
 use mathlib.Core.Option.{some}
 use lib.ListN.{get_elem?}
@@ -24,7 +23,7 @@ winner_word race = 1 + race
 abbrev pub job_word : ℕ → ℕ
 job_word job = 1 + RACES + job
 
--- how often a job was taken, and is known to be taken, in all views
+-- how often all views together have taken a job, and know it to be taken
 abbrev pub takers : ℕ → List View → ℕ
 takers job = total (λ v. times job v.taken)
 

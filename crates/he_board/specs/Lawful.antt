@@ -1,4 +1,4 @@
--- The lawful states of a board: its words, and what each pass that was ever made has noted.
+-- The lawful states of a board: its words, and the notes of each pass ever made.
 use Rattle.std.specs.Prelude.{◌≡◌, ℕ, ◌+◌, ◌<◌, ◌≤◌, ◌⊎◌, List, length, slice_index, Contains}
 use mathlib.Core.Option.{some}
 use lib.ListN.{get_elem?}
@@ -7,7 +7,7 @@ use Rattle.he_board.specs.declared.view.View.{View}
 use Rattle.he_board.specs.Notes.{times, blank}
 use Rattle.he_board.specs.Balance.{total, winner_word, job_word}
 
--- P holds of each view
+-- P holds for each view
 abbrev pub EachView : List View → (View → Type 0) → Type 0
 EachView views P = (i : ℕ) (v : View) → get_elem? views i ≡ some v → P v
 
@@ -31,18 +31,18 @@ pub record IsOffered (views : List View) (race key : ℕ) : Type 0 where
   pub stands : get_elem? views by ≡ some offerer
   pub offers : Contains offerer.offers (race, key)
 
--- nothing was offered to the race
+-- no key was offered to the race
 abbrev pub IsUnoffered : List View → ℕ → Type 0
 IsUnoffered views race = EachView views (λ v. (key : ℕ) → ¬ Contains v.offers (race, key))
 
 pub record Lawful (jobs races : ℕ) (words : List ℕ) (views : List View) : Type 0 where
   pub size : length words ≡ 1 + RACES + jobs
   pub few : races ≤ RACES
-  -- the word of a job is 1 where exactly one view has taken it, and 0 where none has and none knows it to be taken;
-  -- there is no other case
+  -- the word of a job is 1 if exactly one view has taken it, and 0 if none has and none knows it to be taken; there
+  -- is no other case
   pub job_words : (job : ℕ) → (job < jobs → slice_index words (job_word job) ≡ 1) × TakenOnce views job
       ⊎ (job < jobs → slice_index words (job_word job) ≡ 0) × IsFree views job
-  -- the word of a race is one of its offers, or `NO_OFFER` where there is none
+  -- the word of a race is one of its offers, or `NO_OFFER` if there is none
   pub winner_words : (race : ℕ) → race < races → IsOffered views race (slice_index words (winner_word race))
       ⊎ (slice_index words (winner_word race) ≡ NO_OFFER) × IsUnoffered views race
   -- it is at most each offer and each value looked at

@@ -1,10 +1,10 @@
--- What a clause says of a board and of a pass.
+-- The parts of a board and of a pass that the contracts use.
 use Rattle.std.specs.Prelude.{◌≡◌, ℕ}
 use Rattle.he_board.specs.declared.view.View.{View}
 use Rattle.he_board.specs.declared.pass.Pass.{Pass}
 use Rattle.he_board.specs.declared.board.Board.{Board}
 
--- what the pass has noted, and its parts
+-- the notes of the pass, with its parts
 abbrev pub notes : Pass → View
 notes pass = pass.seat.me.0
 

@@ -1,4 +1,4 @@
--- Workers who share a board: how many there may be, and which jobs they have tried.
+-- Workers that share a board: their number, and the jobs that they have tried.
 use Rattle.std.specs.Prelude.{ℕ, ◌<◌, ◌≤◌, List}
 use Rattle.he_board.specs.Notes.{times}
 

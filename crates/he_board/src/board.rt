@@ -12,7 +12,7 @@ use crate::view::{Layout, View};
 use atomic_table::Table;
 use std::alloc::{AllocError, Allocator, Global};
 
-/// The words of jobs and races, which threads share by `&`.
+/// The words of the jobs and races of a board, which threads share by `&`.
 #[derive(Drop)]
 pub struct Board<A: Allocator = Global> {
     pub(crate) table: Table<(), View, Layout, Law, A>,
@@ -21,7 +21,7 @@ pub struct Board<A: Allocator = Global> {
     pub ghost few_races: { table.shared.key.races ≤ RACES },
 }
 
-// No offer, and no job taken.
+// The words of a new board: no offer, and no job taken.
 fn first_words<A: Allocator>(alloc: A, jobs: usize) -> Result<Vec<u64, A>, AllocError>
     requires { jobs ≤ JOBS }
     ensures { IfOk result (λ words. IsFresh jobs words.items) }
@@ -36,10 +36,10 @@ impl<A: Allocator + Copy> Board<A> {
     ghost use Rattle.he_board.specs.Notes.{blank};
     ghost use Rattle.he_board.specs.Passes.{IsPassOf, jobs_of, notes, races_of};
 
-    /// A board on which no job is taken and nothing is offered, and a pass with all its parts. Either number may be 0.
+    /// A board without offers and taken jobs, and a pass with all its parts. Either number may be 0.
     ///
-    /// Answers `Size` for more than `JOBS` jobs or more than `RACES` races, before it asks for memory, and `Memory`
-    /// where the allocator refuses.
+    /// Returns `Size` for more than `JOBS` jobs or more than `RACES` races, before it allocates, and `Memory` if the
+    /// allocation fails.
     pub fn new(alloc: A, jobs: usize, races: usize) -> Result<(Board<A>, Pass), BoardFault>
         ensures size { IsErrOf result BoardFault.Size ↔ ((JOBS < jobs) ⊎ (RACES < races)) }
         ensures own { IfOk result (λ made. IsPassOf made.0 made.1) }
@@ -60,9 +60,9 @@ impl<A: Allocator> Board<A> {
     ghost use Rattle.he_board.specs.Passes.{IsPassOf, jobs_of, notes, races_of};
     ghost use Rattle.he_board.specs.Plays.{IsAtMostNoted, IsTakenOnce};
 
-    /// Tries to take the job. Of all calls on one job, whatever passes make them, exactly one answers true.
+    /// Tries to take the job. Of all calls for one job, by whatever passes, exactly one returns true.
     ///
-    /// False means that somebody has taken it before, not that its work is done. One atomic step.
+    /// False means that the job was taken before, not that its work is done. One atomic step.
     pub fn take(&self, pass: &mut Pass, job: usize) -> bool
         requires own { IsPassOf self.now pass.old }
         requires job { job < jobs_of self.now }
@@ -70,7 +70,7 @@ impl<A: Allocator> Board<A> {
         ensures noted { notes pass.new ≡ (if result then taking job (notes pass.old) else knowing job
             (notes pass.old)) }
 
-        // The same, field by field.
+        // The notes again, field by field.
         ensures taken { (notes pass.new).taken ≡ (if result then (notes pass.old).taken ++ job ∷ [] else
             (notes pass.old).taken) }
         ensures known { (notes pass.new).known ≡ (notes pass.old).known ++ job ∷ [] }
@@ -81,10 +81,11 @@ impl<A: Allocator> Board<A> {
         self.swap_job(pass, job) == 0
     }
 
-    /// The least key that was offered to the race so far, or `NO_OFFER`.
+    /// The least key offered to the race so far, or `NO_OFFER`.
     ///
-    /// The word only falls: the answer is at most each key that this pass offered and each value that it saw, and the
-    /// final winner's key is at most the answer. Others may lower the word at once after. One atomic step.
+    /// The word only decreases: the result is at most each key that this pass has offered and each value that it has
+    /// seen, and the final winner's key is at most the result. Other passes may lower the word right afterwards. One
+    /// atomic step.
     pub fn least(&self, pass: &mut Pass, race: usize) -> u64
         requires own { IsPassOf self.now pass.old }
         requires race { race < races_of self.now }
@@ -95,10 +96,10 @@ impl<A: Allocator> Board<A> {
         self.load_winner(pass, race)
     }
 
-    /// Offers the key of this tick (milliseconds) and place to the race, and answers the winner word as it was before:
-    /// the least key that was offered until then, or `NO_OFFER`.
+    /// Offers the key of this tick (milliseconds) and place to the race. Returns the winner word before the offer:
+    /// the least key offered until then, or `NO_OFFER`.
     ///
-    /// The offer leads from then on where its key is below the answer, until a lower one comes. One atomic step.
+    /// If its key is below the result, the offer leads until a lower one comes. One atomic step.
     pub fn offer(&self, pass: &mut Pass, race: usize, tick: u64, place: usize) -> u64
         requires own { IsPassOf self.now pass.old }
         requires race { race < races_of self.now }
@@ -111,8 +112,8 @@ impl<A: Allocator> Board<A> {
         self.lower_winner(pass, race, key(tick, place))
     }
 
-    /// Cuts a pass of at least two parts in two, so that another thread can step too. Of p parts the first has
-    /// p - p / 2 and all notes, and the second p / 2 and no note. One atomic step.
+    /// Splits a pass of at least two parts in two, so that another thread can step too. Of p parts the first gets p -
+    /// p / 2 and all notes, the second p / 2 and no notes. One atomic step.
     pub fn fork(&self, pass: Pass) -> (Pass, Pass)
         requires own { IsPassOf self.now pass }
         requires parts { 2 ≤ (notes pass).parts }
@@ -122,8 +123,8 @@ impl<A: Allocator> Board<A> {
         self.cut(pass)
     }
 
-    /// Makes one pass of two, with the parts and the notes of both, the first's notes before the second's. Two atomic
-    /// steps.
+    /// Joins two passes into one, with the parts and the notes of both, the first's notes before the second's. Two
+    /// atomic steps.
     pub fn rejoin(&self, first: Pass, second: Pass) -> Pass
         requires own { IsPassOf self.now first × IsPassOf self.now second }
         ensures own { IsPassOf self.now result }
@@ -133,9 +134,8 @@ impl<A: Allocator> Board<A> {
         self.merge(first, second)
     }
 
-    /// Settles who took what, for a pass with all parts, beside which there is no other pass: each job that it knows
-    /// to be taken it has taken itself, exactly once, by one of the passes that were rejoined into it. One atomic
-    /// step.
+    /// Shows that a pass with all parts, when no other pass exists, has itself taken each job that it knows to be
+    /// taken, exactly once, by one of the passes that were rejoined into it. One atomic step.
     pub fn settle(&self, pass: &mut Pass)
         requires own { IsPassOf self.now pass.old }
         requires parts { (notes pass.old).parts ≡ PARTS }
@@ -146,11 +146,11 @@ impl<A: Allocator> Board<A> {
         self.count_parts(pass);
     }
 
-    /// The tick (milliseconds) and the place of the least offer that anybody made to the race, and None exactly where
-    /// nobody made one. For a pass with all parts, beside which there is no other pass. One atomic step.
+    /// The tick (milliseconds) and the place of the least offer to the race; None exactly if there was no offer. It
+    /// needs a pass with all parts, when no other pass exists. One atomic step.
     ///
-    /// The clause `below` says that no value that the pass looked at is below the winner's key, and `taken` that each
-    /// job that it knows to be taken it has taken itself.
+    /// Clause `below`: no value that the pass has looked at is below the winner's key. Clause `taken`: the pass has
+    /// itself taken each job that it knows to be taken.
     pub fn winner(&self, pass: &mut Pass, race: usize) -> Option<(u64, usize)>
         requires own { IsPassOf self.now pass.old }
         requires race { race < races_of self.now }

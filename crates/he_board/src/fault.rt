@@ -1,17 +1,17 @@
-//! Why a board is not made.
+//! Why a board can't be made.
 ghost use Rattle.std.specs.Prelude.{◌≡◌};
 ghost use Rattle.he_board.specs.declared.fault.BoardFault.TheVariants.{Memory};
 
 use std::alloc::AllocError;
 use thiserror::Error;
 
-/// Why a board is not made.
+/// Why a board can't be made.
 #[derive(Clone, Copy, Debug, PartialEq, Eq, Error)]
 pub enum BoardFault {
     /// More than `JOBS` jobs or more than `RACES` races.
     #[error("too many jobs or races for a board")]
     Size,
-    /// The allocator refused the board's words.
+    /// The allocation of the board's words failed.
     #[error("out of memory")]
     Memory,
 }

@@ -4,8 +4,8 @@ ghost use Rattle.he_board.specs.Notes.{key_of};
 
 use crate::limits::{LAST_TICK, NO_OFFER, PLACES};
 
-/// The key of an offer at this tick (milliseconds) and place. Of two offers the one at the lower tick has the
-/// lower key, and at one tick the one at the lower place. No key is `NO_OFFER`.
+/// The key of an offer at this tick (milliseconds) and place. Of two offers the one at the lower tick has the lower
+/// key; at one tick, the one at the lower place. No key is `NO_OFFER`.
 pub fn key(tick: u64, place: usize) -> u64
     requires tick { tick ≤ LAST_TICK }
     requires place { place < PLACES }
@@ -15,7 +15,7 @@ pub fn key(tick: u64, place: usize) -> u64
     tick * PLACES as u64 + place as u64
 }
 
-/// The tick and the place of which this is the key.
+/// The tick and the place with this key.
 pub fn tick_and_place(key: u64) -> (u64, usize)
     ensures { result ≡ (key / PLACES, key % PLACES) }
 {

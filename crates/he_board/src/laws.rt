@@ -1,4 +1,4 @@
-//! What the words of the clauses mean. Each law holds of all values; its function does nothing.
+//! The meaning of the contracts' definitions. Each law holds for all values; its function does nothing.
 ghost use Rattle.std.specs.Prelude.{◌≡◌, ◌<◌, ◌≤◌, ◌⊎◌, ◌↔◌, ℕ, Contains, List, Some};
 ghost use Rattle.he_board.specs.Balance.{Balanced};
 ghost use Rattle.he_board.specs.Lawful.{Lawful};
@@ -7,15 +7,15 @@ ghost use Rattle.he_board.specs.Workers.{least_workers, most_workers};
 ghost use Rattle.he_board.specs.declared.limits.TheConstants.{JOBS, LAST_TICK, LEAST_WORKERS, MOST_WORKERS, NO_OFFER, PARTS, PLACES, RACES};
 ghost use Rattle.he_board.specs.declared.view.View.{View};
 
-/// The rule of a board's table, by sums and minima, holds exactly of the lawful states. The table keeps its rule from
-/// the moment at which the board is made, through each step of each pass in every order, so the board is always
+/// The rule of a board's table, stated by sums and minima, holds exactly for the lawful states. The table keeps its
+/// rule from the creation of the board on, through each step of each pass in every order, so the board is always
 /// lawful.
 pub fn board_is_lawful()
     ensures { (jobs races : ℕ) (words : List ℕ) (views : List View)
         → (Balanced jobs races words views ↔ Lawful jobs races words views) }
 {}
 
-/// `least_of` is at most each value noted of the race, and is one of them or `NO_OFFER`.
+/// `least_of` is at most each value noted for the race, and is one of them or `NO_OFFER`.
 pub fn least_is_least()
     ensures at_most { (race value : ℕ) (noted : List (ℕ × ℕ)) → Contains noted (race, value)
         → least_of race noted ≤ value }
@@ -23,7 +23,7 @@ pub fn least_is_least()
         ⊎ (least_of race noted ≡ NO_OFFER) }
 {}
 
-/// A key gives back its tick and its place.
+/// The tick and the place can be read back from a key.
 pub fn keys_read_back()
     ensures { (tick place : ℕ) → tick ≤ LAST_TICK → place < PLACES
         → winner_of (key_of tick place) ≡ Some (tick, place) }
@@ -37,7 +37,7 @@ pub fn keys_are_ordered()
 {}
 
 /// The limits of a board, as numbers: 2,097,152 jobs, 4,096 races, 512 places, 1,048,576 parts and ticks up to
-/// 7,200,000 (milliseconds). What a winner word holds while nothing was offered is 2^64 - 1.
+/// 7,200,000 (milliseconds). A winner word without offers is 2^64 - 1.
 pub fn limits_as_numbers()
     ensures jobs { JOBS ≡ 2097152 }
     ensures races { RACES ≡ 4096 }
@@ -47,7 +47,7 @@ pub fn limits_as_numbers()
     ensures no_offer { NO_OFFER ≡ 18446744073709551615 }
 {}
 
-/// The limits of workers are the numbers that the definitions name.
+/// The limits of workers are the numbers of the definitions.
 pub fn limits_of_workers()
     ensures least { LEAST_WORKERS ≡ least_workers }
     ensures most { MOST_WORKERS ≡ most_workers }

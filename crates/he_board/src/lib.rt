@@ -1,15 +1,16 @@
-//! The board of a pool of workers: words in memory that threads share with no lock, by which they take jobs from one
-//! another and learn of the best offer that any of them has made so far.
+//! The board of a pool of workers: words in memory that threads share without locks, to take jobs and to read the
+//! best offer so far.
 //!
-//! A board has jobs and races, each by a number from 0 on. A job is taken once. A race has a winner word, the least
-//! key that was offered to it, and a key is a tick (milliseconds) and a place: of two offers the one at the lower
-//! tick wins, and at one tick the one at the lower place. The limits of all numbers stand in `limits.rt`, and
-//! `limits_as_numbers` says which they are.
+//! A board has jobs and races, each with a number from 0 on. A job is taken once. A race has a winner word, the least
+//! key that was offered to it. A key is a tick (milliseconds) and a place: of two offers the one at the lower tick
+//! wins; at one tick, the one at the lower place. `limits.rt` has all limits, and `limits_as_numbers` states their
+//! values.
 //!
-//! Who steps on the board holds a `Pass`. A pass has no lifetime and can move to another thread. It has parts of the
-//! board's 1,048,576, and a fork cuts it in two. What a pass has *noted* exists for proofs alone, and takes no memory:
-//! the jobs that it took or found taken, the keys that it offered and the values of winner words that it looked at.
-//! A rejoin puts the notes of two passes together, so whoever has all passes rejoined knows what all of them did.
+//! A thread that steps on the board holds a `Pass`. A pass has no lifetime and can move to another thread. It has
+//! some of the board's 1,048,576 parts, and a fork splits it in two. The *notes* of a pass exist only in proofs and
+//! take no memory: the jobs that it took or found taken, the keys that it offered and the values of winner words that
+//! it looked at. A rejoin joins the notes of two passes, so a thread that has rejoined all passes knows what all of
+//! them did.
 //!
 //! ```text
 //! let (board, pass) = Board::new(rt.alloc(), 3, 1)?; // 3 jobs, 1 race
@@ -26,23 +27,23 @@
 //! board.winner(&mut pass, 0); // Some((320, 0))
 //! ```
 //!
-//! Threads of your own need no more than this: fork a pass for each, lend them the board, and rejoin what they hand
-//! back. The crate `he_board_tests` does so with two threads. A call on a pass asks for a pass of that same board.
+//! Threads of your own need no more than this: fork a pass for each, lend them the board, and rejoin the passes that
+//! they return. The crate `he_board_tests` does so with two threads. A call requires a pass of the same board.
 //!
-//! What is proved, in every order in which the steps of all passes may come:
+//! Proved, for every order of the steps of all passes:
 //!
-//! - The board is lawful from `Board::new` on: the word of a job is 1 where exactly one pass has taken it, and 0 where
-//!   none has and none knows it to be taken; the word of a race is one of its offers, or `NO_OFFER` where there is
-//!   none, and at most each offer and each value that was looked at; no part is lost. `specs/Lawful.antt` says it, and
-//!   `board_is_lawful` is the proof that the rule of the table, under which each step stands, says exactly that.
-//! - What each call answers, and what it adds to the notes of its pass.
-//! - Who has all parts knows the winner: `winner` is the least of all offers, and each job that the pass knows to be
-//!   taken it has taken itself, by one of the passes that were rejoined into it.
+//! - The board is lawful from `Board::new` on: the word of a job is 1 if exactly one pass has taken it, and 0 if none
+//!   has and none knows it to be taken; the word of a race is one of its offers, or `NO_OFFER` if there is none, and
+//!   at most each offer and each value that was looked at; no part is lost. `specs/Lawful.antt` defines this, and
+//!   `board_is_lawful` proves that it is equivalent to the rule of the table, which each step keeps.
+//! - The result of each call, and its addition to the notes of its pass.
+//! - A pass with all parts knows the winner: `winner` is the least of all offers, and the pass has itself taken each
+//!   job that it knows to be taken, by one of the passes that were rejoined into it.
 //!
-//! What no call says: whether a job that somebody took is done, or will be; that a thread makes progress; what a pass
-//! did that was not rejoined, beyond the words that it left; and in which order two passes stepped that never met,
-//! unless a value shows it (a winner word only falls). A pass that is dropped takes its parts along: the board stays
-//! lawful, and nobody can ask for the `winner` any more.
+//! Not covered by any contract: whether a taken job is done, or ever will be; that a thread makes progress; the steps
+//! of a pass that was not rejoined, beyond the words that it left; and the order of the steps of two passes that
+//! never met, unless a value shows it (a winner word only decreases). A dropped pass takes its parts with it: the
+//! board stays lawful, but `winner` can't be called any more.
 //!
 //! No call after `Board::new` waits, allocates or can fail.
 #![tactic(auto)]

@@ -5,9 +5,9 @@ ghost use Rattle.he_board.specs.Notes.{are_keys};
 use crate::view::View;
 use atomic_table::Seat;
 
-/// A pass of one board. It has at least one of the board's parts, and has noted what was done with it (see `View`).
+/// A pass of one board. It has at least one of the board's parts, and notes of the steps taken with it (see `View`).
 ///
-/// Every call on a board takes a pass of that board: the one that came with it, or one made of that by forks and
+/// Every call on a board takes a pass of that board: the one that came with it, or one made from that by forks and
 /// rejoins there.
 #[derive(Drop)]
 pub struct Pass {
@@ -22,7 +22,7 @@ pub struct Pass {
 impl Pass {
     ghost use Rattle.he_board.specs.Passes.{notes};
 
-    /// How many of the board's parts the pass has. With all `PARTS` there is no other pass.
+    /// The number of the board's parts that the pass has. With all `PARTS` there is no other pass.
     pub fn parts(&self) -> u32
         ensures value { result ≡ (notes self.now).parts }
         ensures positive { 0 < result }

@@ -1,4 +1,4 @@
-//! The rule of a board's table, and what its steps say. These types are for the proofs alone.
+//! The rule of a board's table, and the contracts of its steps. These types are only for the proofs.
 ghost use Rattle.he_board.specs.Balance.{IsBalanced};
 ghost use Rattle.he_board.specs.Notes.{blank, given, joined, kept};
 ghost use Rattle.he_board.specs.Plays.{job_swapped, parts_counted, winner_loaded, winner_lowered};

@@ -1,4 +1,4 @@
-//! The single atomic steps on a board. Each changes one word at most, and the notes of one pass.
+//! The single atomic steps on a board. Each changes at most one word, and the notes of one pass.
 ghost use Rattle.std.specs.Prelude.{◌≡◌, ◌==◌, ◌+◌, ◌<◌, ◌≤◌, if◌then◌else◌};
 ghost use Rattle.he_board.specs.Notes.{taking, knowing, looking, offering, kept, given, joined};
 ghost use Rattle.he_board.specs.Passes.{IsPassOf, jobs_of, notes, races_of};
@@ -11,7 +11,7 @@ use crate::rule::{CountsParts, Halves, LoadsWinner, LowersWinner, SwapsJob};
 use std::alloc::Allocator;
 
 impl<A: Allocator> Board<A> {
-    // Writes 1 to the word of the job, and returns what it was.
+    // Writes 1 to the word of the job, and returns the old word.
     pub(crate) fn swap_job(&self, pass: &mut Pass, job: usize) -> u64
         requires own { IsPassOf self.now pass.old }
         requires job { job < jobs_of self.now }
@@ -37,7 +37,7 @@ impl<A: Allocator> Board<A> {
             .load::<LoadsWinner>(&mut pass.seat, 1 + race)
     }
 
-    // Lowers the winner word of the race to the key, and returns what it was.
+    // Lowers the winner word of the race to the key if that is less, and returns the old word.
     pub(crate) fn lower_winner(&self, pass: &mut Pass, race: usize, key: u64) -> u64
         requires own { IsPassOf self.now pass.old }
         requires race { race < races_of self.now }
@@ -51,8 +51,8 @@ impl<A: Allocator> Board<A> {
             .fetch_min::<LowersWinner>(&mut pass.seat, 1 + race, key)
     }
 
-    // Looks at the word that no step changes: of a pass with all parts, beside which there is no other, that tells who
-    // took what.
+    // Loads the word that no step changes. For a pass with all parts, when no other pass exists, this shows which
+    // jobs it took.
     pub(crate) fn count_parts(&self, pass: &mut Pass)
         requires own { IsPassOf self.now pass.old }
         ensures own { IsPassOf self.now pass.new }
@@ -95,7 +95,7 @@ impl<A: Allocator> Board<A> {
             parts: more,
         } = second;
         self.table.shared.join_seat::<Halves>(&mut seat, other);
-        // A join tells nothing of the words, so this second look shows that the sum fits.
+        // A join shows nothing about the words; this second load shows that the sum fits.
         self.table.shared.load::<CountsParts>(&mut seat, 0);
         Pass {
             seat,

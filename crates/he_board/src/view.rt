@@ -1,21 +1,21 @@
-//! What the rule of a board speaks of. No value of a `View` is ever made.
+//! The values that the rule of a board describes. No value of a `View` is ever made.
 use std::collections::LinkedList;
 
-/// What a pass has noted. A pair is a race and a value.
+/// The notes of a pass. A pair is a race and a value.
 pub struct View {
-    /// How many of the board's parts the pass has.
+    /// The number of the board's parts that the pass has.
     pub parts: u64,
-    /// The jobs that it has taken.
+    /// The jobs that the pass has taken.
     pub taken: LinkedList<u64>,
-    /// The jobs that it knows to be taken, by itself or by another.
+    /// The jobs that the pass knows to be taken, by itself or by another.
     pub known: LinkedList<u64>,
-    /// The keys that it has offered.
+    /// The keys that the pass has offered.
     pub offers: LinkedList<(u64, u64)>,
-    /// The values of winner words that it has looked at.
+    /// The values of winner words that the pass has looked at.
     pub looked: LinkedList<(u64, u64)>,
 }
 
-/// How many jobs and races a board has.
+/// The numbers of jobs and races of a board.
 #[derive(Drop)]
 pub struct Layout {
     pub jobs: usize,

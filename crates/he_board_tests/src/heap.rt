@@ -1,4 +1,4 @@
-// Which growth the allocator of tests refuses: exactly the nth, of all threads' together.
+// The growth that the allocator of tests refuses: exactly the nth, of all threads together.
 
 use refusing::{MOST_RUNS, Refusing, each_growth_refused, refused_in_turn};
 use std::alloc::AllocError;
@@ -10,7 +10,7 @@ fn grow(heap: &Refusing) -> bool {
     grown.is_ok()
 }
 
-// The third growth alone is refused, and none that is far off, nor the 0th, nor any before the first call of `refuse`.
+// The third growth alone is refused. None is for an `nth` out of reach, for 0, or before the first call of `refuse`.
 #[test]
 fn nth(rt: HostRuntime) {
     let heap = Refusing::new(rt.alloc());
@@ -25,8 +25,8 @@ fn nth(rt: HostRuntime) {
     }
 }
 
-// How many runs were refused a growth, and how many were made, of a code that grows so often in its first run, and so
-// much oftener in each later one.
+// The number of runs that were refused a growth, and of all runs, for code that grows `growths` times in its first
+// run, and `more` times more in each later one.
 fn refused_runs(heap: &Refusing, growths: u64, more: u64) -> (u64, u64) {
     let mut runs = 0u64;
     let mut next = growths;
@@ -40,8 +40,8 @@ fn refused_runs(heap: &Refusing, growths: u64, more: u64) -> (u64, u64) {
     (refused, runs)
 }
 
-// What grows twice is refused twice, what never grows is refused nothing, and what has no last growth answers 0 at the
-// bound. Each time the heap refuses nothing afterwards.
+// Code that grows twice is refused twice, code that never grows is never refused, and code without a last growth gets
+// 0 at the bound. Each time the heap refuses nothing afterwards.
 #[test]
 fn each_growth(rt: HostRuntime) {
     let heap = Refusing::new(rt.alloc());
@@ -51,7 +51,7 @@ fn each_growth(rt: HostRuntime) {
     }
 }
 
-// Grows so often, up to the growth that is refused. What it says of it all, where nothing was refused.
+// Grows this number of times, up to the growth that is refused; returns `told` if none was refused.
 fn grow_in_turn(heap: &Refusing, growths: u64, told: Option<bool>) -> Option<bool> {
     for _ in 0..growths {
         if !grow(heap) {
@@ -61,7 +61,8 @@ fn grow_in_turn(heap: &Refusing, growths: u64, told: Option<bool>) -> Option<boo
     told
 }
 
-// The growths of what is right are counted. What is wrong, or says that memory was refused where none was, is told.
+// Counts the growths of right results. Returns None for a wrong result, and for one that reports refused memory if
+// none was refused.
 #[test]
 fn in_turn(rt: HostRuntime) {
     let heap = Refusing::new(rt.alloc());

@@ -1,4 +1,4 @@
-//! Tests of what threads share: a board, and the allocator of tests that refuses a growth.
+//! Tests of the state that threads share: a board, and the allocator of tests that refuses a growth.
 #![tactic(auto)]
 
 #[cfg(test)]

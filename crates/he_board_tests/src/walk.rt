@@ -3,8 +3,8 @@
 use he_board::{Board, BoardFault, NO_OFFER};
 use refusing::{MOST_RUNS, Refusing};
 
-// The second pass has to see what the first one offered. No clause of `least` says so: an answer from the pass's own
-// notes alone would meet them.
+// The second pass must see the offer of the first one. No clause of `least` requires this: an answer from the pass's
+// own notes alone would meet them.
 #[test]
 fn board_walk(rt: HostRuntime) {
     let Ok((board, pass)) = Board::new(rt.alloc(), 3, 1) else {

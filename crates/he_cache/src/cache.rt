@@ -1,4 +1,4 @@
-//! The answers that are kept.
+//! The cache of answers.
 
 ghost use Rattle.std.specs.Prelude.{◌≡◌, ◌<◌, ◌⊎◌, IfOk, None, OnErr, OnOk, Some, false, length, map, string_bytes, ◌≢◌, []};
 ghost use Rattle.std.specs.Char.{to_ascii_lowercase};
@@ -13,16 +13,16 @@ use std::alloc::Global;
 use std::num::NonZeroUsize;
 use std::string::String;
 
-/// The most hosts of which an answer of a family is kept.
+/// The maximum number of hosts whose answer of a family is kept.
 pub const MOST_HOSTS: usize = 1_024;
 
-/// The most seconds for which an answer is kept, whatever its TTL.
+/// The maximum time that an answer is kept, in seconds, whatever its TTL.
 pub const MOST_SECONDS: u32 = 300;
 
-/// The seconds for which an answer without a TTL is kept.
+/// The time that an answer without a TTL is kept, in seconds.
 pub const SECONDS_WITHOUT_TTL: u32 = 5;
 
-// What is kept, since when, and for how many seconds.
+// An answer, the second in which it was kept, and the number of seconds for which it is valid.
 #[derive(Drop)]
 pub(crate) struct Kept<V> {
     answer: V,
@@ -30,21 +30,21 @@ pub(crate) struct Kept<V> {
     seconds: u64,
 }
 
-/// The answers of look-ups: of each family those of the [`MOST_HOSTS`] hosts of which one was kept last.
+/// The answers of look-ups: for each family those of the last [`MOST_HOSTS`] hosts that were kept.
 #[derive(Drop)]
 pub struct AnswerCache<V> {
     alloc: Global,
-    // By the host, in lower case.
+    // By host, in lower case.
     v6: LruCache<String, Kept<V>>,
     v4: LruCache<String, Kept<V>>,
 }
 
 impl<V: Drop> AnswerCache<V> {
-    /// Nothing is kept.
+    /// An empty cache.
     ///
     /// # Errors
     ///
-    /// `Memory`.
+    /// `Memory` if an allocation failed.
     pub fn new(alloc: Global) -> Result<AnswerCache<V>, Memory>
         ensures six { IfOk result (λ cache. cache.v6 ≡ lru_cache [] 1024) }
         ensures four { IfOk result (λ cache. cache.v4 ≡ lru_cache [] 1024) }
@@ -57,11 +57,12 @@ impl<V: Drop> AnswerCache<V> {
         })
     }
 
-    /// What was kept last of this family of the host, where it counts now: in this second of any clock that goes on.
+    /// The answer kept last for this family of the host, if it is still valid at `now`, a second of any clock that
+    /// never goes back.
     ///
     /// # Errors
     ///
-    /// `Memory`.
+    /// `Memory` if an allocation failed.
     pub fn answer(&self, now: u64, host: &str, family: Family) -> Result<Option<&V>, Memory>
         ensures { IfOk result (λ answer. option_copied answer ≡ answer_at now (kept_of self.now host.now family)) }
     {
@@ -76,14 +77,14 @@ impl<V: Drop> AnswerCache<V> {
         }
     }
 
-    /// Keeps what was found of this family of the host, from this second on, in place of what was kept of it before:
-    /// for as many seconds as its TTL says, at most [`MOST_SECONDS`]; where it has none, as why there are no
-    /// addresses, [`SECONDS_WITHOUT_TTL`]. What is kept of other hosts stays; but where there are as many of them as
-    /// may be, the one that was kept longest ago is forgotten.
+    /// Keeps the answer for this family of the host from the second `now` on, and replaces an earlier one. It is
+    /// valid for its TTL in seconds, at most [`MOST_SECONDS`]; without a TTL, as when there are no addresses, for
+    /// [`SECONDS_WITHOUT_TTL`]. The answers of other hosts are unchanged; but if their number is at its maximum, the
+    /// host that was kept longest ago is forgotten.
     ///
     /// # Errors
     ///
-    /// `Memory`: all is as it was.
+    /// `Memory` if an allocation failed; nothing has changed.
     pub fn keep(
         &mut self,
         now: u64,
@@ -117,7 +118,7 @@ impl<V: Drop> AnswerCache<V> {
     }
 }
 
-// Keeps an answer of a host in lower case in place of what was kept of it.
+// Keeps an answer for a host in lower case, and replaces an earlier one.
 fn put<V: Drop>(
     hosts: &mut LruCache<String, Kept<V>>,
     host: String,
@@ -137,7 +138,7 @@ fn put<V: Drop>(
     Ok(())
 }
 
-// For how many seconds an answer is kept.
+// The number of seconds for which an answer is kept.
 fn seconds_for(ttl: Option<u32>) -> u64
     ensures { result ≡ seconds_for ttl }
 {

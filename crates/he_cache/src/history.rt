@@ -1,4 +1,4 @@
-//! What was seen of addresses when they were connected to (RFC 8305 section 4).
+//! The history of addresses that were connected to (RFC 8305 section 4).
 
 ghost use Rattle.std.specs.Prelude.{◌≡◌, ◌==◌, ◌<◌, ◌⊎◌, IfOk, None, OnErr, OnOk, Some, [], false, length, nat_eq};
 ghost use Rattle.std.specs.Map.{remove_entry};
@@ -12,27 +12,27 @@ use lru::LruCache;
 use std::alloc::Global;
 use std::num::NonZeroUsize;
 
-/// The most addresses of which it is known that they were connected to.
+/// The maximum number of addresses in a history.
 pub const MOST_ADDRESSES: usize = 4_096;
 
-/// For how many seconds that is known: a day.
+/// The time for which an entry counts, in seconds: a day.
 pub const SECONDS_KNOWN: u64 = 86_400;
 
-/// What was seen of an address when it was last connected to.
+/// The last connection to an address.
 #[derive(Clone, Copy, Debug, PartialEq, Eq)]
 pub struct Seen {
     pub ip: Ip,
-    /// The address of this machine that the connection came from.
+    /// The address of this machine from which the connection came.
     pub source: Ip,
-    /// The milliseconds from the start of the attempt to its connection.
+    /// The time from the start of the attempt to its connection, in milliseconds.
     pub rtt: u64,
-    /// The second of the connection, of any clock that goes on.
+    /// The second of the connection, by any clock that never goes back.
     pub at: u64,
 }
 
 impl Seen {
-    /// Whether it counts in this second, where a connection to the address would come from this source: for
-    /// [`SECONDS_KNOWN`] seconds, and from the same source alone, since another one means another network.
+    /// Whether the entry counts at the second `now` for a connection to the address from this source: for
+    /// [`SECONDS_KNOWN`] seconds, and only from the same source, since another source means another network.
     pub fn counts(self, source: Ip, now: u64) -> bool
         ensures { result ≡ counts source now self }
     {
@@ -40,19 +40,19 @@ impl Seen {
     }
 }
 
-/// What was seen of the [`MOST_ADDRESSES`] addresses that were connected to last.
+/// The last connections to the [`MOST_ADDRESSES`] addresses that were connected to most recently.
 #[derive(Drop)]
 pub struct History {
-    // By the address's number, an IPv4 one's as an IPv6 address.
+    // By the address's number, that of an IPv4 address as its mapped one.
     pub(crate) seen: LruCache<u128, Seen>,
 }
 
 impl History {
-    /// Nothing is known.
+    /// An empty history.
     ///
     /// # Errors
     ///
-    /// `Memory`.
+    /// `Memory` if an allocation failed.
     pub fn new(alloc: Global) -> Result<History, Memory>
         ensures { IfOk result (λ history. history.seen ≡ lru_cache [] 4096) }
     {
@@ -62,12 +62,12 @@ impl History {
         })
     }
 
-    /// An address was connected to: takes what was seen in place of what was seen of it before. Of other addresses all
-    /// stays known; but where as many are known as may be, the one that was connected to longest ago is forgotten.
+    /// Records a connection to an address, and replaces an earlier entry for it. Other entries are unchanged; but if
+    /// their number is at its maximum, the address connected to longest ago is forgotten.
     ///
     /// # Errors
     ///
-    /// `Memory`: all is as it was.
+    /// `Memory` if an allocation failed; nothing has changed.
     pub fn learn(&mut self, seen: Seen) -> Result<(), Memory>
         ensures learnt { OnOk result (seen_of self.new seen.ip ≡ Some seen) }
         ensures others { (other : Ip) → (mapped_of other == mapped_of seen.ip) ≡ false
@@ -81,7 +81,7 @@ impl History {
         Ok(())
     }
 
-    /// An attempt to connect to the address failed: what was seen of it before is forgotten, and nothing else.
+    /// Records a failed attempt to connect to the address: forgets its entry, and no other.
     pub fn forget(&mut self, ip: Ip)
         ensures { self.new.seen
             ≡ lru_cache (remove_entry (nat_eq (mapped_of ip)) self.old.seen.entries) self.old.seen.cap }
@@ -89,14 +89,14 @@ impl History {
         self.seen.pop(&ip.mapped());
     }
 
-    /// Whether no address is known.
+    /// Whether the history is empty.
     pub fn is_empty(&self) -> bool
         ensures { result ≡ (length self.now.seen.entries == 0) }
     {
         self.seen.is_empty()
     }
 
-    /// What was seen of the address.
+    /// The entry of the address.
     pub fn seen(&self, ip: Ip) -> Option<Seen>
         ensures { result ≡ seen_of self.now ip }
     {

@@ -1,5 +1,5 @@
-//! The text of what is known of addresses: a line for each, `ADDRESS SOURCE MILLISECONDS SECOND`, with a single space
-//! between each two; the address that was connected to last comes first.
+//! The text of a history: a line for each address, `ADDRESS SOURCE MILLISECONDS SECOND`, separated by single spaces;
+//! the address connected to last comes first.
 
 ghost use Rattle.std.specs.Prelude.{◌≡◌, ◌==◌, ◌++◌, IfOk, OnOk, map};
 ghost use Rattle.std.specs.List.{slice_split};
@@ -7,25 +7,25 @@ ghost use Rattle.he_cache.specs.KnownText.{ReadsBack, line_of, seen_by, seen_in,
 
 use crate::history::{History, Seen};
 use he_addr::{Ip, Memory, read_ip, read_number, write_ip, write_number};
-use std::alloc::{AllocError, Allocator, Global};
+use std::alloc::{Allocator, Global};
 
 const LINE_END: u8 = b'\n';
 
 const FIELD_END: u8 = b' ';
 
-/// What a text comes to.
+/// The result of reading a history.
 #[derive(Drop)]
 pub struct ReadHistory {
     pub history: History,
-    /// The lines that are none of such a text, counted from 1.
+    /// The numbers of the invalid lines, counted from 1.
     pub wrong: Vec<u64>,
 }
 
-/// What is known by this text. A line that is wrong is passed over.
+/// Reads a history. Invalid lines are skipped.
 ///
 /// # Errors
 ///
-/// `Memory`.
+/// `Memory` if an allocation failed.
 pub fn read_history(alloc: Global, text: &[u8]) -> Result<ReadHistory, Memory> {
     let mut history = History::new(alloc)?;
     let mut wrong = Vec::new(alloc);
@@ -39,7 +39,7 @@ pub fn read_history(alloc: Global, text: &[u8]) -> Result<ReadHistory, Memory> {
     Ok(ReadHistory { history, wrong })
 }
 
-fn lines(alloc: Global, text: &[u8]) -> Result<Vec<&[u8]>, AllocError> {
+fn lines(alloc: Global, text: &[u8]) -> Result<Vec<&[u8]>, Memory> {
     if text.is_empty() {
         return Ok(Vec::new(alloc));
     }
@@ -49,7 +49,7 @@ fn lines(alloc: Global, text: &[u8]) -> Result<Vec<&[u8]>, AllocError> {
         .collect(alloc)
 }
 
-// What a line says.
+// The entry of a line.
 #[tactic(auto, unfolding(crate::specs::KnownText::seen_in))]
 fn read_line(alloc: Global, line: &[u8]) -> Result<Option<Seen>, Memory>
     ensures { IfOk result (λ seen. seen ≡ seen_in line.now) }
@@ -58,7 +58,7 @@ fn read_line(alloc: Global, line: &[u8]) -> Result<Option<Seen>, Memory>
     Ok(read_fields(&fields))
 }
 
-fn fields_of(alloc: Global, line: &[u8]) -> Result<Vec<&[u8]>, AllocError>
+fn fields_of(alloc: Global, line: &[u8]) -> Result<Vec<&[u8]>, Memory>
     ensures { IfOk result (λ fields. map (λ field. field.now) fields.items ≡ slice_split (λ b. b == 32) line.now) }
 {
     line.split(|byte| *byte == FIELD_END).collect(alloc)
@@ -89,11 +89,11 @@ fn seen_by(ip: Option<Ip>, source: Option<Ip>, rtt: Option<u64>, at: Option<u64>
     })
 }
 
-/// Appends the text of what is known.
+/// Appends the text of the history.
 ///
 /// # Errors
 ///
-/// `Memory`: a part of the text may be there.
+/// `Memory` if an allocation failed: a part of the text may have been appended.
 pub fn write_history<A: Allocator + Copy>(
     history: &History,
     text: &mut Vec<u8, A>,
@@ -117,7 +117,7 @@ fn write_line<A: Allocator + Copy>(seen: Seen, text: &mut Vec<u8, A>) -> Result<
     write_number(seen.at, text)
 }
 
-/// What is written of an address is read as it. Runs nothing.
+/// The written line of an entry reads back as it. Runs nothing.
 pub fn reads_back()
     ensures { ReadsBack }
 {}

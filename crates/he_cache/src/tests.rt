@@ -1,4 +1,4 @@
-// What is kept of hosts, and for how long.
+// The answers kept for hosts, and their lifetimes.
 
 use crate::cache::AnswerCache;
 use he_addr::Family;
@@ -30,7 +30,7 @@ fn a_ttl_is_bounded(rt: HostRuntime) -> Result<(), Fail> {
     Ok(())
 }
 
-// What is known of addresses.
+// The history of addresses.
 
 use crate::history::{History, SECONDS_KNOWN, Seen};
 use crate::history_text::{read_history, write_history};

@@ -1,4 +1,4 @@
-//! The clients that have said nothing yet.
+//! The clients that have sent nothing yet.
 ghost use Rattle.futures.specs.Task.{Keeps};
 
 use futures::task::{Context, Poll, Source, Waker};
@@ -9,32 +9,32 @@ use std::mem::drop;
 use std::net::{IpAddr, Ipv6Addr};
 use std::time::{Duration, Instant};
 
-/// How many clients at most have said nothing yet.
+/// The most clients that have sent nothing yet.
 pub const MOST_BEGINNING: usize = 400;
 
-/// How many of them at most come from one address. The addresses of a /64 network of IPv6 count as one.
+/// The most of them from one address. The addresses of an IPv6 /64 network count as one.
 pub const MOST_OF_ADDRESS: usize = 100;
 
-// Those of a network of IPv6, whose addresses count as one.
+// The prefix length of an IPv6 network whose addresses count as one.
 const NETWORK_BITS: u32 = 64;
 
-// For how many milliseconds a client may say nothing before another one takes its place.
+// Milliseconds that a client may send nothing before another one may take its place.
 const LEAST: u64 = 50;
 
-// How many may be on their way out at once, before any other client comes.
+// The most clients that have lost their places and not left yet; no other client may come before.
 const MOST_GOING: u32 = 64;
 
-/// The clients that have said nothing yet, in the order in which they came. Where there are as many as may be, the first
-/// one makes room for the next.
+/// The clients that have sent nothing yet, in the order in which they came. At the limit, the first one makes room
+/// for the next.
 #[derive(Drop)]
 pub struct Beginning {
     alloc: Global,
     waiting: Cell<Vec<Waiting>>,
-    // The number of the next one.
+    // The number of the next client.
     next: Cell<u64>,
-    // Those before this number had their time when it was last asked who may go.
+    // Clients with lower numbers had used up their time at the last check.
     had_time: Cell<u64>,
-    // How many lost their places, and are there still.
+    // The number of clients that lost their places and have not left yet.
     going: Cell<u32>,
 }
 
@@ -43,12 +43,12 @@ struct Waiting {
     number: u64,
     from: IpAddr,
     since: Instant,
-    // Of its session, which is woken where this is dropped.
+    // The waker of its session, which is woken when this is dropped.
     waker: Option<Waker>,
 }
 
 impl Beginning {
-    /// There are none.
+    /// No clients.
     pub fn new(alloc: Global) -> Beginning {
         Beginning {
             alloc,
@@ -59,9 +59,9 @@ impl Beginning {
         }
     }
 
-    /// Whether no other client may come now: another one like the last would take the place of one that had no time yet
-    /// to say something, or many that lost their places are there still. Let the event loop turn before asking again:
-    /// it may not have seen yet that something has come from one that had its time.
+    /// Whether no other client may come now: another one from the last one's address would take the place of a client
+    /// that still has time to send something, or too many that lost their places have not left. Poll the event loop
+    /// before the next call: it may not have seen yet that a client whose time is up has sent something.
     pub fn is_full(&self, now: Instant) -> bool {
         if self.going.get() >= MOST_GOING {
             return true;
@@ -75,7 +75,8 @@ impl Beginning {
         is_full
     }
 
-    // Whether this one had its time when it was last asked. Else it may go the next time, if it has had its time by now.
+    // Whether the client's time was up at the last check. If it is up only now, the client may be removed at the next
+    // check.
     fn may_go(&self, waiting: &[Waiting], first: &Waiting, now: Instant) -> bool {
         if first.number < self.had_time.get() {
             return true;
@@ -86,7 +87,7 @@ impl Beginning {
         false
     }
 
-    // The number of the first one that had no time yet to say something, or else of the next one to come.
+    // The number of the first client that still has time, or of the next one to come.
     fn first_young(&self, waiting: &[Waiting], now: Instant) -> u64 {
         for client in waiting {
             if is_young(client, now) {
@@ -96,12 +97,12 @@ impl Beginning {
         self.next.get()
     }
 
-    /// The place of a client from this address. Where there are as many as may be, of this address or in all, the
-    /// first of these loses its own.
+    /// The place of a client from this address. At the limit, for the address or in all, the first of those clients
+    /// loses its place.
     ///
     /// # Errors
     ///
-    /// `AllocError` where an allocation was refused.
+    /// `AllocError` if an allocation fails.
     pub fn enter(&self, from: IpAddr, now: Instant) -> Result<ClientPlace<'_>, AllocError> {
         let from = counted_as(from);
         let number = self.next.get();
@@ -136,7 +137,7 @@ impl Beginning {
     }
 }
 
-/// A client's place among those that have said nothing yet.
+/// A client's place among those that have sent nothing yet.
 pub struct ClientPlace<'b> {
     of: &'b Beginning,
     number: u64,
@@ -163,7 +164,7 @@ impl Drop for ClientPlace<'_> {
     }
 }
 
-// Ready where the client has no place any more.
+// Ready once the client has lost its place.
 fn poll_place(
     waiting: &mut Vec<Waiting>,
     number: u64,
@@ -191,7 +192,7 @@ fn place_of(waiting: &[Waiting], number: u64) -> Option<usize> {
     waiting.iter().position(|other| other.number == number)
 }
 
-// Which one makes room for a client like the last, if one has to.
+// The client that must make room for another one from the last one's address, if any.
 fn next_to_go(waiting: &[Waiting]) -> Option<&Waiting> {
     let last = waiting.last()?;
     waiting.get(first_to_go(waiting, last.from)?)
@@ -204,7 +205,7 @@ fn is_young(client: &Waiting, now: Instant) -> bool {
     }
 }
 
-// Which one makes room for a client from this address, if one has to.
+// The client that must make room for one from this address, if any.
 fn first_to_go(waiting: &[Waiting], from: IpAddr) -> Option<usize> {
     let mut of_one = 0usize;
     for other in waiting {
@@ -221,7 +222,7 @@ fn first_to_go(waiting: &[Waiting], from: IpAddr) -> Option<usize> {
     }
 }
 
-// As what an address counts: IPv4 as itself, also inside IPv6, and IPv6 as its network.
+// The address that counts: an IPv4 address itself, also if IPv4-mapped; for an IPv6 address, its network.
 fn counted_as(from: IpAddr) -> IpAddr {
     match from.to_canonical() {
         IpAddr::V6(ip) => {

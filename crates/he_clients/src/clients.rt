@@ -1,4 +1,4 @@
-//! The clients of the proxy, as sessions that begin.
+//! The proxy's clients, as sessions that begin.
 ghost use Rattle.std.specs.Prelude.{◌≡◌, IfOk, IfSome};
 ghost use Rattle.futures.specs.Poll.{OnPending};
 ghost use Rattle.futures.specs.Task.{IsArmed, Keeps};
@@ -13,34 +13,33 @@ use std::time::{Clock, Duration, Instant};
 use tokio::net::TcpStream;
 use tokio::time::{Handle, Sleep};
 
-// How many milliseconds nobody is accepted where this machine could make no socket for a client, as where no
-// descriptor is left.
+// Milliseconds without accepts after this machine could not make a socket for a client, as for lack of a descriptor.
 const REST: u64 = 1_000;
 
-// And where as many sessions begin as may.
+// Milliseconds without accepts while the limit of beginning sessions is reached.
 const WAIT: u64 = 5;
 
-// How many clients one poll turns away.
+// The most clients that one poll refuses.
 const MOST_TURNED_AWAY: u32 = 64;
 
-/// What is done with clients.
+/// Handles clients.
 pub trait Service {
     type Session: Future<Output = ()>;
 
-    /// The session of a client; None where it is not served, or no memory is left.
+    /// The session of a client; None if it is not served, or an allocation fails.
     fn begin(&self, client: TcpStream, address: SocketAddr) -> Option<Self::Session>
         ensures { IfSome result Self.Session.can_poll };
 
-    /// Whether no client is taken now, since as many sessions begin as may. It is asked again once the event loop has
-    /// turned.
+    /// Whether no client may be accepted now, since the limit of beginning sessions is reached. It is asked again
+    /// after the event loop was polled.
     fn is_full(&self) -> bool;
 
-    /// Hears that this machine could make no socket for a client, the first time since one was accepted.
+    /// This machine could not make a socket for a client: called the first time after one was accepted.
     fn tell_rest(&self, why: Reason);
 }
 
-/// The clients that sockets accept, each as its session. Where this machine can make no socket for a client, none is
-/// accepted for a second; where as many sessions begin as may, none is until one has.
+/// The clients that sockets accept, each as its session. If this machine can't make a socket for a client, it accepts
+/// none for a second; at the limit of beginning sessions it accepts none until there is room.
 #[derive(Drop)]
 pub struct Clients<'q, K: Clock, V: Service, S: Stream> {
     clock: &'q K,
@@ -48,7 +47,7 @@ pub struct Clients<'q, K: Clock, V: Service, S: Stream> {
     sockets: S,
     rest: Sleep,
     is_resting: bool,
-    // Whether a rest was told since a client was accepted.
+    // Whether a rest was reported since a client was accepted.
     has_told: bool,
 }
 
@@ -80,7 +79,7 @@ impl<'q, K: Clock, V: Service, S: Stream<Item = io::Result<TcpStream>>> Clients<
         })
     }
 
-    // Waits for the end of the rest, if there is one.
+    // Waits for the end of the rest, if any.
     fn poll_rest(&mut self, cx: &mut Context<'_>) -> Poll<()>
         ensures armed { OnPending result (IsArmed cx.new) }
         ensures same { self.new.sockets ≡ self.old.sockets }
@@ -93,7 +92,7 @@ impl<'q, K: Clock, V: Service, S: Stream<Item = io::Result<TcpStream>>> Clients<
         Poll::Ready(())
     }
 
-    // The session of a client that was accepted, where it is served.
+    // The session of an accepted client, if it is served.
     fn session_of(&mut self, accepted: io::Result<TcpStream>) -> Option<V::Session>
         ensures can { IfSome result V.Session.can_poll }
         ensures same { self.new.sockets ≡ self.old.sockets }
@@ -113,7 +112,7 @@ impl<'q, K: Clock, V: Service, S: Stream<Item = io::Result<TcpStream>>> Clients<
         }
     }
 
-    // Begins a rest where this machine could make no socket for a client. Another fault is that client's own.
+    // Begins a rest if this machine could not make a socket for a client. Any other error is that client's own.
     fn begin_rest(&mut self, why: Reason)
         ensures { self.new.sockets ≡ self.old.sockets }
     {
@@ -127,7 +126,7 @@ impl<'q, K: Clock, V: Service, S: Stream<Item = io::Result<TcpStream>>> Clients<
         }
     }
 
-    // Begins a rest of so many milliseconds. Where the clock fails there is none.
+    // Begins a rest of this number of milliseconds; none if the clock fails.
     fn rest_for(&mut self, millis: u64)
         ensures { self.new.sockets ≡ self.old.sockets }
     {

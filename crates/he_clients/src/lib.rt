@@ -1,11 +1,11 @@
-//! The clients of a proxy until they have said something: who is accepted, and who makes room for whom.
+//! The clients of a proxy until they have sent something: which are accepted, and which make room for others.
 //!
-//! [`Clients`] is the stream of the sessions of those that sockets accept. [`Beginning`] has the places of those that
-//! have said nothing, of which the oldest makes room for the next, and [`Running`] counts sessions.
+//! [`Clients`] is the stream of the sessions of the clients that sockets accept. [`Beginning`] has the places of
+//! those that have sent nothing, of which the oldest makes room for the next, and [`Running`] counts sessions.
 //!
-//! Proved: the stream of clients, where it is pending, has registered for what it waits for, or asked to be polled
-//! again; each session that it begins may be polled. Only tested: who makes room for whom, that as many sessions run as
-//! may, and that it waits where no descriptor is left.
+//! Proved: a pending stream of clients has registered for what it waits for, or asked to be polled again; each
+//! session that it begins may be polled. Tested only: which client makes room, that the limit of sessions is kept,
+//! and that it waits if no descriptor is left.
 #![tactic(auto)]
 
 pub mod beginning;

@@ -1,8 +1,8 @@
-//! How many sessions run.
+//! Counts running sessions.
 
 use std::cell::Cell;
 
-/// How many sessions run, and whether they are as many as may.
+/// The number of running sessions, and whether the limit was reached.
 #[derive(Drop)]
 pub struct Running {
     most: u32,
@@ -11,7 +11,7 @@ pub struct Running {
 }
 
 impl Running {
-    /// None runs, of so many at most.
+    /// No sessions, of at most `most`.
     pub fn new(most: u32) -> Running {
         Running {
             most,
@@ -20,18 +20,19 @@ impl Running {
         }
     }
 
-    /// How many may run at once.
+    /// The most sessions at once.
     pub fn most(&self) -> u32 {
         self.most
     }
 
-    /// One more runs. Whether as many do now as may, for the first time since there was room for a tenth of them.
+    /// Adds a session. Returns true if this reaches the limit, the first time since there was room for a tenth of it.
     pub fn add(&self) -> bool {
         self.count.set(self.count.get().saturating_add(1));
         self.count.get() >= self.most && !self.is_full.replace(true)
     }
 
-    /// One has ended. Whether there is room for a tenth of them, for the first time since as many ran as may.
+    /// Removes a session. Returns true if there is room for a tenth of the limit, the first time since the limit was
+    /// reached.
     pub fn remove(&self) -> bool {
         self.count.set(self.count.get().saturating_sub(1));
         let room = self.most.saturating_sub(self.count.get());

@@ -1,8 +1,8 @@
 -- The port of a service, by the file that was read.
 use Rattle.std.proofs.Common.{◌≡◌, ℕ, List, inl, subst, sym}
 use Rattle.std.specs.Borrow.{Bor}
-use Rattle.he_request.specs.declared.port.Port.{Port}
-use Rattle.he_request.specs.declared.port.Port.TheVariants.{Service}
+use Rattle.he_options.specs.declared.port.Port.{Port}
+use Rattle.he_options.specs.declared.port.Port.TheVariants.{Service}
 use Rattle.he_names.specs.declared.ports.PortFault.{PortFault}
 use Rattle.he_names.specs.declared.ports.PortFault.TheVariants.{Unknown}
 use Rattle.he_names.specs.Ports.{IsNoPort, MeansPort}

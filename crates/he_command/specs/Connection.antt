@@ -1,4 +1,4 @@
--- What comes of a connection that a line asks for.
+-- The effects of `he connect`.
 use Rattle.std.specs.Prelude.{◌≡◌, ◌≢◌, ◌⊎◌, ℕ, List, Bool, true, false, Option, Some, None, is_some, Result}
 use Rattle.std.specs.Borrow.{Bor}
 use Rattle.he_addr.specs.declared.ip.Family.{Family}
@@ -15,10 +15,10 @@ use Rattle.he_names.specs.declared.ports.PortFault.TheVariants.{Unknown}
 use Rattle.he_relay.specs.Relays.{Relays}
 use Rattle.he_relay.specs.declared.fault.RelayFault.{RelayFault}
 use Rattle.he_request.specs.declared.connect.Connection.{Connection}
-use Rattle.he_request.specs.declared.port.Port.{Port}
-use Rattle.he_request.specs.declared.port.Port.TheVariants as ports
-use Rattle.he_request.specs.declared.resolver.Resolver.{Resolver}
-use Rattle.he_request.specs.declared.resolver.Resolver.TheVariants as resolvers
+use Rattle.he_options.specs.declared.port.Port.{Port}
+use Rattle.he_options.specs.declared.port.Port.TheVariants as ports
+use Rattle.he_options.specs.declared.resolver.Resolver.{Resolver}
+use Rattle.he_options.specs.declared.resolver.Resolver.TheVariants as resolvers
 use Rattle.he_settings.specs.declared.choice.Choice.{Choice}
 use Rattle.he_settings.specs.declared.choice.Choice.TheVariants as choices
 use Rattle.he_stream.specs.declared.stream.InputStream as inputs
@@ -30,14 +30,14 @@ use Rattle.he_command.specs.Files.{WasRead, WasWritten}
 use Rattle.he_command.specs.Objects.{ShowsRace}
 use Rattle.he_command.specs.Records.{KeepsRecord}
 
--- the number of a port: that of a service is what the file of services gives it, which was read
+-- the number of a port; for a service, by the services file, which was read
 abbrev pub HasPort : (List ℕ → Type 0) → Port → ℕ → Type 0
 HasPort IsRead (ports.Number own) number = number ≡ own
 HasPort IsRead (ports.Service name) number =
     (services : List ℕ) × IsRead services × MeansPort services name.now number
 
--- the status where a port has none: the line is wrong where the file of services, which was read, has no such service,
--- else that is a fault of the file, or of memory
+-- the status if there is no port: USAGE if the services file, which was read, doesn't have the service; otherwise
+-- FAULT for the file or memory
 abbrev pub LacksPort : (List ℕ → Type 0) → Port → ℕ → Type 0
 LacksPort IsRead (ports.Number own) status = ⊥
 LacksPort IsRead (ports.Service name) status =
@@ -58,7 +58,7 @@ choice_of (resolvers.Server server) = choices.Server server
 choice_of (resolvers.OnLink server) = choices.OnLink server
 choice_of resolvers.System = choices.System
 
--- the race that is asked for, at the port of this number, by resolver settings that this environment amends
+-- the requested race, at the port of this number, by a resolver configuration with this environment's changes
 abbrev pub race_of : Connection → ℕ → Environment → ConnectRequest
 race_of connection port environment =
     record {
@@ -73,43 +73,43 @@ race_of connection port environment =
       tells_steps = connection.tells_steps;
     }
 
--- a connection was relayed, and the status tells how that ended
+-- a connection was relayed, and the status reports how that ended
 abbrev pub RelaysTo : {O : Type 0} → outputs.Ghosts O → O → O → ℕ → Type 0
 RelaysTo output before after status =
     (result : Result (Unit {0}) RelayFault)
     × Relays (TookRounds output before after) (TookRoundsPart output before after) (after ≡ before) result
     × (status ≡ status_of result)
 
--- what comes of a race that was won or not: it is closed where it was only tried, else relayed; that there is no
--- connection is told by the status, or is a fault where there was no address
+-- the end of a race: a connection is closed with `only_tries`, otherwise relayed; without one, the status is
+-- NO_CONNECTION, or FAULT if there was no address
 abbrev pub EndsWon : {O : Type 0} → outputs.Ghosts O → Bool → Bool → O → O → ℕ → Type 0
 EndsWon output only_tries false before after status =
     ((status ≡ NO_CONNECTION) ⊎ (status ≡ FAULT)) × (after ≡ before)
 EndsWon output true true before after status = (status ≡ DONE) × (after ≡ before)
 EndsWon output false true before after status = RelaysTo output before after status
 
--- the same after the object of the race with this text; where that cannot be shown nothing is relayed
+-- that, after the object of the race with this text; if the object cannot be shown, nothing is relayed
 abbrev pub EndsShown : {O : Type 0} → outputs.Ghosts O → Bool → List ℕ → Bool → O → O → ℕ → Type 0
 EndsShown {O} output only_tries text won before after status =
     (between : O) × (shown : ℕ) × ShowsRace output text before between shown
     × (((shown ≡ DONE) × EndsWon output only_tries won between after status)
     ⊎ ((shown ≢ DONE) × (status ≡ FAULT) × (after ≡ between)))
 
--- the one with JSON, the other without
+-- with JSON or without
 abbrev pub EndsKept : {O : Type 0} → outputs.Ghosts O → Bool → Bool → List ℕ → Bool → O → O → ℕ → Type 0
 EndsKept output true only_tries text won before after status =
     EndsShown output only_tries text won before after status
 EndsKept output false only_tries text won before after status = EndsWon output only_tries won before after status
 
--- the same where its record was kept; else nothing is relayed
+-- that, if its record was kept; otherwise nothing is relayed
 abbrev pub EndsRace : {O : Type 0} → outputs.Ghosts O → Connection → List ℕ → ℕ → Bool → O → O → ℕ → Type 0
 EndsRace output connection text kept won before after status =
     ((kept ≡ DONE) × EndsKept output connection.is_json connection.only_tries text won before after status)
     ⊎ ((kept ≢ DONE) × (status ≡ FAULT) × (after ≡ before))
 
--- what comes of a connection, by resolver settings that this environment amends: it has no port, its record has no
--- place, or its race was not run, and the output is left alone; or a race was run for what is asked for, its record is
--- kept, and then what it won is relayed
+-- the effects of a connection, by a resolver configuration with this environment's changes: there is no port, no
+-- place for the record, or no race was run, and nothing is written; or a race was run for the request, its record is
+-- kept, and then its connection is relayed
 abbrev pub MakesConnection : {F P O : Type 0} → inputs.Ghosts F → outputs.Ghosts P → outputs.Ghosts O → Environment
     → Connection → O → O → ℕ → Type 0
 MakesConnection {F} {P} {O} file page output environment connection before after status =

@@ -1,4 +1,4 @@
--- What a file gave, and what one that was made took.
+-- The bytes read from a file, and those written to a new one.
 use Rattle.std.specs.Prelude.{ℕ, false, List}
 use Rattle.he_stream.specs.declared.stream.InputStream as inputs
 use Rattle.he_stream.specs.declared.stream.OutputStream as outputs

@@ -1,4 +1,4 @@
--- What comes of a live race that a line asks for.
+-- The effects of `he live`.
 use Rattle.std.specs.Prelude.{◌≡◌, ◌≢◌, ◌⊎◌, ℕ, Bool, true, List, IsSome, Option, Some, None, Result, Ok, Err, codes}
 use Rattle.std.specs.Borrow.{Bor}
 use Rattle.he_live.specs.Live.{Lives}
@@ -14,14 +14,14 @@ use Rattle.he_tasks.specs.declared.reports.TheConstants.{DONE, FAULT, NO_CONNECT
 use Rattle.he_command.specs.Connection.{LacksPort}
 use Rattle.he_command.specs.Files.{WasRead}
 
--- the status of a live race: that there is no connection is told where one had to be made
+-- the status of a live race: NO_CONNECTION only if one was required
 abbrev pub status_of_live : Bool → Result Outcome3 LiveFault → ℕ
 status_of_live must (Err fault) = FAULT
 status_of_live true (Ok (results.Exhausted tick)) = NO_CONNECTION
 status_of_live true (Ok (results.Limit tick)) = NO_CONNECTION
 status_of_live must (Ok result) = DONE
 
--- the race of an input was run, and the status tells how that ended
+-- the race of an input was run, and the status reports how that ended
 abbrev pub RunsRace : {I O : Type 0} → inputs.Ghosts I → outputs.Ghosts O → Live → I → I → O → O → ℕ → Type 0
 RunsRace input output options first last before after status =
     (result : Result Outcome3 LiveFault) × (told : LiveReport)
@@ -29,20 +29,20 @@ RunsRace input output options first last before after status =
     (TookPart output before after) (after ≡ before) options.changes told result
     × (status ≡ status_of_live options.must_connect result)
 
--- that; or its record could not be written to the file that was named, where the race may not have begun
+-- that; or its record could not be written to the named file, before the race or after it
 abbrev pub RunsRecorded : {I O : Type 0} → inputs.Ghosts I → outputs.Ghosts O → Live → I → I → O → O → ℕ → Type 0
 RunsRecorded input output options first last before after status =
     ((one : ℕ) × RunsRace input output options first last before after one
     × ((status ≡ one) ⊎ (IsSome options.record × (status ≡ FAULT))))
     ⊎ (IsSome options.record × (last ≡ first) × (after ≡ before) × (status ≡ FAULT))
 
--- that of a file which was opened; or it could not be
+-- the race of an opened file; or the file could not be opened
 abbrev pub RunsFile : {F O : Type 0} → inputs.Ghosts F → outputs.Ghosts O → Live → O → O → ℕ → Type 0
 RunsFile {F} file output options before after status =
     ((opened closed : F) × RunsRecorded file output options opened closed before after status)
     ⊎ ((after ≡ before) × (status ≡ FAULT))
 
--- the race of the file that is named, or of the input where none or `-` is
+-- the race of the named file; of the input if there is no name or it is `-`
 abbrev pub RunsNamed : {I F O : Type 0} → inputs.Ghosts I → inputs.Ghosts F → outputs.Ghosts O → Live
     → Option (Bor (List ℕ)) → I → I → O → O → ℕ → Type 0
 RunsNamed input file output options None first last before after status =
@@ -51,7 +51,7 @@ RunsNamed input file output options (Some name) first last before after status =
     ((name.now ≡ codes "-") × RunsRecorded input output options first last before after status)
     ⊎ ((name.now ≢ codes "-") × (last ≡ first) × RunsFile file output options before after status)
 
--- that; or there is no port for it, and nothing was read
+-- that; or it has no port, and nothing was read
 abbrev pub RunsLive : {I F O : Type 0} → inputs.Ghosts I → inputs.Ghosts F → outputs.Ghosts O → Live → I → I → O → O
     → ℕ → Type 0
 RunsLive input file output options first last before after status =

@@ -1,4 +1,4 @@
--- Objects that are shown in place of lines.
+-- JSON objects in place of lines.
 use Rattle.std.specs.Global.{Global, Vec}
 use Rattle.std.specs.Prelude.{◌≡◌, ◌⊎◌, [], ◌∷◌, ℕ, List, None, false, Result, Ok, Err}
 use Rattle.he_course.specs.Course.{IsCourse}
@@ -11,7 +11,7 @@ use Rattle.he_tasks.specs.Streams.{PutsText, Shows}
 use Rattle.he_tasks.specs.declared.reports.TheConstants.{FAULT}
 use Rattle.he_timeline.specs.Race.{Race}
 
--- the object of the one race of a text: what explains its course
+-- the object of the one race of a text: the explanation of its course
 pub record IsRaceObject (text object : List ℕ) : Type 0 where
   pub race : Race
   pub course : Course Global
@@ -20,18 +20,18 @@ pub record IsRaceObject (text object : List ℕ) : Type 0 where
   pub is_object : IsExplanationJson (record { file = None; number = course.number; line = course.line })
       course.addresses.items course.events.items object
 
--- an object that was made is put into the output, else nothing
+-- the object is written to the output if there is one, otherwise nothing
 abbrev pub ShowsMade : {O : Type 0} → outputs.Ghosts O → Result (Vec ℕ) StreamFault → O → O → ℕ → Type 0
 ShowsMade output (Ok object) before after status = PutsText output object.items before after status
 ShowsMade output (Err fault) before after status = (status ≡ FAULT) × (after ≡ before)
 
--- the object of the race of a text is put into the output, or nothing after a fault
+-- the object of the text's race is written to the output, or nothing after a fault
 abbrev pub ShowsRace : {O : Type 0} → outputs.Ghosts O → List ℕ → O → O → ℕ → Type 0
 ShowsRace output text before after status =
     ((object : List ℕ) × IsRaceObject text object × PutsText output object before after status)
     ⊎ ((status ≡ FAULT) × (after ≡ before))
 
--- what is shown of names is so; the status is that of a fault also where the look-up of a family failed
+-- the object of names is written like this; the status is FAULT also if the look-up of a family failed
 abbrev pub ShowsNames : {O : Type 0} → outputs.Ghosts O → O → O → ℕ → Type 0
 ShowsNames output before after status =
     (one : ℕ) × Shows output before after one × ((status ≡ one) ⊎ (status ≡ FAULT))

@@ -1,4 +1,4 @@
--- What a line asks for of a proxy, as he_proxy has it.
+-- The options of `he proxy`, as he_proxy has them.
 use Rattle.std.specs.Prelude.{◌≡◌, ℕ}
 use Rattle.std.specs.Option.{unwrap_or}
 use Rattle.he_names.specs.declared.environment.Environment.{Environment}
@@ -9,8 +9,8 @@ use Rattle.he_proxy.specs.declared.limits.TheConstants.{DEFAULT_RECORDS, DEFAULT
 use Rattle.he_request.specs.declared.proxy.Proxy.{Proxy}
 use Rattle.he_request.specs.declared.proxy.SessionLog.{SessionLog}
 use Rattle.he_request.specs.declared.proxy.SessionLog.TheVariants as logs
-use Rattle.he_request.specs.declared.resolver.Resolver.{Resolver}
-use Rattle.he_request.specs.declared.resolver.Resolver.TheVariants as resolvers
+use Rattle.he_options.specs.declared.resolver.Resolver.{Resolver}
+use Rattle.he_options.specs.declared.resolver.Resolver.TheVariants as resolvers
 use Rattle.he_tasks.specs.declared.reports.TheConstants.{FAULT, USAGE}
 use Rattle.he_command.specs.Connection.{choice_of, families_of, lines_of}
 
@@ -19,7 +19,7 @@ log_of logs.Nothing = forms.Silent
 log_of logs.Line = forms.Text
 log_of logs.Json = forms.Json
 
--- it serves until a fault; the system's resolver is not asked, which is a wrong line
+-- it serves until a fault; the system's resolver is a usage error
 abbrev pub status_by : Resolver → ℕ
 status_by resolvers.System = USAGE
 status_by other = FAULT
@@ -27,7 +27,7 @@ status_by other = FAULT
 abbrev pub status_of_proxy : Proxy → ℕ
 status_of_proxy proxy = status_by proxy.resolver
 
--- what is served is what the line gives; where it doesn't say how many, the number that he_proxy has
+-- the served options are those of the line; a number that the line doesn't give is the default of he_proxy
 pub record IsServed (proxy : Proxy) (environment : Environment) (request : ProxyRequest) : Type 0 where
   pub listen : request.listen.now ≡ proxy.listen.items
   pub allow : request.allow.now ≡ proxy.allow.items

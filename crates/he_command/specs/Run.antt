@@ -1,9 +1,9 @@
--- What a run of the program has done: by what is known of its streams, by the first and the last state of the input,
--- the states of the output before and after, and the exit status.
+-- The effects of a run of the program: by the relations of its streams, the input's first and last state, the
+-- output's states before and after, and the exit status.
 use Rattle.std.specs.Prelude.{◌≡◌, ◌⊎◌, ℕ, Bool, true, false, Result, Ok, Err}
 use Rattle.he_names.specs.declared.environment.Environment.{Environment}
-use Rattle.he_request.specs.declared.refusal.Refusal.{Refusal}
-use Rattle.he_request.specs.declared.refusal.Refusal.TheVariants as refusals
+use Rattle.he_options.specs.declared.refusal.Refusal.{Refusal}
+use Rattle.he_options.specs.declared.refusal.Refusal.TheVariants as refusals
 use Rattle.he_request.specs.declared.request.Request.{Request}
 use Rattle.he_request.specs.declared.request.Request.TheVariants as requests
 use Rattle.he_resolver.specs.Told.{TellsNames}
@@ -19,14 +19,14 @@ use Rattle.he_command.specs.Live.{RunsLive}
 use Rattle.he_command.specs.Objects.{ShowsNames}
 use Rattle.he_command.specs.Proxies.{status_of_proxy}
 
--- what comes of a line that asks for nothing that is done
+-- the effects of a line without a command to run
 abbrev pub Refuses : {O : Type 0} → outputs.Ghosts O → Refusal → O → O → ℕ → Type 0
 Refuses output refusals.Memory before after status = (status ≡ FAULT) × (after ≡ before)
 Refuses output (refusals.Help text) before after status = Shows output before after status
 Refuses output refusal before after status = (status ≡ USAGE) × (after ≡ before)
 
--- what comes of a search for names. The status is that of a fault also where one family's look-up failed and the
--- other's addresses were told. As JSON they are shown
+-- the effects of `he names`. The status is FAULT also if one family's look-up failed and the other's addresses were
+-- written. With JSON they are written as an object
 abbrev pub RunsNames : {O : Type 0} → outputs.Ghosts O → Bool → O → O → ℕ → Type 0
 RunsNames output true before after status = ShowsNames output before after status
 RunsNames output false before after status =
@@ -34,9 +34,9 @@ RunsNames output false before after status =
     × TellsNames (TookAll output before after) (TookPart output before after) (after ≡ before) result
     × ((status ≡ status_of result) ⊎ (status ≡ FAULT))
 
--- What comes of a line: what it asks for was done, and the status tells how that ended; or it asks for nothing that is
--- done, and nothing is read. file, page: what is known of the files that are read, and of one that is written.
--- environment: by which the file of resolver settings is amended.
+-- The effects of a line: its request was done, and the status reports how that ended; or there is no request, and
+-- nothing is read. file, page: the relations of files that are read, and of one that is written. environment: its
+-- changes of resolv.conf.
 abbrev pub RunsLine : {I F P O : Type 0} → inputs.Ghosts I → inputs.Ghosts F → outputs.Ghosts P → outputs.Ghosts O
     → Environment → Result Request Refusal → I → I → O → O → ℕ → Type 0
 RunsLine input file page output environment (Ok (requests.Texts texts)) first last before after status =

@@ -1,4 +1,4 @@
-//! A connection that is made, recorded and relayed.
+//! `he connect`: connects, records and relays.
 ghost use Rattle.std.specs.Prelude.{◌≡◌, is_some};
 ghost use Rattle.he_command.specs.Connection.{EndsRace, EndsShown, EndsWon, MakesConnection, RelaysTo};
 ghost use Rattle.he_command.specs.Objects.{ShowsRace};
@@ -21,7 +21,7 @@ use he_tasks::{DONE, FAULT, NO_CONNECTION, Session};
 use std::io::Write;
 use std::net::TcpStream;
 
-// Races for the connection that a line asks for, keeps the record, and relays to the end.
+// Races for the requested connection, keeps the record, and relays to the end.
 pub(crate) fn run_connect<R: System, I: InputStream, O: OutputStream + Send, F: Write>(
     session: &mut Session<'_, '_, R, O, F>,
     connection: &Connection<'_>,
@@ -58,7 +58,7 @@ pub(crate) fn run_connect<R: System, I: InputStream, O: OutputStream + Send, F: 
     }
 }
 
-// What comes of a race that was run, whose record was kept or not: its object is shown where that is asked for.
+// Ends a race, whose record was kept or not: shows its object if requested.
 fn end_race<R: System, I: InputStream, O: OutputStream + Send, F: Write>(
     session: &mut Session<'_, '_, R, O, F>,
     connection: &Connection<'_>,
@@ -79,7 +79,7 @@ fn end_race<R: System, I: InputStream, O: OutputStream + Send, F: Write>(
     }
 }
 
-// The same after the object of the race, with which it ends where that cannot be shown.
+// Shows the object of the race, and goes on only if that succeeds.
 fn end_shown<R: System, I: InputStream, O: OutputStream + Send, F: Write>(
     session: &mut Session<'_, '_, R, O, F>,
     connection: &Connection<'_>,
@@ -95,7 +95,7 @@ fn end_shown<R: System, I: InputStream, O: OutputStream + Send, F: Write>(
     end_won(session, connection, run, input)
 }
 
-// Shows the object of a race, by the text of its record, and answers the exit status.
+// Shows the object of a race, from the text of its record, and returns the exit status.
 fn show_race<R, O: OutputStream, F: Write>(
     session: &mut Session<'_, '_, R, O, F>,
     text: &[u8],
@@ -105,7 +105,7 @@ fn show_race<R, O: OutputStream, F: Write>(
     show_object(session, race_object(session.alloc, text))
 }
 
-// The connection is relayed where there is one, or let go where it was only tried.
+// Relays the connection, if there is one, or closes it with `only_tries`.
 fn end_won<R: System, I: InputStream, O: OutputStream + Send, F: Write>(
     session: &mut Session<'_, '_, R, O, F>,
     connection: &Connection<'_>,
@@ -133,7 +133,7 @@ fn end_won<R: System, I: InputStream, O: OutputStream + Send, F: Write>(
     }
 }
 
-// Relays standard input and output over the connection, and answers the exit status.
+// Relays standard input and output over the connection, and returns the exit status.
 fn relay<R: System, I: InputStream, O: OutputStream + Send, F: Write>(
     session: &mut Session<'_, '_, R, O, F>,
     wait: u32,
@@ -148,7 +148,7 @@ fn relay<R: System, I: InputStream, O: OutputStream + Send, F: Write>(
     report_relay(session, end)
 }
 
-// Says how a relay ended, and answers the exit status.
+// Prints how a relay ended, and returns the exit status.
 fn report_relay<R, O: OutputStream, F: Write>(
     session: &mut Session<'_, '_, R, O, F>,
     end: Result<(), RelayFault>,
@@ -163,7 +163,7 @@ fn report_relay<R, O: OutputStream, F: Write>(
     }
 }
 
-// Says why no race was run, and answers the exit status.
+// Prints why no race was run, and returns the exit status.
 fn report_race<R, O, F: Write>(
     session: &mut Session<'_, '_, R, O, F>,
     fault: ConnectFault,

@@ -8,8 +8,9 @@ use crate::record::write_record;
 use crate::system::System;
 use he_files::create_beside;
 use he_live::{FailedAttempt, LiveFault, LiveReport, first_local, live, write_failures};
+use he_options::STANDARD;
 use he_plan::Outcome3;
-use he_request::{Live, STANDARD};
+use he_request::Live;
 use he_stream::{FromReader, InputStream, OutputStream};
 use he_tasks::reports::{report, report_path};
 use he_tasks::{DONE, NO_CONNECTION, Session};
@@ -18,7 +19,7 @@ use std::fs;
 use std::io::Write;
 use std::mem::drop;
 
-// Runs the race that a line asks for: that of its file, or of the input.
+// Runs the requested race: that of its file, or of the input.
 pub(crate) fn run_live<R: System, I: InputStream, O: OutputStream, F: Write>(
     session: &mut Session<'_, '_, R, O, F>,
     options: &Live<'_>,
@@ -37,7 +38,7 @@ pub(crate) fn run_live<R: System, I: InputStream, O: OutputStream, F: Write>(
     }
 }
 
-// Runs the race of the file of this path.
+// Runs the race of the file at this path.
 fn run_file<R: System, O: OutputStream, F: Write>(
     session: &mut Session<'_, '_, R, O, F>,
     options: &Live<'_>,
@@ -58,7 +59,7 @@ fn run_file<R: System, O: OutputStream, F: Write>(
     }
 }
 
-// Runs the race of an input. The file of its record is made before.
+// Runs the race of an input. The file of its record is created before.
 fn run_recorded<R: System, I: InputStream, O: OutputStream, F: Write>(
     session: &mut Session<'_, '_, R, O, F>,
     options: &Live<'_>,
@@ -89,7 +90,7 @@ fn run_recorded<R: System, I: InputStream, O: OutputStream, F: Write>(
     }
 }
 
-// Runs the race of an input, and says why attempts failed and how it ended.
+// Runs the race of an input, and prints why attempts failed and how it ended.
 fn run_race<R: System, I: InputStream, O: OutputStream, F: Write>(
     session: &mut Session<'_, '_, R, O, F>,
     options: &Live<'_>,
@@ -106,7 +107,7 @@ fn run_race<R: System, I: InputStream, O: OutputStream, F: Write>(
     report_race(alloc, end, options, &mut session.faults)
 }
 
-// Says which attempts of a live race failed, and why: all, or the first that this machine itself could not begin.
+// Prints which attempts of a live race failed, and why: all, or the first that this machine itself could not begin.
 fn report_failures<F: Write>(alloc: Global, failed: &[FailedAttempt], all: bool, faults: &mut F) {
     let mut text = Vec::new(alloc);
     let written = if all {
@@ -119,7 +120,7 @@ fn report_failures<F: Write>(alloc: Global, failed: &[FailedAttempt], all: bool,
     }
 }
 
-// Says how a live race ended, and answers the exit status.
+// Prints how a live race ended, and returns the exit status.
 fn report_race<F: Write>(
     alloc: Global,
     end: Result<Outcome3, LiveFault>,
@@ -135,7 +136,7 @@ fn report_race<F: Write>(
     }
 }
 
-// Writes the line of a fault, with the name of the file that has it.
+// Writes the line of a fault, with the name of the faulty file.
 fn report_fault<F: Write>(alloc: Global, fault: LiveFault, file: Option<&str>, faults: &mut F) -> u8
     ensures { result ≡ FAULT }
 {

@@ -8,8 +8,8 @@ use crate::objects::{names_object, show_object};
 use crate::race_request::choice_of;
 use crate::system::{System, Variables};
 use he_names::Environment;
+use he_options::shown::shown;
 use he_request::Names;
-use he_request::shown::shown;
 use he_resolver::{LookupReport, TellFault, write_names};
 use he_settings::{NamesFault, Wanted};
 use he_stream::{OutputStream, ToWriter};
@@ -58,7 +58,7 @@ fn wanted_of<'a>(names: Names<'a>, environment: Environment<'a>) -> Wanted<'a> {
     }
 }
 
-// Finds them, and writes them as an object.
+// Finds the addresses, and writes them as an object.
 fn run_object<R: System, O: OutputStream, F: Write>(
     session: &mut Session<'_, '_, R, O, F>,
     names: Names<'_>,
@@ -79,7 +79,7 @@ fn run_object<R: System, O: OutputStream, F: Write>(
     if shown == DONE { status } else { shown }
 }
 
-// Says what happened, as `he: 12 ms: AAAA answer: 2 addresses from 192.0.2.1`. What cannot be written is passed over.
+// Prints the events: `he: 12 ms: AAAA answer: 2 addresses from 192.0.2.1`. A failed write is ignored.
 fn tell_events<F: Write>(lookup: &LookupReport, faults: &mut F) {
     for event in &lookup.events {
         let (tick, event) = (event.tick, *event);
@@ -87,7 +87,7 @@ fn tell_events<F: Write>(lookup: &LookupReport, faults: &mut F) {
     }
 }
 
-// Says what happened where that is asked for, and how a search for names ended, and answers the exit status.
+// Prints the events if requested, and how a search for names ended, and returns the exit status.
 fn report_names<R, O, F: Write>(
     session: &mut Session<'_, '_, R, O, F>,
     end: Result<(), TellFault>,
@@ -108,7 +108,7 @@ fn report_names<R, O, F: Write>(
     }
 }
 
-// Says why the look-up of a family failed whose addresses are not told, and answers the exit status.
+// Prints why the look-up of a family without addresses failed, and returns the exit status.
 fn report_families<F: Write>(alloc: Global, lookup: &LookupReport, host: &str, faults: &mut F) -> u8
     ensures { (result ≡ DONE) ⊎ (result ≡ FAULT) }
 {
@@ -117,7 +117,7 @@ fn report_families<F: Write>(alloc: Global, lookup: &LookupReport, host: &str, f
     if six == DONE { four } else { six }
 }
 
-// That the name has no address of the family is what the answer says, and no fault.
+// That the name has no address of the family is an answer and not a fault.
 fn report_family<F: Write>(
     alloc: Global,
     kind: &str,

@@ -1,4 +1,4 @@
-// Objects in place of lines: the lines are read as a race, and what that has is written as JSON.
+// Objects in place of lines: reads the lines as a race, and writes its contents as JSON.
 ghost use Rattle.std.specs.Prelude.{[], ◌∷◌, Result, None, false, IfOk};
 ghost use Rattle.he_course.specs.Course.{IsCourse};
 ghost use Rattle.he_inputs.specs.Inputs.{HasRaces};
@@ -17,7 +17,7 @@ use he_timeline::Timeline;
 use std::alloc::Global;
 use std::io::Write;
 
-// Puts an object into the output, or says why there is none, and answers the exit status.
+// Writes an object to the output, or prints why there is none, and returns the exit status.
 pub(crate) fn show_object<R, O: OutputStream, F: Write>(
     session: &mut Session<'_, '_, R, O, F>,
     made: Result<Vec<u8>, StreamFault>,
@@ -53,7 +53,7 @@ pub(crate) fn names_object(
     Ok(object)
 }
 
-// The object of the course of a race, by the text of its record.
+// The object of the course of a race, from the text of its record.
 pub(crate) fn race_object(alloc: Global, text: &[u8]) -> Result<Vec<u8>, StreamFault>
     ensures { IfOk result (λ object. IsRaceObject text.now object.items) }
 {
@@ -72,7 +72,7 @@ fn course_of(alloc: Global, race: &Timeline) -> Result<Course<Global>, StreamFau
     Course::of(alloc, race, 1, 1).map_err(|_| StreamFault::Memory)
 }
 
-// The race of these lines alone.
+// The race with only these lines.
 fn race_with(alloc: Global, lines: &[u8]) -> Result<Timeline, StreamFault> {
     let mut text = Vec::from_slice(alloc, b"race 2\n")?;
     text.extend_from_slice(lines)?;

@@ -5,7 +5,7 @@ ghost use Rattle.he_command.specs.Files.{WasRead};
 
 use crate::system::System;
 use he_names::{PortFault, read_port};
-use he_request::Port;
+use he_options::Port;
 use he_stream::{FromReader, InputStream, take_input};
 use he_tasks::reports::{report, report_of, report_path};
 use he_tasks::{Session, USAGE};
@@ -13,10 +13,10 @@ use std::alloc::Global;
 use std::io::{ErrorKind, Write};
 use std::{fs, io};
 
-// The file of services (services(5)).
+// The services file (services(5)).
 const SERVICES: &str = "/etc/services";
 
-// The number of the port that a line names; or the exit status, where that can't be told, which is said.
+// The number of the line's port; or, after printing why there is none, the exit status.
 pub(crate) fn number_of<R: System, O, F: Write>(
     session: &mut Session<'_, '_, R, O, F>,
     port: Port<'_>,
@@ -45,7 +45,7 @@ pub(crate) fn number_of<R: System, O, F: Write>(
     }
 }
 
-// What the file of this path gives, to its end.
+// The contents of the file at this path.
 fn read_file<R: System>(rt: &R, alloc: Global, path: &str) -> io::Result<Vec<u8>>
     ensures { IfOk result (λ bytes. WasRead ⟦<FromReader<R::File> as InputStream>⟧ bytes.items) }
 {

@@ -7,17 +7,18 @@ use crate::race_request::{choice_of, families_of, lines_of};
 use crate::system::{System, Variables};
 use he_log::LogForm;
 use he_names::Environment;
+use he_options::Resolver;
 use he_proxy::{DEFAULT_RECORDS, DEFAULT_SESSIONS, ProxyFault, ProxyRequest, serve};
-use he_request::{Proxy, Resolver, SessionLog};
+use he_request::{Proxy, SessionLog};
 use he_stream::OutputStream;
 use he_tasks::reports::{report, report_path};
-use he_tasks::{FAULT, Session, USAGE};
+use he_tasks::{Session, USAGE};
 use std::io::Write;
 
 const NOT_SYSTEM: &[u8] =
     b"he: a proxy asks name servers alone: `--resolver system` does not go with it\n";
 
-// Serves what the line asks for, until a fault or a signal ends it.
+// Serves the requested proxy, until a fault or a signal ends it.
 pub(crate) fn run_proxy<R: System, O: OutputStream, F: Write>(
     session: &mut Session<'_, '_, R, O, F>,
     proxy: &Proxy<'_>,
@@ -46,13 +47,12 @@ fn serve_clients<R: System, O: OutputStream, F: Write>(
     let variables = Variables::read(session.system);
     let request = request_of(proxy, variables.environment());
     match serve(session.system, session.alloc, &request, &mut session.faults) {
-        Ok(()) => FAULT,
         Err(fault) => report_fault(session, fault, proxy),
     }
 }
 
-// Says why it does not serve. A fault of the lines or of the known addresses has the name of their file, one of the
-// records that of their directory.
+// Prints why it doesn't serve. A fault of the lines or of the history has the name of their file, one of the records
+// that of their directory.
 fn report_fault<R, O: OutputStream, F: Write>(
     session: &mut Session<'_, '_, R, O, F>,
     fault: ProxyFault,
@@ -73,7 +73,7 @@ fn report_fault<R, O: OutputStream, F: Write>(
     }
 }
 
-// What is served.
+// The options of the proxy.
 fn request_of<'a, 'p, 'q>(proxy: &'q Proxy<'p>, environment: Environment<'a>) -> ProxyRequest<'a>
 where
     'p: 'a,

@@ -1,14 +1,15 @@
-//! What a line asks for of a race and of a look-up, as `he_connect` and `he_resolver` have it.
+//! The line's options for a race and a look-up, as `he_connect` and `he_settings` have them.
 ghost use Rattle.std.specs.Prelude.{◌≡◌};
 ghost use Rattle.he_command.specs.Connection.{choice_of, families_of, lines_of, race_of};
 
 use he_addr::Family;
 use he_connect::{ConnectRequest, Families, Lines};
 use he_names::Environment;
-use he_request::{Connection, Resolver};
+use he_options::Resolver;
+use he_request::Connection;
 use he_settings::Choice;
 
-// The race for a connection at this port, by resolver settings that this environment amends.
+// The race for a connection at this port, by a resolver configuration with this environment's changes.
 pub(crate) fn race_of<'a, 'c>(
     connection: &Connection<'c>,
     port: u16,
@@ -31,7 +32,7 @@ where
     }
 }
 
-// The families that are tried.
+// The families to try.
 pub(crate) fn families_of(only: Option<Family>) -> Families
     ensures { result ≡ families_of only }
 {
@@ -41,7 +42,7 @@ pub(crate) fn families_of(only: Option<Family>) -> Families
     }
 }
 
-// Which lines the races have.
+// The origin of the races' lines.
 pub(crate) fn lines_of<'a, 'c>(path: Option<&'c str>) -> Lines<'a>
 where
     'c: 'a,
@@ -53,7 +54,7 @@ where
     }
 }
 
-// The resolver that is asked.
+// The resolver to ask.
 pub(crate) fn choice_of(resolver: Resolver<'_>) -> Choice<'_>
     ensures { result ≡ choice_of resolver.entry }
 {

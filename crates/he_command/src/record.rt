@@ -5,7 +5,7 @@ ghost use Rattle.he_command.specs.Records.{IsPlaceOf, KeepsRecord};
 
 use crate::system::System;
 use he_files::{NewName, create_beside};
-use he_request::STANDARD;
+use he_options::STANDARD;
 use he_stream::{OutputStream, ToWriter, write_whole};
 use he_tasks::reports::report_path;
 use he_tasks::session::put_all;
@@ -16,7 +16,7 @@ use std::io::{ErrorKind, Write};
 use std::mem::drop;
 use std::rt::Files;
 
-// Where the record goes.
+// The place of the record.
 #[derive(Drop)]
 pub(crate) enum RecordPlace<F> {
     Nowhere,
@@ -24,7 +24,7 @@ pub(crate) enum RecordPlace<F> {
     File(F, NewName),
 }
 
-// Opens the file of the record, where there is one.
+// Opens the file of the record, if there is one.
 pub(crate) fn open_record<R: System>(
     rt: &R,
     alloc: Global,
@@ -42,7 +42,7 @@ pub(crate) fn open_record<R: System>(
     }
 }
 
-// Lets a file go that there is no record for.
+// Discards a file that there is no record for.
 pub(crate) fn discard_record<R: System>(rt: &R, place: RecordPlace<R::File>) {
     if let RecordPlace::File(file, name) = place {
         drop(file);
@@ -50,8 +50,8 @@ pub(crate) fn discard_record<R: System>(rt: &R, place: RecordPlace<R::File>) {
     }
 }
 
-// Writes the text of a record to the file that was made for it, and gives it its name. Where there is none the old
-// file stays.
+// Writes the text of a record to its new file, and renames it. If the text is empty or that fails, the old file
+// stays.
 pub(crate) fn write_record<R: Files>(
     rt: &R,
     file: R::File,
@@ -82,7 +82,7 @@ fn fill_file<P: OutputStream + Drop>(mut file: P, text: &[u8]) -> io::Result<()>
     }
 }
 
-// Keeps the record of a race, and answers the exit status.
+// Keeps the record of a race, and returns the exit status.
 pub(crate) fn keep_record<R: System, O: OutputStream, F: Write>(
     session: &mut Session<'_, '_, R, O, F>,
     path: Option<&str>,

@@ -1,4 +1,4 @@
-//! A whole run of the program over an input, an output and a writer of faults.
+//! A run of the program with an input, an output and a writer of faults.
 ghost use Rattle.std.specs.Prelude.{IfOk, Result};
 ghost use Rattle.he_names.specs.declared.environment.Environment.{Environment};
 ghost use Rattle.he_request.specs.Requests.{IsRequest};
@@ -13,8 +13,9 @@ use crate::system::{System, Variables, columns_of};
 use crate::words::tell_short_timeout;
 use he_inputs::StreamFault;
 use he_names::Environment;
-use he_request::shown::shown_lines;
-use he_request::{Refusal, Request, read_words};
+use he_options::Refusal;
+use he_options::shown::shown_lines;
+use he_request::{Request, read_words};
 use he_stream::{FromReader, InputStream, OutputStream, ToWriter};
 use he_tasks::reports::report;
 use he_tasks::session::put_all;
@@ -22,11 +23,11 @@ use he_tasks::{Session, USAGE, run_texts};
 use std::alloc::Global;
 use std::io::Write;
 
-// Of this crate; the program adds which build it is.
+// The version of this crate; the program adds its build.
 const VERSION: &str = "1.0.0";
 
-/// Runs the command line `words`, of which the first is the program's name, and answers the exit status. Output and
-/// help that was asked for go to the session's output; what is wrong goes to its faults.
+/// Runs the command line `words`, whose first is the program's name, and returns the exit status. Output and
+/// requested help go to the session's output; errors go to its faults.
 pub fn run_words<'a, R: System, I: InputStream, O: OutputStream + Send, F: Write>(
     session: &mut Session<'_, '_, R, O, F>,
     words: &'a [&'a str],
@@ -42,7 +43,7 @@ pub fn run_words<'a, R: System, I: InputStream, O: OutputStream + Send, F: Write
     run_line(session, line, variables.environment(), input)
 }
 
-/// Runs what a command line asks for, and answers the exit status. The environment amends the resolver's settings.
+/// Runs a command line's request, and returns the exit status. The environment changes the resolver configuration.
 pub fn run_line<R: System, I: InputStream, O: OutputStream + Send, F: Write>(
     session: &mut Session<'_, '_, R, O, F>,
     line: Result<Request<'_>, Refusal>,
@@ -64,7 +65,7 @@ pub fn run_line<R: System, I: InputStream, O: OutputStream + Send, F: Write>(
     }
 }
 
-// Answers a line that asks for nothing that is done.
+// Handles a line without a command to run.
 fn refuse<R, O: OutputStream, F: Write>(
     session: &mut Session<'_, '_, R, O, F>,
     refusal: &Refusal,
@@ -84,7 +85,7 @@ fn refuse<R, O: OutputStream, F: Write>(
     }
 }
 
-// Says why a line is refused. Its words may control a terminal, so they are shown.
+// Prints why a line is refused. Its words may have terminal control characters, so they are made visible.
 fn tell_refusal<F: Write>(alloc: Global, refusal: &Refusal, faults: &mut F) {
     let text = format!(in alloc; "{refusal}");
     let shown = text.and_then(|text| shown_lines(alloc, of_program(text.as_str())));
@@ -94,7 +95,7 @@ fn tell_refusal<F: Write>(alloc: Global, refusal: &Refusal, faults: &mut F) {
     };
 }
 
-// A text of clap, or of this program, without the word that it begins with.
+// A text of clap, or of this program, without its first word.
 fn of_program(text: &str) -> &str {
     match text.strip_prefix("error: ") {
         Some(rest) => rest,

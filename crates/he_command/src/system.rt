@@ -1,7 +1,7 @@
-//! What a run of the program is lent.
+//! The system that a run of the program uses.
 
 use he_names::Environment;
-use he_request::limits::{DEFAULT_WIDTH, LEAST_WIDTH, MOST_WIDTH};
+use he_options::limits::{DEFAULT_WIDTH, LEAST_WIDTH, MOST_WIDTH};
 use he_resolver::SystemResolver;
 use he_tasks::TaskSystem;
 use std::env;
@@ -10,7 +10,7 @@ use std::rt::Env;
 use std::sync::Wait;
 use std::time::Clock;
 
-/// What a task is lent, and the environment, the network and the system's resolver, waiting and a clock.
+/// The system of a task, and the environment, the network and the system's resolver, waiting and a clock.
 pub trait System: TaskSystem + Env + Net + SystemResolver + Wait + Clock + Copy + Send + 'static {}
 
 impl<R> System for R
@@ -18,7 +18,7 @@ where
     R: TaskSystem + Env + Net + SystemResolver + Wait + Clock + Copy + Send + 'static,
 {}
 
-/// The columns of a terminal, as the environment says: 40 to 1,000, and 80 where it does not.
+/// The columns of the terminal, by COLUMNS: 40 to 1,000, and 80 if it is not a number.
 pub fn columns_of<R: System>(rt: &R) -> u16 {
     let Ok(text) = env::var(rt, "COLUMNS") else {
         return DEFAULT_WIDTH;
@@ -29,7 +29,7 @@ pub fn columns_of<R: System>(rt: &R) -> u16 {
     }
 }
 
-/// The variables of the environment that amend the resolver's settings.
+/// The environment variables that change the resolver configuration.
 #[derive(Drop)]
 pub struct Variables {
     local_domain: Option<String>,
@@ -37,7 +37,7 @@ pub struct Variables {
 }
 
 impl Variables {
-    /// Those of this process.
+    /// The variables of this process.
     pub fn read<R: System>(rt: &R) -> Variables {
         Variables {
             local_domain: env::var(rt, "LOCALDOMAIN").ok(),
@@ -45,7 +45,7 @@ impl Variables {
         }
     }
 
-    /// As `he_resolver` has them.
+    /// The variables as an `Environment` of `he_names`.
     pub fn environment(&self) -> Environment<'_> {
         Environment {
             local_domain: self.local_domain.as_deref(),

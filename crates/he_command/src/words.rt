@@ -1,11 +1,12 @@
-//! What is said of words before a line is read.
+//! Messages on the words before a line is read.
 ghost use Rattle.std.specs.Prelude.{◌≡◌};
 
-use he_request::{Refusal, Request, short_timeout};
+use he_options::{Refusal, short_timeout};
+use he_request::Request;
 use he_tasks::USAGE;
 use std::io::Write;
 
-/// Says that a text is waited for.
+/// Prints that a text is waited for.
 pub fn tell_waiting<F: Write>(faults: &mut F) {
     let _ = writeln!(
         faults,
@@ -13,7 +14,7 @@ pub fn tell_waiting<F: Write>(faults: &mut F) {
     );
 }
 
-/// Says that a `--timeout` below 100 without a unit is in milliseconds, of a line that is done.
+/// Prints that a `--timeout` below 100 without a unit is in milliseconds, for a valid line.
 pub fn tell_short_timeout<F: Write>(
     words: &[&str],
     line: &Result<Request<'_>, Refusal>,
@@ -30,7 +31,7 @@ pub fn tell_short_timeout<F: Write>(
     }
 }
 
-/// Says that a word of the command line is no UTF-8 text, and answers the exit status.
+/// Prints that a word of the command line is not UTF-8, and returns the exit status.
 pub fn report_not_text<F: Write>(faults: &mut F) -> u8
     ensures { result ≡ USAGE }
 {

@@ -1,4 +1,4 @@
--- Races in groups, and what is told of each group.
+-- Races in groups, and the report on each group.
 use Rattle.std.specs.Prelude.{ℕ, ◌≡◌, ◌==◌, ◌+◌, ◌++◌, ◌<◌, if◌then◌else◌, All, List, [], ◌∷◌, codes, filter, length, map, string_bytes}
 use Rattle.std.specs.List.{Contains}
 use Rattle.std.specs.Option.{unwrap_or}
@@ -25,11 +25,11 @@ use Rattle.he_compare.specs.declared.grouping.TheConstants.{NO_FAMILY, NO_HOUR}
 use Rattle.he_compare.specs.declared.groups.Group.{Group}
 use Rattle.he_compare.specs.declared.row.Said.{Said}
 
--- the hour of a name, and what comes after all hours where it has none
+-- the hour of a name, or the number after all hours if it has none
 abbrev pub hour_key : List ℕ → ℕ
 hour_key name = unwrap_or (hour_of name) NO_HOUR
 
--- IPv6, then IPv4, and then the races that neither won
+-- IPv6, then IPv4, then the races that neither won
 abbrev pub family_key : Kept → ℕ
 family_key race = if is_kind (WonBy V6) race then 0 else if is_kind (WonBy V4) race then 1 else NO_FAMILY
 
@@ -38,7 +38,7 @@ key_by by.File names race = race.place.file
 key_by by.Hour names race = hour_key (name_at names race.place.file)
 key_by by.Family names race = family_key race
 
--- by what races are divided, and the names of their files
+-- the criterion that divides races, and the names of their files
 pub record Division : Type 0 where
   pub by : By
   pub names : List (List ℕ)
@@ -46,7 +46,7 @@ pub record Division : Type 0 where
 abbrev pub division_of : Grouping → Division
 division_of grouping = record { by = grouping.by; names = map string_bytes grouping.names.now }
 
--- the number of a race's group: groups stand in the order of their numbers
+-- the number of a race's group: groups are in the order of their numbers
 abbrev pub key_of : Division → Kept → ℕ
 key_of division race = key_by division.by division.names race
 
@@ -58,7 +58,7 @@ label_by by.File names key = name_at names key
 label_by by.Hour names key = if key == NO_HOUR then codes "other" else hour_text key
 label_by by.Family names key = family_text key
 
--- what a group is called
+-- the label of a group
 abbrev pub label_of : Division → ℕ → List ℕ
 label_of division key = label_by division.by division.names key
 
@@ -66,12 +66,12 @@ label_of division key = label_by division.by division.names key
 abbrev pub members : Division → ℕ → List Kept → List Kept
 members division key kept = filter (λ race. key_of division race == key) kept
 
--- one after the other, each once
+-- in ascending order, each once
 abbrev pub Ascend : List Group → Type 0
 Ascend [] = Unit {0}
 Ascend (group ∷ groups) = All (λ other. group.key < other.key) groups × Ascend groups
 
--- there is such a race, and what is told of the group is counted of all of them
+-- there is a race of the group, and the totals are counted over all of them
 abbrev pub IsCounted : Division → List Kept → Group → Type 0
 IsCounted division kept group =
     (0 < length (members division group.key kept)) × AreTotals (members division group.key kept) group.totals
@@ -82,12 +82,12 @@ pub record AreGroups (division : Division) (kept : List Kept) (groups : List Gro
   pub counted : All (IsCounted division kept) groups
   pub each : All (λ race. Contains (map (λ group. group.key) groups) (key_of division race)) kept
 
--- what was lost to dead addresses
+-- the time that was lost to failed and to silent addresses
 abbrev pub lost : Totals → ℕ
 lost totals = saturated (total_of totals.lost_to_failed + total_of totals.lost_to_silent)
 
--- how many races there are, which share of them was won, their times to connect, their attempts in the mean, which
--- share of the won ones IPv6 won, and what was lost
+-- the number of races, the share of them that was won, their times to connect, their attempts in the mean, the share
+-- of the won ones that IPv6 won, and the time that was lost
 abbrev pub cell_facts : Totals → List (Fact Said)
 cell_facts totals =
     facts.Number totals.counts.races
@@ -96,7 +96,7 @@ cell_facts totals =
     ++ (mean_facts totals.attempts
     ++ (share_cell totals.counts.by_v6 totals.counts.won ++ facts.Number (lost totals) ∷ []))))
 
--- a line of the table, which its label ends; or an object, which has all that one of a summary has of the races
+-- a line of the table, which its label ends; or an object, which has all figures of a summary of the races
 abbrev pub IsGroupText : Form → Totals → List ℕ → List ℕ → Type 0
 IsGroupText forms.Text totals label text =
     (cells : List ℕ) × States (cell_facts totals) cells × (text ≡ cells ++ (codes "  " ++ (label ++ codes "\n")))
@@ -104,14 +104,14 @@ IsGroupText _ totals label text =
     (told : List ℕ) × States (totals_facts forms.Json totals) told
     × (text ≡ told ++ (codes ",\"group\":" ++ (string_text label ++ codes "}\n")))
 
--- that of each of these has been appended
+-- the text of each of these groups has been appended
 abbrev pub AreGroupTexts : Form → Division → List Group → List ℕ → List ℕ → Type 0
 AreGroupTexts form division [] old new = new ≡ old
 AreGroupTexts form division (group ∷ groups) old new =
     (text : List ℕ) × IsGroupText form group.totals (label_of division group.key) text
     × AreGroupTexts form division groups (old ++ text) new
 
--- a table of the groups of these races, below a heading or without one
+-- a table of the groups of these races, after a heading or without one
 abbrev pub IsGroupTable : Form → Division → List Kept → List ℕ → List ℕ → Type 0
 IsGroupTable form division kept old new =
     (groups : List Group) × (between : List ℕ) × AreGroups division kept groups × HasWords old between

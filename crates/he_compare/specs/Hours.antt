@@ -3,18 +3,18 @@ use Rattle.std.specs.Prelude.{ℕ, ◌==◌, ◌+◌, ◌-◌, ◌*◌, ◌/◌,
 use Rattle.std.specs.List.{slice_get, slice_split}
 use Rattle.std.specs.Option.{unwrap_or}
 
--- what stands between the slashes of a name
+-- the pieces between the slashes of a name
 abbrev pub pieces : List ℕ → List (List ℕ)
 pieces name = slice_split (λ byte. byte == 47) name
 
 abbrev pub piece : List ℕ → ℕ → List ℕ
 piece name place = unwrap_or (slice_get (pieces name) place) []
 
--- a byte as a form wants it, in which `0` stands for any digit
+-- a byte that fits a byte of a pattern, in which `0` is any digit
 abbrev pub is_like : ℕ → ℕ → Bool
 is_like wanted byte = if wanted == 48 then nat_le 48 byte && nat_le byte 57 else byte == wanted
 
--- the text begins so
+-- the text begins with the pattern
 abbrev pub fits : List ℕ → List ℕ → Bool
 fits [] text = true
 fits (wanted ∷ form) [] = false
@@ -38,7 +38,7 @@ hour_in day time =
     Some (hour_number day time)
     else None
 
--- that of the directory of a day, and of the name of a file in it
+-- the hour in the name of a file in the directory of a day
 abbrev pub hour_of : List ℕ → Option ℕ
 hour_of name =
     if nat_lt (length (pieces name)) 2 then None
@@ -47,7 +47,7 @@ hour_of name =
 abbrev pub digit : ℕ → ℕ
 digit n = 48 + n % 10
 
--- as `2026-11-26 16`
+-- an hour, as `2026-11-26 16`
 abbrev pub hour_text : ℕ → List ℕ
 hour_text hour =
     digit (hour / 1000000000) ∷ digit (hour / 100000000) ∷ digit (hour / 10000000) ∷ digit (hour / 1000000) ∷ 45

@@ -19,13 +19,13 @@ ending_facts (endings.Won None tick) = facts.Said told.Won ∷ facts.Number tick
 ending_facts (endings.Exhausted tick) = facts.Said told.Exhausted ∷ facts.Number tick ∷ []
 ending_facts (endings.Limit tick) = facts.Said told.Limit ∷ facts.Number tick ∷ []
 
--- where a race stands, how it ends, and the verdict on that, beside the race as it stands
+-- the place of a race, how it ends, and the verdict, against the race with its own settings
 abbrev pub line_facts : Form → Option ℕ → Kept → List (Fact Told)
 line_facts form stands race =
     place_facts form race.place
     ++ (ending_facts race.ending ++ facts.Said (told.Is (verdict_of stands (value_of Time race))) ∷ [])
 
--- of each of these, where this is the time to connect of the last race as it stands
+-- the facts of each of these; `stands` is the time to connect of the last race with its own settings
 abbrev pub lines_facts : Form → Option ℕ → List Kept → List (List (Fact Told))
 lines_facts form stands [] = []
 lines_facts form stands (race ∷ kept) =

@@ -14,7 +14,7 @@ use Rattle.he_compare.specs.declared.row.Said.{Said}
 use Rattle.he_compare.specs.declared.row.Said.TheVariants.{NoTime}
 use Rattle.he_compare.specs.declared.verdict.Verdicts.{Verdicts}
 
--- what is counted of the races that are kept with the settings of a row
+-- the counts of the races that are kept with the settings of a row
 pub record IsRow (place : ℕ) (kept : List Kept) (row : Row) : Type 0 where
   pub totals : AreTotals (filter (λ race. race.row == place) kept) row.totals
   pub verdicts : row.verdicts ≡ counts_of (verdicts_on place None kept)
@@ -23,7 +23,7 @@ abbrev pub times_facts : Option Spread → List (Fact Said)
 times_facts None = facts.Said NoTime ∷ []
 times_facts (Some times) = facts.Number times.median ∷ facts.Number times.p90 ∷ facts.Number times.p99 ∷ []
 
--- how many of so many, in hundredths, rounded to the nearest
+-- the mean of `count` numbers with this total, in hundredths, rounded to the nearest
 abbrev pub mean : ℕ → ℕ → ℕ
 mean total count = saturated ((200 * total + count) / (2 * count))
 
@@ -37,7 +37,7 @@ hundredths n = facts.Number (n / 100) ∷ facts.Number (n / 10 % 10) ∷ facts.N
 abbrev pub mean_facts : Option Spread → List (Fact Said)
 mean_facts attempts = hundredths (option_map_or (λ a. mean_by a.total a.count) attempts 0)
 
--- which share, in whole percents and tenths; of none it is none
+-- the share, in whole percents and tenths; none of 0
 abbrev pub share_cell : ℕ → ℕ → List (Fact Said)
 share_cell number zero = facts.Said NoTime ∷ []
 share_cell number (suc of) =
@@ -54,7 +54,7 @@ row_facts row =
     ++ (mean_facts row.totals.attempts
     ++ (share_cell row.totals.counts.by_v6 row.totals.counts.won ++ verdict_facts row.verdicts))
 
--- as an object: the races, how many of them were won, and by IPv6, the times, all attempts and the verdicts
+-- an object: the races, the number of them that were won, and by IPv6, the times, all attempts and the verdicts
 abbrev pub object_facts : Row → List (Fact Said)
 object_facts row =
     (facts.Number row.totals.counts.races ∷ facts.Number row.totals.counts.won

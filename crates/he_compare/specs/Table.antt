@@ -18,7 +18,7 @@ abbrev pub AreRows : List Kept → ℕ → List Row → Type 0
 AreRows kept place [] = ⊤
 AreRows kept place (row ∷ rows) = IsRow place kept row × AreRows kept (place + 1) rows
 
--- from this place on so many rows have been appended, each between words
+-- `count` rows from this place on have been appended, each between words
 abbrev pub IsTable : Form → List Kept → ℕ → ℕ → List ℕ → List ℕ → Type 0
 IsTable form kept place count old new =
     (rows : List Row) × (length rows ≡ count) × AreRows kept place rows

@@ -1,4 +1,4 @@
--- What other settings do to races.
+-- The effect of other settings on races.
 use Rattle.std.specs.Prelude.{ℕ, ◌==◌, ◌++◌, if◌then◌else◌, Bool, true, false, List, [], ◌∷◌, count_by, nat_lt, Option, Some, None}
 use Rattle.he_summary.specs.Totals.{value_of}
 use Rattle.he_summary.specs.declared.kept.Kept.{Kept}
@@ -7,18 +7,18 @@ use Rattle.he_compare.specs.declared.verdict.Verdict.{Verdict}
 use Rattle.he_compare.specs.declared.verdict.Verdict.TheVariants.{Sooner, Later, Same, OnlyWith, OnlyWithout, Neither}
 use Rattle.he_compare.specs.declared.verdict.Verdicts.{Verdicts}
 
--- of the times to connect of the race as it stands, and with the settings
+-- by the times to connect of the race with its own settings, and with the other ones
 abbrev pub verdict_of : Option ℕ → Option ℕ → Verdict
 verdict_of (Some own) (Some other) = if nat_lt other own then Sooner else if nat_lt own other then Later else Same
 verdict_of (Some own) None = OnlyWithout
 verdict_of None (Some other) = OnlyWith
 verdict_of None None = Neither
 
--- the time to connect of the last race as it stands: in the first row
+-- the time to connect of the last race with its own settings: in the first row
 abbrev pub stands_after : Option ℕ → Kept → Option ℕ
 stands_after stands race = if race.row == 0 then value_of Time race else stands
 
--- of races with the settings of a row, each beside the race as it stands, which is the last of the first row before it
+-- races with the settings of a row, each against the race with its own settings, the last of the first row before it
 abbrev pub verdicts_on : ℕ → Option ℕ → List Kept → List Verdict
 verdicts_on row stands [] = []
 verdicts_on row stands (race ∷ kept) =

@@ -14,12 +14,12 @@ use he_summary::figures::{push_totals, total_of};
 use he_summary::{Form, Kept, Totals};
 use std::alloc::Allocator;
 
-/// Appends a table of the groups of these races: a row for each group that has a race, in order. As JSON it is an
-/// object for each, on a line.
+/// Appends a table of the groups of these races: a row for each group that has a race, in order. As JSON each row is
+/// an object on a line.
 ///
 /// # Errors
 ///
-/// `Memory` where an allocation was refused. A first part of the table may then have been appended.
+/// `Memory` if an allocation was refused. A first part of the table may then have been appended.
 pub fn write_groups<A: Allocator + Copy>(
     alloc: A,
     form: Form,
@@ -102,7 +102,7 @@ fn write_object<A: Allocator + Copy>(
     Ok(())
 }
 
-// The cells of a group.
+// The cells of a group's row.
 fn push_cells<A: Allocator>(totals: Totals, cells: &mut Vec<Part<Said>, A>) -> Result<(), Memory>
     ensures { OnOk result (flat_map fact_of cells.new.items ≡ flat_map fact_of cells.old.items ++ cell_facts totals) }
 {
@@ -115,7 +115,7 @@ fn push_cells<A: Allocator>(totals: Totals, cells: &mut Vec<Part<Said>, A>) -> R
     push_parts(&[Part::Aligned(10, lost(totals))], cells)
 }
 
-// What was lost to dead addresses, in milliseconds.
+// The milliseconds that were lost to failed and to silent addresses.
 fn lost(totals: Totals) -> u64
     ensures { result ≡ lost totals }
 {

@@ -1,4 +1,4 @@
-//! By what races are put into groups, and what each group is called.
+//! The groups of races, and their labels.
 ghost use Rattle.std.specs.Prelude.{◌≡◌, IfOk};
 ghost use Rattle.he_compare.specs.Groups.{division_of, family_key, family_text, hour_key, key_of, label_of};
 
@@ -8,24 +8,24 @@ use he_summary::totals::{Kind, is_kind};
 use he_summary::{Kept, name_of};
 use std::alloc::Allocator;
 
-/// The number of the races whose file's name has no hour: it comes after those of all hours.
+/// The group number of the races whose file name has no hour: greater than any hour.
 pub const NO_HOUR: u64 = 10_000_000_000;
 
-/// That of the races that neither IPv6 nor IPv4 won.
+/// The group number of the races that no address won.
 pub const NO_FAMILY: u64 = 2;
 
-/// By what races are put into groups.
+/// The criterion that divides races into groups.
 #[derive(Clone, Copy, Debug, PartialEq, Eq)]
 pub enum By {
-    /// By their files, in the order in which these were read.
+    /// The file, in the order in which files were read.
     File,
-    /// By the day and the hour in the names of their files, where these are named as the records of a proxy are.
+    /// The day and the hour in the name of the file, if it is named as a proxy's records are.
     Hour,
-    /// By the family of the address that won: IPv6, IPv4, and those that none won.
+    /// The family of the address that won: IPv6, then IPv4, then the races that none won.
     Family,
 }
 
-/// Groups of races, whose files have these names by their places, as they may be shown.
+/// A division of races into groups. `names` has the names of their files by place, as they may be shown.
 #[derive(Clone, Copy)]
 pub struct Grouping<'n> {
     pub by: By,
@@ -61,7 +61,7 @@ fn family_key(race: &Kept) -> u64
     }
 }
 
-// What the group of this number is called.
+// The label of the group of this number.
 pub(crate) fn label_of<A: Allocator>(
     alloc: A,
     grouping: Grouping<'_>,

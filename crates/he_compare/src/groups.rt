@@ -9,7 +9,7 @@ use he_addr::Memory;
 use he_summary::{Kept, Totals};
 use std::alloc::Allocator;
 
-/// A group of races: its number, and what is counted of its races.
+/// A group of races: its number, and the totals of its races.
 #[derive(Clone, Copy, Debug, PartialEq, Eq)]
 pub struct Group {
     pub key: u64,
@@ -38,7 +38,7 @@ fn sort_by_key<A: Allocator>(grouping: Grouping<'_>, kept: &mut Vec<Kept, A>) ->
     Ok(())
 }
 
-// Cuts races that stand in the order of their groups into these.
+// Cuts races that are in the order of their groups into these groups.
 fn cut<A: Allocator + Copy>(
     alloc: A,
     grouping: Grouping<'_>,
@@ -61,7 +61,7 @@ fn cut<A: Allocator + Copy>(
     Ok(groups)
 }
 
-// Where the races of this group end, and those of later ones begin.
+// The end of the races of this group, where those of later groups begin.
 fn end_of(grouping: Grouping<'_>, key: u64, sorted: &[Kept]) -> usize
     requires { IsNonDecreasingBy (key_of (division_of grouping)) sorted.now }
     ensures most { result ≤ length sorted.now }

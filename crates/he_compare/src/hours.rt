@@ -5,7 +5,7 @@ ghost use Rattle.he_compare.specs.Hours.{digit, digit_at, fits, hour_in, hour_nu
 use he_addr::Memory;
 use std::alloc::Allocator;
 
-// The forms of the directory of a day, and of how the name of a record in it begins: `0` is any digit.
+// The pattern of the directory of a day, and of the beginning of a record's name in it: `0` is any digit.
 const DAY: &[u8] = b"0000-00-00";
 
 const TIME: &[u8] = b"00-00-00.000-";
@@ -30,7 +30,7 @@ fn piece_count(name: &str) -> usize
     name.split('/').count()
 }
 
-// What stands between two slashes.
+// The piece of this place between the slashes of a name.
 fn piece(name: &str, place: usize) -> &str
     ensures { result.now ≡ piece name.now place }
 {
@@ -47,7 +47,7 @@ fn hour_in(day: &[u8], time: &[u8]) -> Option<u64>
     }
 }
 
-// Whether the text begins so.
+// Whether the text begins with the pattern.
 fn fits(form: &[u8], text: &[u8]) -> bool
     ensures { result ≡ fits form.now text.now }
 {

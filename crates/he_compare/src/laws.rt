@@ -1,4 +1,4 @@
-//! A law of comparisons, the contract of a function that runs nothing.
+//! A law of comparisons: the contract of an empty function.
 ghost use Rattle.std.specs.Prelude.{◌≡◌, None};
 ghost use Rattle.he_timeline.specs.Changes.{changed};
 ghost use Rattle.he_timeline.specs.Race.{Race};
@@ -7,7 +7,7 @@ ghost use Rattle.he_plan.specs.Transcript.{IsTranscript, Report};
 
 use he_plan::laws::one_transcript;
 
-/// With no changes both transcripts of a race are one, so that its line says the same twice.
+/// Without changes the two transcripts of a race are equal, so its two lines report one result.
 pub fn no_changes_no_difference()
     ensures { (race : Race) (stands other : Report) → IsRace race → IsTranscript race stands
         → IsTranscript (changed (record {

@@ -14,7 +14,7 @@ use he_summary::totals::{Value, value_of};
 use he_summary::{Ending, Form, Kept, name_of, place_parts, write_name};
 use std::alloc::Allocator;
 
-/// What words of a line say.
+/// The meaning of a word of a line.
 #[derive(Clone, Copy, Debug, PartialEq, Eq)]
 pub enum Told {
     Won,
@@ -23,13 +23,12 @@ pub enum Told {
     Is(Verdict),
 }
 
-/// Appends a line for each race with the settings of each row: how it ends, and what the settings do to it. The names
-/// of the files stand by their places, those of the settings by the rows, all as they may be shown; one that is not
-/// there is `-`.
+/// Appends a line for each race with the settings of each row: how it ends, and the verdict. `names` has the names of
+/// the files by place, and those of the settings by row, all as they may be shown; a missing one is `-`.
 ///
 /// # Errors
 ///
-/// `Memory` where an allocation was refused. A first part of the lines may then have been appended.
+/// `Memory` if an allocation was refused. A first part of the lines may then have been appended.
 pub fn write_lines<A: Allocator + Copy>(
     alloc: A,
     form: Form,

@@ -11,16 +11,16 @@ use he_addr::Memory;
 use he_print::{Part, push_parts};
 use he_summary::figures::{share, total_of};
 use he_summary::{Kept, Spread, Totals};
-use std::alloc::{AllocError, Allocator};
+use std::alloc::Allocator;
 
-/// What is counted of the races with the settings of a row.
+/// The counts of the races with the settings of a row.
 #[derive(Clone, Copy, Debug, PartialEq, Eq)]
 pub struct Row {
     pub totals: Totals,
     pub verdicts: Verdicts,
 }
 
-/// What words of a row say.
+/// The meaning of a word of a row.
 #[derive(Clone, Copy, Debug, PartialEq, Eq)]
 pub enum Said {
     /// No race was won.
@@ -28,11 +28,11 @@ pub enum Said {
 }
 
 impl Row {
-    /// Of the races that are kept with the settings of each row: those of this one.
+    /// The row of this place, counted over the races that are kept with the settings of each row.
     ///
     /// # Errors
     ///
-    /// `Memory` where an allocation was refused.
+    /// `Memory` if an allocation was refused.
     pub fn of<A: Allocator + Copy>(alloc: A, row: usize, kept: &[Kept]) -> Result<Row, Memory>
         ensures { IfOk result (IsRow row kept.now) }
     {
@@ -45,7 +45,7 @@ impl Row {
     }
 }
 
-fn own_of<A: Allocator>(alloc: A, row: usize, kept: &[Kept]) -> Result<Vec<Kept, A>, AllocError>
+fn own_of<A: Allocator>(alloc: A, row: usize, kept: &[Kept]) -> Result<Vec<Kept, A>, Memory>
     ensures { IfOk result (λ own. own.items ≡ filter (λ race. race.row == row) kept.now) }
 {
     kept.iter()
@@ -54,8 +54,8 @@ fn own_of<A: Allocator>(alloc: A, row: usize, kept: &[Kept]) -> Result<Vec<Kept,
         .collect(alloc)
 }
 
-// The cells of a row: the times to connect, the attempts a race, which share of the races that were won was won by
-// IPv6, and the verdicts.
+// The cells of a row: the times to connect, the attempts per race, the share of the won races that IPv6 won, and the
+// verdicts.
 pub(crate) fn push_row<A: Allocator>(row: Row, text: &mut Vec<Part<Said>, A>) -> Result<(), Memory>
     ensures { OnOk result (flat_map fact_of text.new.items ≡ flat_map fact_of text.old.items ++ row_facts row) }
 {
@@ -85,7 +85,7 @@ pub(crate) fn push_times<A: Allocator>(
     }
 }
 
-// How many attempts a race has, in the mean, to a hundredth.
+// The mean number of attempts of a race, to a hundredth.
 pub(crate) fn push_mean<A: Allocator>(
     attempts: Option<Spread>,
     text: &mut Vec<Part<Said>, A>,
@@ -107,7 +107,7 @@ pub(crate) fn push_mean<A: Allocator>(
     )
 }
 
-// Hundredths, rounded to the nearest.
+// The mean in hundredths, rounded to the nearest.
 fn mean(total: u64, count: u64) -> u64
     requires { 0 < count }
     ensures { result ≡ mean total count }
@@ -157,7 +157,7 @@ fn push_verdicts<A: Allocator>(
     )
 }
 
-// The members of a row, all but its settings.
+// The members of a row, except its settings.
 pub(crate) fn push_object<A: Allocator>(
     row: Row,
     text: &mut Vec<Part<Said>, A>,

@@ -14,12 +14,12 @@ use std::alloc::Allocator;
 const HEADING: &[u8] =
     b"    p50    p90    p99  attempts    IPv6  sooner   later    same  only with  only without  settings\n";
 
-/// Appends the table of a comparison: a row for each of these settings, the first of which are those of the races as
-/// they stand. As JSON it is an object on one line.
+/// Appends the table of a comparison: a row for each of these settings; the first row is that of the races with their
+/// own settings. As JSON it is an object on one line.
 ///
 /// # Errors
 ///
-/// `Memory` where an allocation was refused. A first part of the table may then have been appended.
+/// `Memory` if an allocation was refused. A first part of the table may then have been appended.
 pub fn write_table<A: Allocator + Copy>(
     alloc: A,
     form: Form,

@@ -1,4 +1,4 @@
-//! What other settings do to a race.
+//! The effect of other settings on a race.
 ghost use Rattle.std.specs.Prelude.{◌≡◌, count_by, None, IfOk};
 ghost use Rattle.he_compare.specs.Verdicts.{counts_of, is_like, stands_after, verdict_of, verdicts_on};
 
@@ -7,20 +7,20 @@ use he_summary::Kept;
 use he_summary::totals::{Value, value_of};
 use std::alloc::Allocator;
 
-/// What other settings do to a race.
+/// The effect of other settings on a race.
 #[derive(Clone, Copy, Debug, PartialEq, Eq)]
 pub enum Verdict {
-    /// It is won both ways, sooner or later with them, or at the same tick.
+    /// The race is won both ways: with them sooner, later, or at an equal tick.
     Sooner,
     Later,
     Same,
-    /// It is won in one way alone, or in none.
+    /// The race is won only with them, only without them, or in neither way.
     OnlyWith,
     OnlyWithout,
     Neither,
 }
 
-/// How many races have each verdict.
+/// The number of races of each verdict.
 #[derive(Clone, Copy, Debug, PartialEq, Eq)]
 pub struct Verdicts {
     pub sooner: u64,
@@ -32,7 +32,7 @@ pub struct Verdicts {
 }
 
 impl Verdict {
-    /// By the time to connect of the race as it stands, and with the settings.
+    /// The verdict, by the race's time to connect with its own settings, and with the other ones.
     pub fn of(stands: Option<u64>, with: Option<u64>) -> Verdict
         ensures { result ≡ verdict_of stands with }
     {
@@ -47,7 +47,8 @@ impl Verdict {
     }
 }
 
-// The verdicts on the races with the settings of a row, each beside the race as it stands, which is in the first row.
+// The verdicts on the races with the settings of a row, each against the race with its own settings, which is in the
+// first row.
 pub(crate) fn verdicts_on<A: Allocator>(
     alloc: A,
     row: usize,
@@ -66,7 +67,7 @@ pub(crate) fn verdicts_on<A: Allocator>(
     Ok(verdicts)
 }
 
-// The time to connect of the last race as it stands.
+// The time to connect of the last race with its own settings.
 pub(crate) fn stands_after(stands: Option<u64>, race: &Kept) -> Option<u64>
     ensures { result ≡ stands_after stands race.now }
 {

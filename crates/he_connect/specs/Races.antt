@@ -1,4 +1,4 @@
--- A race that was run for a connection.
+-- A race run for a connection.
 use Rattle.std.specs.Global.{Global}
 use Rattle.std.specs.Prelude.{ℕ, ◌≡◌, ◌⊎◌, List, [], Bool, true, false, Option, Some, None, IfSome, is_some}
 use Rattle.he_addr.specs.declared.ip.Family.{Family}
@@ -24,20 +24,20 @@ use Rattle.he_connect.specs.declared.setup.Setup.{Setup}
 use Rattle.he_connect.specs.Answers.{AnswersOf, ComesFrom}
 use Rattle.he_connect.specs.Start.{Starts}
 
--- what explains a race, where that is asked for, is the story of its record's course
+-- the explanation of a race, if requested, is the story of its record's course
 abbrev pub IsExplained : Bool → Race → List ℕ → Type 0
 IsExplained true recorded story = (course : Course Global) × IsCourse recorded 1 1 course × Tells course [] story
 IsExplained false recorded story = story ≡ []
 
--- the family that is tried alone, if one is
+-- the only family to try, if there is one
 abbrev pub only_of : Families → Option Family
 only_of families.Both = None
 only_of (families.Only family) = Some family
 
--- a race that began so was run for the request: its record keeps what it began with and replays, and each answer that
--- was not given comes from where those of the host are to come from; the text is that of the record, and the story,
--- where that is asked for, its own. There is a connection just where it was won, and it goes to the address of the
--- line that won, at the port, and over the interface where that is a link-local one
+-- a race with this start was run for the request: its record keeps the start and replays; each new answer has the
+-- host's origin; the text is the record's, and so is the story, if requested. There is a connection exactly if the
+-- race was won; it goes to the address of the winning line, at the port, and over the interface if that address is a
+-- link-local one
 pub record RunsFrom (request : ConnectRequest) (start : Race) (to : Endpoint) (text story : List ℕ)
     (connection : Option Dialed) : Type 0 where
   pub recorded : Race
@@ -52,13 +52,12 @@ pub record RunsFrom (request : ConnectRequest) (start : Race) (to : Endpoint) (t
   pub won_so : is_some connection ≡ is_won report.result
   pub goes : IfSome connection (GoesAt (goes_to to) report.lines report.result)
 
--- the families that are tried are those that are asked for, or one where both are: this machine may have no way for
--- the other
+-- the families to try are the requested ones, or one of both: this machine may have no way for the other
 abbrev pub Tries : Families → Families → Type 0
 Tries wanted tried = (tried ≡ wanted) ⊎ (wanted ≡ families.Both)
 
--- the race begins with the settings that are asked for, some lines and the families that are tried, and goes to the
--- port that is asked for, over the interface that stands with the host
+-- the race starts with the requested settings, some lines and the families to try, and goes to the requested port,
+-- over the interface in the host's text
 pub record Begins (request : ConnectRequest) (tried : Families) (start : Race) (to : Endpoint) : Type 0 where
   pub tries : Tries request.families tried
   pub lines : List ℕ
@@ -66,17 +65,17 @@ pub record Begins (request : ConnectRequest) (tried : Families) (start : Race) (
   pub port : to.port ≡ request.port
   pub scope : FindsScope request.host.now to.scope
 
--- what is known of the host of its request without asking
+-- the known addresses of the request's host
 abbrev pub KnowsHost : Setup → Type 0
 KnowsHost setup = FindsKnown setup.request.host.now setup.request.resolver (items_of setup.known)
 
--- a race is set up so, for the request with the families that are tried
+-- a race is set up like this, for the request with the families to try
 pub record IsSetUp (request : ConnectRequest) (setup : Setup) : Type 0 where
   pub tried : Families
   pub begins : Begins request tried setup.start setup.to
   pub same : setup.request ≡ record request { families = tried }
 
--- the race that is asked for was run
+-- the requested race was run
 pub record IsRun (request : ConnectRequest) (text story : List ℕ) (connection : Option Dialed) : Type 0 where
   pub tried : Families
   pub start : Race

@@ -14,9 +14,9 @@ use std::io::Write;
 use std::net::Net;
 use std::rt::Files;
 
-// The families that are asked for; where both are, and this machine has a way for one alone, that one (AI_ADDRCONFIG
-// of RFC 3493 section 6.1). Both are tried where the addresses are known without a look-up, as those of `localhost`
-// are, and where the lines are not this machine's.
+// The requested families; if those are both, and this machine has a way for only one, that one (AI_ADDRCONFIG of RFC
+// 3493 section 6.1). Both are tried if the addresses are known without a look-up, as those of `localhost`, and if the
+// lines are not this machine's.
 pub(crate) fn families_to_try<R: Files + Net + AllocGlobal>(
     rt: &R,
     asked: &AskedWays,
@@ -49,7 +49,7 @@ fn version_of(family: Family) -> &'static str {
     }
 }
 
-// Appends a line for each family whose network was not reached, where this machine has no way for the family.
+// Appends a line for each family with an unreachable network, if this machine has no way for the family.
 pub(crate) fn write_unusable<R: Files + Net + AllocGlobal>(
     rt: &R,
     asked: &AskedWays,
@@ -69,7 +69,7 @@ pub(crate) fn write_unusable<R: Files + Net + AllocGlobal>(
     Ok(())
 }
 
-// Whether an attempt of the family failed since its network is not reached.
+// Whether an attempt of the family failed because its network is unreachable.
 fn lacks_network(attempts: &[Line], steps: &Steps, family: Family) -> bool {
     for attempt in attempts {
         if attempt.ip.family() == family
@@ -81,7 +81,7 @@ fn lacks_network(attempts: &[Line], steps: &Steps, family: Family) -> bool {
     false
 }
 
-// Says which family is not asked for, and why.
+// Prints which family is not queried, and why.
 pub(crate) fn tell_unasked<F: Write>(wanted: Families, tried: Families, faults: &mut F) {
     let Families::Only(family) = tried else {
         return;

@@ -1,44 +1,45 @@
-//! Why no race was run.
+//! Why a race was not run.
+use he_addr::Memory;
 use he_inputs::{InputFault, NotOneRace};
 use he_kernel::fault::MachineFault;
 use he_live::{LiveFault, Reason};
 use he_settings::NamesFault;
 use he_words::TextFault;
-use std::alloc::{AllocError, AllocFailed};
+use std::alloc::AllocFailed;
 use std::io;
 use thiserror::Error;
 
-/// Why no race was run to its end. That no address could be connected to is no fault.
+/// Why a race was not run to its end. It is no fault if no address could be connected to.
 #[derive(Clone, Copy, Debug, PartialEq, Eq, Error)]
 pub enum ConnectFault {
-    /// The addresses and routes of this machine cannot be read.
+    /// The addresses and routes of this machine can't be read.
     #[error("cannot read /proc/net: name a file of source and route lines by --host")]
     Machine,
-    /// The file of lines cannot be read.
+    /// The file of lines can't be read.
     #[error("cannot read the file of --host")]
     File,
     /// A line of the file of lines is wrong.
     #[error("the file of --host: {0}")]
     Lines(TextFault),
-    /// The file of lines has others than source, route and policy lines.
+    /// The file of lines has lines other than source, route and policy lines.
     #[error("the file of --host may have source, route and policy lines alone")]
     OtherLines,
-    /// The host has no address, or it cannot be looked up.
+    /// The host has no address, or can't be looked up.
     #[error("{0}")]
     Name(NamesFault),
-    /// The process or the machine has as many files open as it may.
+    /// The process or the machine has no descriptor left.
     #[error("too many open files")]
     Files,
-    /// The sockets' event loop could not be made or failed, or the clock did.
+    /// The event loop could not be made or failed, or the clock failed.
     #[error("cannot run the sockets")]
     Runtime,
-    /// An allocation was refused.
+    /// An allocation failed.
     #[error("out of memory")]
     Memory,
 }
 
 impl ConnectFault {
-    /// Whether the host is what the fault is about, so that a line that reports the fault is to name it.
+    /// Whether the fault concerns the host, so that its message must name the host.
     pub fn is_of_host(self) -> bool {
         match self {
             ConnectFault::Name(fault) => fault.is_of_host(),
@@ -47,8 +48,8 @@ impl ConnectFault {
     }
 }
 
-impl From<AllocError> for ConnectFault {
-    fn from(_refused: AllocError) -> ConnectFault {
+impl From<Memory> for ConnectFault {
+    fn from(_refused: Memory) -> ConnectFault {
         ConnectFault::Memory
     }
 }
@@ -68,7 +69,7 @@ impl From<MachineFault> for ConnectFault {
     }
 }
 
-// Of the text of a file's lines, with a line before them.
+// A fault in the text of a file's lines, after one line that was added.
 impl From<NotOneRace> for ConnectFault {
     fn from(fault: NotOneRace) -> ConnectFault {
         match fault {
@@ -99,7 +100,7 @@ impl From<LiveFault> for ConnectFault {
     }
 }
 
-// Of the event loop.
+// A fault of the event loop.
 impl From<io::Error> for ConnectFault {
     fn from(error: io::Error) -> ConnectFault {
         match Reason::of(&error) {

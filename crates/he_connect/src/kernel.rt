@@ -1,4 +1,4 @@
-//! The sources that the kernel takes, beside those that the lines of the machine say.
+//! The sources that the kernel selects, compared with those by the machine's lines.
 
 use he_addr::{Ip, Memory, write_ip};
 use he_kernel::asked::AskedWays;
@@ -6,13 +6,13 @@ use he_live::Dialed;
 use he_turns::Raced;
 use std::net::Net;
 
-/// Appends a line for each address that was tried and that the kernel reaches from another source than the lines of
-/// the race say, as `he: 2001:db8::1 is reached from 2001:db8:5::23, and not from 2001:db8:5::7`. A link-local one is
-/// reached over the interface of the number.
+/// Appends a line for each address that was tried and that the kernel reaches from another source than the race's
+/// lines determine: `he: 2001:db8::1 is reached from 2001:db8:5::23, and not from 2001:db8:5::7`. A link-local
+/// address is reached over the interface `scope`.
 ///
 /// # Errors
 ///
-/// `Memory` where an allocation was refused; a part may be there.
+/// `Memory` if an allocation fails; part may have been appended.
 pub(crate) fn write_other_sources<R: Net>(
     rt: &R,
     asked: &AskedWays,

@@ -1,4 +1,4 @@
-//! The lines that say the machine of a race before it begins, and its policy.
+//! The lines of a race's machine and policy before its start.
 
 use crate::fault::ConnectFault;
 use crate::request::Lines;
@@ -11,8 +11,8 @@ use std::net::Net;
 use std::rt::Files;
 use std::{fs, io};
 
-// Where a race goes before it begins: the addresses that are known without a look-up, the number of the interface of a
-// link-local one, and what the kernel answers in this race.
+// The destinations known before the start: the addresses known without a look-up, the interface of a link-local one,
+// and the kernel's answers in this race.
 #[derive(Clone, Copy)]
 pub(crate) struct Destinations<'a> {
     pub(crate) known: Option<&'a [Ip]>,
@@ -20,10 +20,10 @@ pub(crate) struct Destinations<'a> {
     pub(crate) asked: &'a AskedWays,
 }
 
-// The lines of this machine, of a file or of the text of one. Where the host's addresses
-// are known without a look-up, the kernel is asked for the ways to them, to a link-local one over its interface; a
-// remark is appended for what can't be read or asked. Else there are none: they come with the addresses, while the
-// race runs.
+// The lines of this machine, of a file, or of a given text. For this machine, if the host's addresses are known
+// without a look-up, the kernel is asked for the ways to them, to a link-local one over its interface; a remark is
+// appended for each file that can't be read and each address that the kernel can't be asked for. Otherwise there are
+// no lines yet: they come with the addresses, during the race.
 pub(crate) fn read_lines_of<R: Files + Net + AllocGlobal>(
     rt: &R,
     alloc: Global,
@@ -45,11 +45,11 @@ pub(crate) fn read_lines_of<R: Files + Net + AllocGlobal>(
     }
 }
 
-/// The text of a file of lines, of which the last one is ended where it isn't.
+/// The text of a file of lines, with a newline added to an incomplete last line.
 ///
 /// # Errors
 ///
-/// `File` where it can't be read, `Memory`.
+/// `File` if it can't be read, `Memory`.
 pub fn read_lines<R: Files + AllocGlobal>(rt: &R, path: &str) -> Result<Vec<u8>, ConnectFault> {
     let mut text = read_file(rt, path)?;
     if text.last().is_some_and(|byte| *byte != b'\n') {

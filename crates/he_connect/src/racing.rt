@@ -1,4 +1,4 @@
-//! The race of a connection that is asked for, on real sockets.
+//! Runs the race of a requested connection on real sockets.
 ghost use Rattle.std.specs.Prelude.{◌≡◌, IfOk};
 ghost use Rattle.he_write.specs.Written.{timeline_text};
 ghost use Rattle.he_resolver.specs.Begins.{BeginsFor};
@@ -32,23 +32,23 @@ use std::thread::Threads;
 use std::time::Clock;
 use tokio::runtime::{Handle, LocalRuntime};
 
-/// A race that was run for a connection.
+/// A race run for a connection.
 #[derive(Drop)]
 pub struct FinishedRace {
     /// The text of its record.
     pub text: Vec<u8>,
-    /// Its story, where that is asked for.
+    /// Its story, if requested.
     pub story: Vec<u8>,
-    /// What is said of it beside its story, in lines: other sources, and where nothing connected what was tried.
+    /// Report lines other than the story: other sources and, if nothing connected, the addresses tried.
     pub told: Vec<u8>,
-    /// Why there was no address to connect to, where a look-up found none.
+    /// Why there was no address to connect to, if a look-up found none.
     pub nameless: Option<NamesFault>,
-    /// The connection.
+    /// The winner's connection, if the race was won.
     pub connection: Option<Dialed>,
 }
 
-/// Finds the addresses of the host while it races them, as RFC 8305 says. Each step is reported to `faults` as it
-/// happens, where that is asked for; what cannot be written there is passed over.
+/// Looks up the host's addresses and races them at once, by RFC 8305. Each step is printed to `faults` as it happens,
+/// if requested; a failed write there is ignored.
 ///
 /// # Errors
 ///
@@ -71,7 +71,7 @@ where
     run
 }
 
-// Runs the race that is set up.
+// Runs the race of the set-up.
 fn run_from<R, F>(
     rt: &R,
     alloc: Global,
@@ -102,7 +102,7 @@ where
     end_with(rt, alloc, setup, why.families(), &steps, raced)
 }
 
-/// A look-up of the host, which waits in the event loop: of what is known of it by the set-up, or by asking.
+/// A look-up of the host in the event loop: of the addresses known by the set-up, or by queries.
 ///
 /// # Errors
 ///
@@ -134,7 +134,7 @@ where
     }
 }
 
-// What is handed out of the race.
+// The results of the race.
 fn end_with<R: Files + Net + AllocGlobal>(
     rt: &R,
     alloc: Global,
@@ -198,7 +198,7 @@ fn texts_of<R: Files + Net + AllocGlobal>(
     Ok(RaceTexts { text, story, told })
 }
 
-// The story of a race, where it is asked for.
+// The story of a race, if requested.
 fn explain(alloc: Global, is_asked: bool, recorded: &Timeline) -> Result<Vec<u8>, ConnectFault>
     ensures { IfOk result (λ story. IsExplained is_asked recorded.now story.items) }
 {
@@ -211,7 +211,7 @@ fn explain(alloc: Global, is_asked: bool, recorded: &Timeline) -> Result<Vec<u8>
     Ok(story)
 }
 
-// The texts of a race that was run.
+// The texts of a race.
 #[derive(Drop)]
 struct RaceTexts {
     text: Vec<u8>,

@@ -1,4 +1,4 @@
-//! What is asked for.
+//! The request of a connection.
 ghost use Rattle.std.specs.Prelude.{◌≡◌};
 ghost use Rattle.he_connect.specs.Races.{only_of};
 
@@ -7,7 +7,7 @@ use he_names::Environment;
 use he_settings::Choice;
 use he_timeline::Settings;
 
-/// The address families that are tried.
+/// The address families to try.
 #[derive(Clone, Copy, Debug, PartialEq, Eq)]
 pub enum Families {
     Both,
@@ -15,7 +15,7 @@ pub enum Families {
 }
 
 impl Families {
-    /// The family that is tried alone, if one is.
+    /// The only family to try, if there is one.
     pub fn only(self) -> Option<Family>
         ensures { result ≡ only_of self }
     {
@@ -26,18 +26,18 @@ impl Families {
     }
 }
 
-/// Where the `source`, `route` and `policy` lines of a race come from.
+/// The origin of a race's `source`, `route` and `policy` lines.
 #[derive(Clone, Copy, Debug, PartialEq, Eq)]
 pub enum Lines<'a> {
-    /// Of this machine.
+    /// This machine.
     Machine,
-    /// A file has them.
+    /// The file at this path.
     File(&'a str),
-    /// The text of such a file, with its last line ended.
+    /// The text of such a file, with a complete last line.
     Text(&'a [u8]),
 }
 
-/// A race for a connection that is asked for.
+/// A request for a connection.
 #[derive(Clone, Copy)]
 pub struct ConnectRequest<'a> {
     /// A name or an address.
@@ -48,18 +48,18 @@ pub struct ConnectRequest<'a> {
     /// The settings of the race.
     pub settings: Settings,
     pub lines: Lines<'a>,
-    /// Which resolver is asked for the host's addresses.
+    /// Which resolver to ask for the host's addresses.
     pub resolver: Choice<'a>,
-    /// By which the file of resolver settings is amended.
+    /// The environment's changes of resolv.conf.
     pub environment: Environment<'a>,
-    /// Whether the race is explained.
+    /// Whether to explain the race.
     pub explains: bool,
-    /// Whether each step is reported as it happens.
+    /// Whether to print each step as it happens.
     pub tells_steps: bool,
 }
 
 impl<'a> ConnectRequest<'a> {
-    // The same, for these families.
+    // This request, for these families.
     pub(crate) fn with_families(&self, families: Families) -> ConnectRequest<'a>
         ensures { result ≡ record self.now { families = families } }
     {

@@ -1,4 +1,4 @@
-//! What the race of a connection is run with.
+//! The set-up of a connection's race.
 ghost use Rattle.std.specs.Prelude.{IfOk};
 ghost use Rattle.he_connect.specs.Races.{IsSetUp, KnowsHost};
 
@@ -17,27 +17,27 @@ use std::io::Write;
 use std::net::Net;
 use std::rt::Files;
 
-/// A race that is asked for, before it is run.
+/// A requested race before its start.
 #[derive(Drop)]
 pub struct Setup<'a> {
-    /// What is asked for, with the families that are tried.
+    /// The request, with the families to try.
     pub request: ConnectRequest<'a>,
     pub start: Timeline,
     pub to: Endpoint,
-    /// The addresses of the host that are known without asking: of the host itself or of the file of hosts.
+    /// The addresses of the host that are known without queries: by itself or by the hosts file.
     pub known: Option<Vec<Ip>>,
-    /// Whether the lines of this machine come with the addresses.
+    /// Whether this machine's lines come with the addresses.
     pub brings_lines: bool,
-    /// What the kernel answers in this race.
+    /// The kernel's answers in this race.
     pub asked: AskedWays,
 }
 
-/// Reads what is known of the host, the lines of the race, and which families are tried; says which is not, where that
-/// is asked for, and which files of this machine can't be read.
+/// Reads the known addresses of the host and the lines of the race, and decides which families to try. Prints which
+/// family is not queried, if steps or an explanation are requested, and which files of this machine can't be read.
 ///
 /// # Errors
 ///
-/// `Machine`, `File`, `Lines` and `OtherLines` for the lines; `Name` where the host is none; `Memory`.
+/// `Machine`, `File`, `Lines` and `OtherLines` for the lines; `Name` if the text is not a host; `Memory`.
 pub fn set_up<'a, R, F>(
     rt: &R,
     alloc: Global,

@@ -1,4 +1,4 @@
-//! Where the answers of a connection's race come from.
+//! The source of answers for a connection's race.
 ghost use Rattle.std.specs.Prelude.{◌≡◌, IfOk, is_some, true};
 ghost use Rattle.he_turns.specs.Heard.{lists_of};
 ghost use Rattle.he_resolver.specs.Heard.{ttl_in};
@@ -8,14 +8,14 @@ use crate::request::Families;
 use crate::setup::Setup;
 use crate::telling::LookupWatcher;
 use futures::task::{Context, Poll};
-use he_addr::{Family, Ip};
+use he_addr::{Family, Ip, Memory};
 use he_asking::LookupLog;
 use he_kernel::asked::AskedWays;
 use he_kernel::taken::find_machine_of;
 use he_resolver::Lookup;
 use he_settings::{NamesFault, first_fault};
 use he_turns::{Answer, AnswerSource, Known, nothing_known};
-use std::alloc::{AllocError, AllocGlobal, Global};
+use std::alloc::{AllocGlobal, Global};
 use std::cell::Cell;
 use std::net::Net;
 use std::random::RandomSource;
@@ -23,7 +23,7 @@ use std::rc::Rc;
 use std::rt::Files;
 use std::time::Clock;
 
-/// Why each family has no address, for the look-up of one race and for whoever reports its end.
+/// Why each family has no address, shared by the look-up of one race and the report of its end.
 #[derive(Drop)]
 pub struct LookupFaults {
     shared: Rc<FaultCells>,
@@ -36,12 +36,12 @@ struct FaultCells {
 }
 
 impl LookupFaults {
-    /// Nothing is known yet.
+    /// Nothing is known.
     ///
     /// # Errors
     ///
-    /// `AllocError` where an allocation was refused.
-    pub fn new(alloc: Global) -> Result<LookupFaults, AllocError> {
+    /// `Memory` if an allocation fails.
+    pub fn new(alloc: Global) -> Result<LookupFaults, Memory> {
         let cells = FaultCells {
             six: Cell::new(None),
             four: Cell::new(None),
@@ -51,18 +51,18 @@ impl LookupFaults {
         })
     }
 
-    /// The same, for another holder.
+    /// Another handle to these faults.
     ///
     /// # Errors
     ///
-    /// `AllocError` where there are too many holders.
-    pub fn share(&self) -> Result<LookupFaults, AllocError> {
+    /// `Memory` if there are too many handles.
+    pub fn share(&self) -> Result<LookupFaults, Memory> {
         Ok(LookupFaults {
             shared: self.shared.clone()?,
         })
     }
 
-    /// What is known by now.
+    /// The faults so far.
     pub fn families(&self) -> FamilyFaults {
         FamilyFaults {
             six: self.shared.six.get(),
@@ -86,7 +86,7 @@ pub struct FamilyFaults {
 }
 
 impl FamilyFaults {
-    /// Why the family has no address; None where it has some, or was not answered in time.
+    /// Why the family has no address; None if it has some, or was not answered in time.
     pub fn of(self, family: Family) -> Option<NamesFault> {
         match family {
             Family::V6 => self.six,
@@ -94,8 +94,8 @@ impl FamilyFaults {
         }
     }
 
-    /// Why there is no address of those that are tried; None where a family that is tried has some, or none yet, and
-    /// where the name has addresses of the other family alone.
+    /// Why there is no address of the families to try; None if one of them has some, or none yet, and if the name has
+    /// addresses of the other family only.
     pub fn nameless(self, families: Families) -> Option<NamesFault> {
         match families {
             Families::Only(family) => self
@@ -106,7 +106,7 @@ impl FamilyFaults {
     }
 }
 
-/// This machine, whose lines come with the addresses of a race, and what its kernel answers in that race.
+/// This machine, whose lines come with the addresses of a race, and the kernel's answers in that race.
 #[derive(Drop)]
 pub struct OwnMachine<'h, R> {
     rt: &'h R,
@@ -114,12 +114,12 @@ pub struct OwnMachine<'h, R> {
 }
 
 impl<'h, R> OwnMachine<'h, R> {
-    /// This machine, where its lines are to come in the race that is set up.
+    /// This machine, if its lines come with the addresses in the race that is set up.
     ///
     /// # Errors
     ///
-    /// `AllocError` where there are too many holders of the kernel's answers.
-    pub fn of_setup(rt: &'h R, setup: &Setup<'_>) -> Result<Option<OwnMachine<'h, R>>, AllocError>
+    /// `Memory` if there are too many handles to the kernel's answers.
+    pub fn of_setup(rt: &'h R, setup: &Setup<'_>) -> Result<Option<OwnMachine<'h, R>>, Memory>
         ensures { IfOk result (λ machine. is_some machine ≡ setup.now.brings_lines) }
     {
         if !setup.brings_lines {
@@ -132,12 +132,12 @@ impl<'h, R> OwnMachine<'h, R> {
     }
 }
 
-/// The answers of a look-up, which are polled while a race runs. A family that has none is answered without addresses.
+/// The answers of a look-up, polled by a race. A family without addresses gets an empty answer.
 #[derive(Drop)]
 pub struct HostAnswers<'h, R, W: LookupWatcher> {
     alloc: Global,
     lookup: Lookup<'h, R>,
-    // Where its lines come with the addresses.
+    // If its lines come with the addresses.
     machine: Option<OwnMachine<'h, R>>,
     log: LookupLog,
     why: LookupFaults,
@@ -149,19 +149,19 @@ where
     R: Net + RandomSource + Clock + Files + AllocGlobal,
     W: LookupWatcher,
 {
-    /// The answers of the look-up; with `machine`, each comes with the lines of this machine to its first 32
-    /// addresses. Why a family has none is noted in `why`.
+    /// The answers of the look-up; with `machine`, each has this machine's lines for its first 32 addresses. Why a
+    /// family has none is recorded in `why`.
     ///
     /// # Errors
     ///
-    /// `AllocError` where there are too many holders of the look-up's log.
+    /// `Memory` if there are too many handles to the look-up's log.
     pub fn new(
         alloc: Global,
         lookup: Lookup<'h, R>,
         machine: Option<OwnMachine<'h, R>>,
         why: LookupFaults,
         watcher: W,
-    ) -> Result<HostAnswers<'h, R, W>, AllocError>
+    ) -> Result<HostAnswers<'h, R, W>, Memory>
         ensures lookup { IfOk result (λ answers. answers.lookup ≡ lookup.entry) }
     {
         let log = lookup.log()?;
@@ -175,14 +175,14 @@ where
         })
     }
 
-    /// The seconds for which the addresses of the family may be kept ([`Lookup::ttl`]).
+    /// How long the addresses of the family may be kept, in seconds ([`Lookup::ttl`]).
     pub fn ttl(&self, family: Family) -> Option<u32>
         ensures { result ≡ ttl_in self.now.lookup.source family }
     {
         self.lookup.ttl(family)
     }
 
-    /// What the race is told of the family: these addresses with their lines, or nothing, and why is noted.
+    /// The race's answer for the family: these addresses with their lines, or an empty one, whose reason is recorded.
     pub fn answer_of(&self, family: Family, told: Result<Vec<Ip>, NamesFault>) -> Answer
         ensures { IsToldOf (is_some self.now.machine) told (lists_of result) }
     {
@@ -195,7 +195,7 @@ where
         }
     }
 
-    // The addresses, of which nothing is known from earlier, with their lines where these are to come.
+    // The addresses, without history, with their lines if these come with the addresses.
     fn find_answer(
         &self,
         family: Family,
@@ -212,7 +212,7 @@ where
     }
 }
 
-// The addresses with the lines of this machine by which the rules take the kernel's sources.
+// The addresses with this machine's lines, by which the rules select the kernel's sources.
 fn with_lines<R: Net + Files + AllocGlobal, W: LookupWatcher>(
     machine: &OwnMachine<'_, R>,
     family: Family,

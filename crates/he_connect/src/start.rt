@@ -1,4 +1,4 @@
-//! The race of a connection before anything has happened in it.
+//! The race of a connection before its start.
 ghost use Rattle.std.specs.Prelude.{◌≡◌, ◌++◌, ◌∷◌, [], IfOk, None, codes, false};
 ghost use Rattle.he_timeline.specs.Building.{empty_race};
 ghost use Rattle.he_inputs.specs.Inputs.{HasRaces};
@@ -13,12 +13,12 @@ use he_timeline::{Settings, Timeline, TimelineBuilder};
 use std::alloc::Global;
 use std::mem::drop;
 
-/// The race that has these settings, the sources, routes and policy rows of the lines, the standard policy table where
-/// there are no policy rows, and for a family that isn't tried an answer without addresses at tick 0.
+/// The race with these settings, the lines' sources, routes and policy rows, the standard policy table if there are
+/// no policy rows, and, for a family that isn't tried, an empty answer at tick 0.
 ///
 /// # Errors
 ///
-/// `Lines` with the first line that is wrong, `OtherLines` where there are others than source, route and policy lines,
+/// `Lines` with the first wrong line, `OtherLines` if there are lines other than source, route and policy lines,
 /// `Memory`.
 pub fn start_race(
     alloc: Global,
@@ -34,7 +34,7 @@ pub fn start_race(
     started
 }
 
-// The race that has the machine and the policy of another one.
+// The race with the machine and the policy of another one.
 fn start_with(
     alloc: Global,
     settings: Settings,
@@ -61,7 +61,7 @@ fn start_with(
     }
 }
 
-// The race of which these are the lines.
+// The race of these lines.
 fn read_lines(alloc: Global, lines: &[u8]) -> Result<Timeline, ConnectFault>
     ensures { IfOk result (λ base. HasRaces (lines_text lines.now) false (base ∷ []) None) }
 {
@@ -78,8 +78,8 @@ fn read_lines(alloc: Global, lines: &[u8]) -> Result<Timeline, ConnectFault>
     }
 }
 
-// Whether the lines of a race say more than its machine and its policy. Outcomes and what is known from earlier stand
-// with an answer alone.
+// Whether the lines of a race have more than its machine and its policy. Outcomes and history come only with an
+// answer.
 fn has_others(base: &Timeline) -> bool {
     let settings = base.settings();
     settings.resolution() != DEFAULT_RESOLUTION

@@ -1,4 +1,4 @@
-//! The steps of a race and of its look-up, reported as they happen.
+//! Prints the steps of a race and of its look-up as they happen.
 
 use crate::request::ConnectRequest;
 use crate::tried::write_reason;
@@ -9,9 +9,9 @@ use std::alloc::Global;
 use std::cell::Cell;
 use std::io::Write;
 
-/// Who is told what happens in a look-up, each time that the race has polled it.
+/// Gets the events of a look-up, each time after the race has polled it.
 pub trait LookupWatcher: Drop {
-    /// Takes what happened since the last call, at the race's tick.
+    /// Takes the events since the last call, at the race's tick.
     fn tell_lookup(&self, log: &LookupLog, tick: u64);
 
     /// Takes lines about files of this machine that can't be read, and destinations that the kernel can't be asked
@@ -25,13 +25,13 @@ impl LookupWatcher for Quiet {
     fn tell_remarks(&self, _remarks: &[u8]) {}
 }
 
-// Tells each step in a line, where that is asked for. What cannot be written is passed over.
+// Prints a line for each step, if requested. A failed write is ignored.
 #[derive(Drop)]
 pub(crate) struct Telling<'f, F> {
     alloc: Global,
     faults: Cell<Option<&'f mut F>>,
     tells_steps: bool,
-    // An explanation has the race's steps, and not those of its look-up.
+    // An explanation has the steps of the race, but not of its look-up.
     tells_lookup: bool,
 }
 
@@ -50,8 +50,8 @@ impl<'f, F> Telling<'f, F> {
     }
 }
 
-// A look-up goes on only where the race polls it, so all that is told stands in one order. Which family is not asked
-// for was told before.
+// A look-up goes on only when the race polls it, so all lines are in one order. The family that is not queried was
+// printed before.
 impl<'h, 'f, F: Write> LookupWatcher for &'h Telling<'f, F> {
     fn tell_lookup(&self, log: &LookupLog, tick: u64) {
         for event in log.take().iter() {
@@ -95,7 +95,7 @@ impl<'f, F: Write> Watcher for Telling<'f, F> {
     }
 }
 
-// The line, as `he: 12 ms: attempt 1 at 2001:db8::1 failed: refused`.
+// Writes the line: `he: 12 ms: attempt 1 at 2001:db8::1 failed: refused`.
 fn write_step(step: Step, out: &mut Vec<u8>) -> Result<(), Memory> {
     out.extend_from_slice(b"he: ")?;
     write_number(step.tick, out)?;

@@ -1,4 +1,4 @@
-//! The line that reports what was tried where nothing connected.
+//! The line that reports the addresses tried if nothing connected.
 
 use crate::request::{ConnectRequest, Families};
 use crate::source::FamilyFaults;
@@ -10,14 +10,13 @@ use he_timeline::Timeline;
 use he_turns::Raced;
 use std::alloc::Global;
 
-/// Appends the line, as `he: no connection to example.org port 443: 2 addresses tried: 2001:db8::1 refused after
-/// 12 ms, 198.51.100.1 no answer in 30000 ms`, with each family whose look-up failed, as `; AAAA: no name server
-/// answers`. Where the name has addresses of the other family alone, that is the line: `he: example.org has no IPv6
-/// address`.
+/// Appends the line: `he: no connection to example.org port 443: 2 addresses tried: 2001:db8::1 refused after 12 ms,
+/// 198.51.100.1 no answer in 30000 ms`, with each family whose look-up failed: `; AAAA: no name server answers`. If
+/// the name has addresses of the other family only, the line is `he: example.org has no IPv6 address`.
 ///
 /// # Errors
 ///
-/// `Memory` where an allocation was refused; a part of the line may be there.
+/// `Memory` if an allocation fails; part of the line may have been appended.
 pub(crate) fn write_tried(
     alloc: Global,
     request: &ConnectRequest<'_>,
@@ -40,7 +39,7 @@ pub(crate) fn write_tried(
     Ok(())
 }
 
-// The family that is tried alone, and that the name has no address of.
+// The only family to try, if the name has no address of it.
 fn lacking(families: Families, why: FamilyFaults) -> Option<Family> {
     families
         .only()
@@ -57,7 +56,7 @@ fn write_lack(host: &str, family: Family, out: &mut Vec<u8>) -> Result<(), Memor
     Ok(())
 }
 
-// Why the look-up of a family failed, where it did.
+// Why the look-up of a family failed, if it did.
 fn write_failed(
     alloc: Global,
     family: Family,
@@ -101,7 +100,8 @@ fn write_attempts(
     Ok(())
 }
 
-// That no address was tried: none came in time, no attempt began in time at one that came, or none that came can be.
+// Writes that no address was tried: none came in time, no attempt began in time at one that came, or none that came
+// is usable.
 fn write_none(recorded: &Timeline, out: &mut Vec<u8>) -> Result<(), Memory> {
     if has_usable(recorded, Family::V6) || has_usable(recorded, Family::V4) {
         out.extend_from_slice(b": no attempt began in ")?;

@@ -12,7 +12,7 @@ use Rattle.he_select.specs.Attributes.{attributes_of, rule_between}
 use Rattle.he_select.specs.Selection.{serves}
 use Rattle.he_course.specs.declared.addresses.Preferred.{Preferred}
 
--- what the rules look at of the usable addresses of both answers, in sorted order and not interlaced
+-- the attributes that the rules compare, of the usable addresses of both answers, sorted and not interlaced
 unfoldable pub all_attributes_of : Race → List DestinationAttributes
 all_attributes_of race = map (attributes_of (race_input race)) (order race (usable_addresses race))
 
@@ -20,11 +20,11 @@ all_attributes_of race = map (attributes_of (race_input race)) (order race (usab
 abbrev pub is_routed : List Route → Ip → Bool
 is_routed routes ip = list_any (serves ip) routes
 
--- the first rule that puts an address after the one before it, if there is one
+-- the first rule that sorts an address after the one before it, if there is one
 abbrev pub rule_after : Option DestinationAttributes → DestinationAttributes → Option DestinationRule
 rule_after earlier later = option_map (λ before. rule_between before later) earlier
 
--- the addresses, after the one before them
+-- the addresses, given the one before them
 abbrev pub preferred_after : List Route → Option DestinationAttributes → List DestinationAttributes → List Preferred
 preferred_after routes earlier [] = []
 preferred_after routes earlier (first ∷ more) =

@@ -1,4 +1,4 @@
--- Mirrors the code: what private functions answer of a race's first attempt.
+-- Mirrors the code: private functions on a race's first attempt.
 use Rattle.std.specs.Prelude.{Bool, false, true, not, List, [], ◌∷◌, Option, Some}
 use Rattle.he_timeline.specs.declared.outcome.Outcome.{Outcome}
 use Rattle.he_timeline.specs.declared.outcome.Outcome.TheVariants as outcomes

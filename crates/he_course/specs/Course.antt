@@ -1,4 +1,4 @@
--- The course of a race: all that is told of it, made once.
+-- The course of a race: all that is reported of it, made once.
 use Rattle.std.specs.Prelude.{ℕ, ◌≡◌, ◌-◌, if◌then◌else◌, List, [], ◌∷◌, count_by, nat_lt, option_map, take, Option, Some, None}
 use Rattle.std.specs.Option.{option_map_or}
 use Rattle.he_addr.specs.declared.ip.Family.{Family}
@@ -15,18 +15,18 @@ use Rattle.he_course.specs.Addresses.{preferred}
 use Rattle.he_course.specs.Events.{events_by_kind}
 use Rattle.he_course.specs.LeastFloor.{IsSooner, ended_of}
 
--- an event after those of its tick and of earlier ones
+-- inserts an event after those of its tick and of earlier ones
 abbrev pub put_event : Event → List Event → List Event
 put_event event [] = event ∷ []
 put_event event (first ∷ more) =
     if nat_lt event.tick first.tick then event ∷ first ∷ more else first ∷ put_event event more
 
--- events put one after the other
+-- inserts events one after the other
 abbrev pub put_events : List Event → List Event → List Event
 put_events done [] = done
 put_events done (event ∷ more) = put_events (put_event event done) more
 
--- the events up to the race's end by tick, those of one tick by kind, those of one kind as they were
+-- the events up to the race's end by tick, those of one tick by kind, those of one kind in their given order
 abbrev pub events_in : Race → Report → List Event
 events_in race report = put_events [] (events_by_kind race report)
 
@@ -35,7 +35,7 @@ abbrev pub seen_of : Race → Option Reply → Option Seen
 seen_of race reply =
     option_map (λ r. record { tick = seen race r.tick; usable = count_by is_usable r.addresses }) reply
 
--- the value is the course of the race that has this number in its input, and begins at this line of it
+-- the value is the course of the race that has this number in its input and begins at this line of it
 pub record IsCourse {A : Type 0} (race : Race) (number line : ℕ) (course : Course A) : Type 0 where
   pub numbered : course.number ≡ number
   pub begins : course.line ≡ line
@@ -52,7 +52,7 @@ abbrev pub answer_of : {A : Type 0} → Course A → Family → Option Seen
 answer_of course families.V6 = course.aaaa
 answer_of course families.V4 = course.a
 
--- what a race lost that was won: the time from when the winner's answer was seen to the start of its attempt
+-- the time that a won race lost: from when the winner's answer was seen to the start of the winner's attempt
 abbrev pub lost_by : {A : Type 0} → Course A → Option Line → Option ℕ
 lost_by course None = None
 lost_by course (Some line) = option_map (λ seen. line.tick - seen.tick) (answer_of course (family_of line.ip))
@@ -60,6 +60,6 @@ lost_by course (Some line) = option_map (λ seen. line.tick - seen.tick) (answer
 abbrev pub lost : {A : Type 0} → Course A → Option ℕ
 lost course = lost_by course course.ended.winner
 
--- the attempts that stood between: those before the winner's, which had failed or ran when it started
+-- the attempts before the winner's, which had failed or were running when it started
 abbrev pub before_winner : {A : Type 0} → Course A → List Line
 before_winner course = option_map_or (λ line. take line.place course.transcript.lines) course.ended.winner []

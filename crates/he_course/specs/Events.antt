@@ -1,4 +1,4 @@
--- What happens in a race, each event with its tick (RFC 8305 sections 3 and 5).
+-- The events of a race, each with its tick (RFC 8305 sections 3 and 5).
 use Rattle.std.specs.Prelude.{ℕ, ◌+◌, ◌&&◌, ◌++◌, if◌then◌else◌, not, Bool, true, false, List, [], ◌∷◌, map, filter, count_by, Option, Some, None, nat_le, nat_lt}
 use Rattle.std.specs.List.{flat_map, list_any}
 use Rattle.std.specs.Option.{option_map_or}
@@ -26,7 +26,7 @@ event_at tick kind = record { tick = tick; kind = kind }
 abbrev pub pause_events : List (ℕ × ℕ) → List Event
 pause_events pauses = map (λ p. event_at p.0 (Paused p.1)) pauses
 
--- an answer, when it is seen, with the number of its usable addresses
+-- an answer, at the tick at which it is seen, with the number of its usable addresses
 abbrev pub answer_events : Race → Family → Option Reply → List Event
 answer_events race family None = []
 answer_events race family (Some reply) =
@@ -36,11 +36,11 @@ answer_events race family (Some reply) =
 abbrev pub is_seen_by : Race → ℕ → Option Reply → Bool
 is_seen_by race t reply = option_map_or (λ r. nat_le (seen race r.tick) t) reply false
 
--- the Resolution Delay's end, where the AAAA answer is not seen by then
+-- the Resolution Delay's end, if the AAAA answer is not seen by then
 abbrev pub over_events : Race → ℕ → List Event
 over_events race t = if is_seen_by race t race.aaaa then [] else event_at t DelayOver ∷ []
 
--- the A answer has a usable address, and is seen before the Resolution Delay is over and the AAAA answer is seen
+-- the A answer has a usable address, and is seen before the Resolution Delay ends and before the AAAA answer is seen
 abbrev pub is_waiting : Race → Reply → Bool
 is_waiting race a =
     list_any is_usable a.addresses && nat_lt (seen race a.tick) (a.tick + race.settings.resolution)
@@ -55,7 +55,7 @@ wait_events race (Some a) =
     ∷ over_events race (seen race (a.tick + race.settings.resolution))
     else []
 
--- what the client meets: its pauses, the answers, and the wait for the AAAA answer
+-- the client's pauses, the answers, and the wait for the AAAA answer
 abbrev pub met_events : Race → List Event
 met_events race =
     (pause_events race.pauses ++ (answer_events race families.V6 race.aaaa ++ answer_events race families.V4 race.a))
@@ -64,7 +64,7 @@ met_events race =
 abbrev pub attempt_of : Line → Attempt
 attempt_of line = record { place = line.place; tick = line.tick; ip = line.ip }
 
--- the start of an attempt, after the one before it and the last failure
+-- the start of an attempt, given the one before it and the last failure
 abbrev pub start_event : Race → Option Attempt → Option ℕ → Attempt → Event
 start_event race last failed next =
     let cause = cause_of race last failed next in
@@ -78,7 +78,7 @@ start_event race last failed next =
       listed = listed_at race next.tick next.ip;
     }))
 
--- the starts of attempts one after the other, after the last one before them and the last failure
+-- the starts of attempts in order, given the last one before them and the last failure
 abbrev pub start_events : Race → Option Attempt → Option ℕ → List Line → List Event
 start_events race last failed [] = []
 start_events race last failed (line ∷ lines) =
@@ -93,13 +93,13 @@ abbrev pub cancelled_by : ℕ → Mark → List Event
 cancelled_by place (marks.Cancelled tick) = event_at tick (Cancelled place) ∷ []
 cancelled_by place _ = []
 
--- the tick at which a race ends, and how
+-- the end of a race, with its tick
 abbrev pub end_event : Outcome3 → Event
 end_event (results.Won place tick) = event_at tick (Won place)
 end_event (results.Exhausted tick) = event_at tick Exhausted
 end_event (results.Limit tick) = event_at tick Limit
 
--- what becomes of the attempts of a transcript, and of the race
+-- the outcomes of the attempts of a transcript, and of the race
 abbrev pub told_events : Race → Report → List Event
 told_events race report =
     (flat_map (λ line. failed_by line.place line.mark) report.lines ++ start_events race None (Some 0) report.lines)
@@ -114,12 +114,12 @@ abbrev pub is_delay_over : EventKind → Bool
 is_delay_over DelayOver = true
 is_delay_over _ = false
 
--- it comes by the race's end, and a pause before it
+-- it comes by the race's end; a pause begins before it
 abbrev pub comes_by : ℕ → ℕ → EventKind → Bool
 comes_by end tick (Paused until) = nat_lt tick end
 comes_by end tick _ = nat_le tick end
 
--- those that come by the race's end
+-- the events that come by the race's end
 abbrev pub events_by_kind : Race → Report → List Event
 events_by_kind race report =
     filter (λ event. comes_by (end_event report.result).tick event.tick event.kind) (events_of race report)

@@ -1,4 +1,5 @@
--- What a floor would have changed: the least time between two starts where all attempts so far have failed (own).
+-- How a race would have ended with a floor: the least time between two starts if all attempts so far have failed
+-- (own).
 use Rattle.std.specs.Prelude.{◌≡◌, ◌&&◌, if◌then◌else◌, Bool, List, length, slice_get, is_none, nat_lt, Option, Some, None}
 use Rattle.he_timeline.specs.declared.limits.TheConstants.{MIN_FLOOR}
 use Rattle.he_timeline.specs.Changes.{changed}
@@ -20,7 +21,7 @@ unfoldable pub ends_sooner : Race → Report → Report → Bool
 ends_sooner race report with_floor =
     is_none race.settings.floor && nat_lt (end_event with_floor.result).tick (end_event report.result).tick
 
--- the attempt that won, if one did
+-- the attempt that won, if any
 abbrev pub winner_of : List Line → Outcome3 → Option Line
 winner_of lines (results.Won place tick) = slice_get lines place
 winner_of lines _ = None
@@ -30,7 +31,7 @@ abbrev pub ended_of : Report → Ended
 ended_of report =
     record { result = report.result; winner = winner_of report.lines report.result; attempts = length report.lines }
 
--- how the race ends with that floor, where that is earlier
+-- how the race ends with that floor, if that is earlier
 abbrev pub sooner_by : Race → Report → Report → Option Ended
 sooner_by race report with_floor = if ends_sooner race report with_floor then Some (ended_of with_floor) else None
 

@@ -1,4 +1,4 @@
--- Where an attempt's address stands in the interlaced list from which it is taken, and whose turn it is there (RFC
+-- The place of an attempt's address in the interlaced list from which it is taken, and whose turn it is there (RFC
 -- 8305 section 4).
 use Rattle.std.specs.Prelude.{ℕ, ◌+◌, ◌-◌, ◌&&◌, if◌then◌else◌, Bool, false, List, [], ◌∷◌, length, nat_lt, slice_get}
 use Rattle.std.specs.Bool.{beq}
@@ -11,17 +11,17 @@ use Rattle.he_course.specs.declared.listing.Listed.{Listed}
 use Rattle.he_course.specs.declared.listing.Turn.{Turn}
 use Rattle.he_course.specs.declared.listing.Turn.TheVariants.{Leads, InTurn, RunOut}
 
--- the place of an address in a list; the list's length where it does not stand there
+-- the place of an address in a list; the list's length if it is not there
 abbrev pub place_in : Ip → List Ip → ℕ
 place_in ip [] = 0
 place_in ip (first ∷ more) = if same_ip first ip then 0 else place_in ip more + 1
 
--- an IPv6 address stands at the place
+-- the address at the place is an IPv6 address
 abbrev pub is_v6_at : List Ip → ℕ → Bool
 is_v6_at ips place = option_map_or is_v6 (slice_get ips place) false
 
--- whose turn it is at a place: that of the family that leads, for its first `count` addresses; else that of a family
--- after an address of the other one; else the other one has run out
+-- whose turn it is at a place: the leading family, for its first `count` addresses; else a family after an address of
+-- the other one; else the other one has run out
 abbrev pub turn_at : ℕ → List Ip → ℕ → Turn
 turn_at count ips place =
     if nat_lt place count && beq (is_v6_at ips 0) (is_v6_at ips place) then Leads
@@ -31,6 +31,6 @@ abbrev pub listed_in : ℕ → List Ip → Ip → Listed
 listed_in count ips ip =
     record { place = place_in ip ips; count = length ips; turn = turn_at count ips (place_in ip ips) }
 
--- of an attempt at t: in the interlaced list of all that is received by then, tried ones included
+-- an attempt at t: in the interlaced list of all addresses received by then, tried ones included
 abbrev pub listed_at : Race → ℕ → Ip → Listed
 listed_at race t ip = listed_in race.settings.count (order_at race t) ip

@@ -10,27 +10,27 @@ use he_addr::{Family, Ip, Memory};
 use he_plan::{Transcript, transcript_by_order};
 use he_select::{DestinationAttributes, DestinationRule, Route};
 use he_timeline::Timeline;
-use std::alloc::{AllocError, Allocator};
+use std::alloc::Allocator;
 
-/// An address of a race, after those that are preferred to it (RFC 6724 section 6).
+/// An address of a race and its place in the order of preference (RFC 6724 section 6).
 #[derive(Clone, Copy)]
 pub struct Preferred {
-    /// What the rules look at.
+    /// The attributes that the rules compare.
     pub attributes: DestinationAttributes,
 
-    /// The first rule that puts it after the address before it; none where it is the first.
+    /// The first rule that sorts it after the address before it; none for the first address.
     pub rule: Option<DestinationRule>,
 
-    /// Whether a route of the host leads to it. Where none does, or it has no source, it can't be reached.
+    /// Whether a route of the host leads to it. An address without a route, or without a source, can't be reached.
     pub is_routed: bool,
 }
 
-/// Sorted addresses, each with the rule that puts it after the one before.
+/// Sorted addresses, each with the rule that sorts it after the one before.
 pub(crate) fn prefer<A: Allocator>(
     alloc: A,
     routes: &[Route],
     sorted: &[DestinationAttributes],
-) -> Result<Vec<Preferred, A>, AllocError>
+) -> Result<Vec<Preferred, A>, Memory>
     ensures { IfOk result (λ addresses. addresses.items ≡ preferred_after routes.now None sorted.now) }
 {
     let mut addresses = Vec::with_capacity(alloc, sorted.len())?;
@@ -59,10 +59,7 @@ pub(crate) fn transcript_with<A: Allocator + Copy, B: Allocator>(
     transcript_by_order(alloc, timeline, ips)
 }
 
-fn ips_of<A: Allocator>(
-    alloc: A,
-    sorted: &[DestinationAttributes],
-) -> Result<Vec<Ip, A>, AllocError>
+fn ips_of<A: Allocator>(alloc: A, sorted: &[DestinationAttributes]) -> Result<Vec<Ip, A>, Memory>
     ensures { IfOk result (λ ips. ips.items ≡ map (λ attributes. attributes.ip) sorted.now) }
 {
     sorted.iter().map(|attributes| attributes.ip).collect(alloc)

@@ -12,35 +12,37 @@ use he_plan::Attempt;
 use he_timeline::{Outcome, Timeline};
 use std::alloc::Allocator;
 
-/// What an attempt waited for before it started.
+/// Why an attempt starts at its tick.
 #[derive(Clone, Copy, Debug, PartialEq, Eq)]
 pub enum Cause {
     /// The AAAA answer, which has a usable address, began the race (RFC 8305 section 3).
     AaaaAnswer,
 
-    /// The A answer began the race, and the AAAA answer had come without a usable address (section 3).
+    /// The A answer began the race; the AAAA answer had come without a usable address (section 3).
     BothAnswers,
 
-    /// The A answer began the race, since the Resolution Delay after it was over without an AAAA answer (section 3).
+    /// The A answer began the race: the Resolution Delay after it ended without an AAAA answer (section 3).
     ResolutionDelay,
 
-    /// The Connection Attempt Delay after the attempt of this place was over: so many milliseconds (section 5).
+    /// The Connection Attempt Delay, of this number of milliseconds, after the attempt of this place was over
+    /// (section 5).
     AttemptDelay(usize, u64),
 
-    /// Every attempt so far had failed, and the floor after the attempt of this place was over, so many milliseconds
-    /// (own), before that delay.
+    /// Every attempt so far had failed, and the floor (own), of this number of milliseconds, after the attempt of
+    /// this place was over before that delay.
     Floor(usize, u64),
 
-    /// The last of all attempts so far failed, at this tick by itself, when the floor was over and that delay wasn't.
+    /// The last of the attempts so far failed, at this tick if there are no pauses, after the floor was over and
+    /// before that delay was.
     LastFailure(u64),
 
-    /// That delay was over before, or the floor after failures was, and the answer of this family came with an address
+    /// That delay, or the floor after failures, was over before, and the answer of this family brought the address
     /// (sections 3 and 5).
     LaterAnswer(Family),
 }
 
-/// The cause of an attempt's start, where `last` is the attempt before it, or none where it is the race's first, and
-/// `failed` the greatest [`failure_of`] of all attempts before it, if all of them fail. All are attempts of the race.
+/// The cause of an attempt's start. `last` is the attempt before it, none for the race's first. `failed` is the
+/// greatest [`failure_of`] of all attempts before it, if all of them fail. All are attempts of the race.
 pub fn cause_of<A: Allocator>(
     timeline: &Timeline<A>,
     last: Option<Attempt>,
@@ -55,8 +57,8 @@ pub fn cause_of<A: Allocator>(
     }
 }
 
-/// Whether an attempt of this cause was due before `tick`, at which it starts, so that it was held back by a pause;
-/// `last` is the attempt before it, if there is one.
+/// Whether a pause held back an attempt of this cause: it was due before `tick`, at which it starts. `last` is the
+/// attempt before it, if there is one.
 pub fn is_held<A: Allocator>(
     timeline: &Timeline<A>,
     last: Option<Attempt>,
@@ -79,7 +81,7 @@ pub fn is_held<A: Allocator>(
     }
 }
 
-/// The tick at which the attempt fails, pauses not looked at; none where it doesn't by the race's limit.
+/// The tick at which the attempt fails, if there are no pauses; none if it doesn't fail by the race's limit.
 pub fn failure_of<A: Allocator>(timeline: &Timeline<A>, attempt: Attempt) -> Option<u64>
     ensures { result ≡ failure_of timeline.now attempt }
 {
@@ -96,7 +98,7 @@ pub fn failure_of<A: Allocator>(timeline: &Timeline<A>, attempt: Attempt) -> Opt
     }
 }
 
-// The later of two ticks, where there are both.
+// The later of two ticks, if there are both.
 pub(crate) fn later_of(tick: Option<u64>, other: Option<u64>) -> Option<u64>
     ensures { result ≡ later_of tick other }
 {
@@ -124,8 +126,8 @@ fn later_cause<A: Allocator>(
     }
 }
 
-// Whether the last attempt had been waited for before the tick: the Connection Attempt Delay after it was over, or the
-// floor after failures was.
+// Whether the wait after the last attempt was over before the tick: the Connection Attempt Delay, or the floor after
+// failures.
 fn was_waited_for<A: Allocator>(
     timeline: &Timeline<A>,
     last: Attempt,
@@ -138,7 +140,8 @@ fn was_waited_for<A: Allocator>(
         || was_floor_over(timeline, last, failed, tick)
 }
 
-// Whether the floor after the last attempt, and the last failure of all so far, were both seen before the tick.
+// Whether the end of the floor after the last attempt, and the last failure of all so far, were both seen before the
+// tick.
 fn was_floor_over<A: Allocator>(
     timeline: &Timeline<A>,
     last: Attempt,
@@ -191,7 +194,7 @@ pub(crate) fn has_usable(ips: &[Ip]) -> bool
     ips.iter().any(|ip| ip.is_usable())
 }
 
-// Whether a delay after a tick is seen to be over before another tick.
+// Whether the client sees the end of the delay that begins at `from` before the tick.
 fn is_seen_before<A: Allocator>(timeline: &Timeline<A>, from: u64, delay: u64, tick: u64) -> bool
     ensures { result ≡ nat_lt (seen timeline.now (from + delay)) tick }
 {
@@ -201,7 +204,7 @@ fn is_seen_before<A: Allocator>(timeline: &Timeline<A>, from: u64, delay: u64, t
     timeline.seen(end) < tick
 }
 
-// Whether a delay after a tick is over before another tick.
+// Whether the delay that begins at `from` ends before the tick.
 fn is_before(from: u64, delay: u64, tick: u64) -> bool
     ensures { result ≡ nat_lt (from + delay) tick }
 {
@@ -211,7 +214,7 @@ fn is_before(from: u64, delay: u64, tick: u64) -> bool
     }
 }
 
-// Whether a delay after a tick is over after another tick.
+// Whether the delay that begins at `from` ends after the tick.
 fn is_after(from: u64, delay: u64, tick: u64) -> bool
     ensures { result ≡ nat_lt tick (from + delay) }
 {

@@ -21,13 +21,13 @@ use he_plan::{Attempt, Line, Mark, Outcome3, Transcript};
 use he_select::DestinationAttributes;
 use he_timeline::Timeline;
 use he_timeline::timeline::are_addresses_in_range;
-use std::alloc::{AllocError, Allocator};
+use std::alloc::Allocator;
 
 // The two answers, the wait for the AAAA answer, the Resolution Delay's end, and the race's end.
 const OTHER_EVENTS: usize = 5;
 
-/// The events of the race with this transcript, by kind, also those after its end; its all_attributes are given
-/// sorted.
+/// The events of the race with this transcript, by kind, including those after its end. `sorted` is its
+/// all_attributes.
 pub(crate) fn collect_events<A: Allocator + Copy, B: Allocator, C: Allocator>(
     alloc: A,
     timeline: &Timeline<B>,
@@ -44,7 +44,7 @@ pub(crate) fn collect_events<A: Allocator + Copy, B: Allocator, C: Allocator>(
     Ok(events)
 }
 
-// No race with these pauses and attempts has more events: each attempt starts, and fails or is cancelled.
+// An upper bound: each attempt starts, and fails or is cancelled.
 fn most_events(pauses: &[(u64, u64)], lines: &[Line]) -> usize {
     let of_attempts = lines.len().saturating_mul(2);
     pauses
@@ -64,11 +64,7 @@ pub fn end_tick(ending: Outcome3) -> u64
     }
 }
 
-fn push<A: Allocator>(
-    events: &mut Vec<Event, A>,
-    tick: u64,
-    kind: EventKind,
-) -> Result<(), AllocError>
+fn push<A: Allocator>(events: &mut Vec<Event, A>, tick: u64, kind: EventKind) -> Result<(), Memory>
     ensures { OnOk result (events.new.items ≡ events.old.items ++ event_at tick kind ∷ []) }
 {
     events.push(Event { tick, kind })?;
@@ -78,7 +74,7 @@ fn push<A: Allocator>(
 fn push_met<A: Allocator, B: Allocator>(
     events: &mut Vec<Event, A>,
     timeline: &Timeline<B>,
-) -> Result<(), AllocError>
+) -> Result<(), Memory>
     ensures { OnOk result (events.new.items ≡ events.old.items ++ met_events timeline.now) }
 {
     push_pauses(events, timeline.pauses())?;
@@ -89,7 +85,7 @@ fn push_met<A: Allocator, B: Allocator>(
 fn push_pauses<A: Allocator>(
     events: &mut Vec<Event, A>,
     pauses: &[(u64, u64)],
-) -> Result<(), AllocError>
+) -> Result<(), Memory>
     ensures { OnOk result (events.new.items ≡ events.old.items ++ pause_events pauses.now) }
 {
     for pause in pauses {
@@ -101,7 +97,7 @@ fn push_pauses<A: Allocator>(
 fn push_answers<A: Allocator, B: Allocator>(
     events: &mut Vec<Event, A>,
     timeline: &Timeline<B>,
-) -> Result<(), AllocError>
+) -> Result<(), Memory>
     ensures { OnOk result (events.new.items ≡ events.old.items ++
         (answer_events timeline.now families.V6 timeline.now.aaaa ++ answer_events timeline.now families.V4
         timeline.now.a)) }
@@ -114,7 +110,7 @@ fn push_answer<A: Allocator, B: Allocator>(
     events: &mut Vec<Event, A>,
     timeline: &Timeline<B>,
     family: Family,
-) -> Result<(), AllocError>
+) -> Result<(), Memory>
     ensures { OnOk result (events.new.items ≡ events.old.items ++ answer_events timeline.now family
         (reply_of timeline.now family)) }
 {
@@ -135,7 +131,7 @@ fn usable_count(ips: &[Ip]) -> usize
 fn push_wait<A: Allocator, B: Allocator>(
     events: &mut Vec<Event, A>,
     timeline: &Timeline<B>,
-) -> Result<(), AllocError>
+) -> Result<(), Memory>
     ensures { OnOk result (events.new.items ≡ events.old.items ++ wait_events timeline.now timeline.now.a) }
 {
     let Some((tick, ips)) = timeline.answer(Family::V4) else {
@@ -149,12 +145,12 @@ fn push_wait<A: Allocator, B: Allocator>(
     push_delay_over(events, timeline, timeline.seen(delay_end))
 }
 
-// The Resolution Delay's end, where no AAAA answer was seen by then.
+// The Resolution Delay's end, if no AAAA answer was seen by then.
 fn push_delay_over<A: Allocator, B: Allocator>(
     events: &mut Vec<Event, A>,
     timeline: &Timeline<B>,
     tick: u64,
-) -> Result<(), AllocError>
+) -> Result<(), Memory>
     ensures { OnOk result (events.new.items ≡ events.old.items ++ over_events timeline.now tick) }
 {
     if is_aaaa_seen_by(timeline, tick) {
@@ -194,12 +190,12 @@ fn push_attempts<A: Allocator + Copy, B: Allocator>(
     push_starts(alloc, events, timeline, sorted, lines)
 }
 
-// The end of the race, and what it cancelled.
+// The end of the race, and the attempts that it cancelled.
 fn push_end<A: Allocator>(
     events: &mut Vec<Event, A>,
     ending: Outcome3,
     lines: &[Line],
-) -> Result<(), AllocError>
+) -> Result<(), Memory>
     ensures { OnOk result (events.new.items ≡ events.old.items ++ (end_event ending ∷ flat_map
         (λ line. cancelled_by line.place line.mark) lines.now)) }
 {
@@ -207,7 +203,7 @@ fn push_end<A: Allocator>(
     push_cancelled(events, lines)
 }
 
-fn push_ending<A: Allocator>(events: &mut Vec<Event, A>, ending: Outcome3) -> Result<(), AllocError>
+fn push_ending<A: Allocator>(events: &mut Vec<Event, A>, ending: Outcome3) -> Result<(), Memory>
     ensures { OnOk result (events.new.items ≡ events.old.items ++ end_event ending ∷ []) }
 {
     match ending {
@@ -217,7 +213,7 @@ fn push_ending<A: Allocator>(events: &mut Vec<Event, A>, ending: Outcome3) -> Re
     }
 }
 
-fn push_failures<A: Allocator>(events: &mut Vec<Event, A>, lines: &[Line]) -> Result<(), AllocError>
+fn push_failures<A: Allocator>(events: &mut Vec<Event, A>, lines: &[Line]) -> Result<(), Memory>
     ensures { OnOk result (events.new.items ≡ events.old.items ++ flat_map
         (λ line. failed_by line.place line.mark) lines.now) }
 {
@@ -230,10 +226,7 @@ fn push_failures<A: Allocator>(events: &mut Vec<Event, A>, lines: &[Line]) -> Re
     Ok(())
 }
 
-fn push_cancelled<A: Allocator>(
-    events: &mut Vec<Event, A>,
-    lines: &[Line],
-) -> Result<(), AllocError>
+fn push_cancelled<A: Allocator>(events: &mut Vec<Event, A>, lines: &[Line]) -> Result<(), Memory>
     ensures { OnOk result (events.new.items ≡ events.old.items ++ flat_map
         (λ line. cancelled_by line.place line.mark) lines.now) }
 {
@@ -272,7 +265,7 @@ fn push_starts<A: Allocator + Copy, B: Allocator>(
     for line in lines {
         let next = attempt(line);
         bring_to(alloc, timeline, sorted, next.tick, &mut list)?;
-        // Mostly the address after the last one is tried.
+        // Mostly the address after the last tried one is tried.
         let listed = listed_at(timeline, &list, place, next);
         let start = start_of(timeline, listed, last, failed, next);
         push(events, next.tick, start)?;
@@ -283,7 +276,7 @@ fn push_starts<A: Allocator + Copy, B: Allocator>(
     Ok(())
 }
 
-// Where the address of an attempt stands in this list, from which it is taken. It is looked for at `first`.
+// The place of an attempt's address in the list from which it is taken. The search begins at `first`.
 fn listed_at<A: Allocator, B: Allocator>(
     timeline: &Timeline<A>,
     list: &Interlaced<B>,
@@ -299,8 +292,8 @@ fn listed_at<A: Allocator, B: Allocator>(
     listed_in(&list.ips, first, timeline.settings().count(), next.ip)
 }
 
-// The start of an attempt, whose address stands there in the list from which it is taken; `failed` is the last failure
-// of those before it, if all of them fail.
+// The start of an attempt whose address is at this place in its list. `failed` is the last failure of the attempts
+// before it, if all of them fail.
 fn start_of<A: Allocator>(
     timeline: &Timeline<A>,
     listed: Listed,

@@ -1,4 +1,4 @@
-// The course of a race: all that is told of it, made once.
+// The course of a race: all that is reported of it, made once.
 
 ghost use Rattle.std.specs.Prelude.{◌≡◌, ◌++◌, [], count_by, filter, map, IfOk, OnOk};
 ghost use Rattle.he_addr.specs.Ip.{is_usable};
@@ -16,54 +16,54 @@ use he_addr::{Family, Memory};
 use he_plan::{Line, Transcript, sorted_attributes};
 use he_select::DestinationAttributes;
 use he_timeline::Timeline;
-use std::alloc::{AllocError, Allocator};
+use std::alloc::Allocator;
 
 /// An answer, as the client sees it.
 #[derive(Clone, Copy, Debug, PartialEq, Eq)]
 pub struct Seen {
-    /// The tick at which it is seen, which may lie after the race's end.
+    /// The tick at which it is seen; may be after the race's end.
     pub tick: u64,
 
-    /// How many of its addresses are usable.
+    /// The number of its usable addresses.
     pub usable: usize,
 }
 
-/// A race with all that is reported of it. Stories, pictures and JSON texts are made of this value alone.
+/// A race with all that is reported of it. Stories, pictures and JSON texts read this value alone.
 #[derive(Drop)]
 pub struct Course<A: Allocator> {
     /// The number of the race in its input, counted from 1.
     pub number: usize,
 
-    /// The line at which it begins.
+    /// The line of the input at which it begins.
     pub line: u64,
 
-    /// The answers, where they come.
+    /// The answers that come.
     pub aaaa: Option<Seen>,
     pub a: Option<Seen>,
 
-    /// The usable addresses of both answers, the preferred one first, and not interlaced.
+    /// The usable addresses of both answers, the preferred one first, not interlaced.
     pub addresses: Vec<Preferred, A>,
 
-    /// The attempts, each with what became of it, and the result.
+    /// The attempts, each with its outcome, and the result.
     pub transcript: Transcript<A>,
 
     /// How the race ended.
     pub ended: Ended,
 
-    /// How it would have ended with the least floor, where it has none and that is sooner.
+    /// How it would have ended with the least floor, if it has no floor and that is sooner.
     pub sooner: Option<Ended>,
 
-    /// What happens up to the race's end, by tick.
+    /// The events up to the race's end, by tick.
     pub events: Vec<Event, A>,
 }
 
 impl<A: Allocator + Copy> Course<A> {
-    /// The course of a race that has this number in its input, counted from 1, and begins at this line of it. Its
-    /// addresses are sorted once, and it has one transcript.
+    /// The course of the race that has this number in its input, counted from 1, and begins at this line of it. Sorts
+    /// the addresses once, and makes one transcript.
     ///
     /// # Errors
     ///
-    /// `Memory` where an allocation was refused.
+    /// `Memory` if an allocation was refused.
     #[tactic(auto, unfolding(crate::specs::Addresses::all_attributes_of))]
     pub fn of<B: Allocator>(
         alloc: A,
@@ -100,7 +100,7 @@ impl<A: Allocator> Course<A> {
         end_tick(self.transcript.result())
     }
 
-    /// The answer of a family, where it comes.
+    /// The answer of a family, if it comes.
     pub fn answer(&self, family: Family) -> Option<Seen>
         ensures { result ≡ answer_of self.now family }
     {
@@ -110,8 +110,9 @@ impl<A: Allocator> Course<A> {
         }
     }
 
-    /// What a race lost that was won, in milliseconds: the time from when the winner's answer was seen to the start of
-    /// its attempt. Pauses and the wait for the AAAA answer are part of it, and attempts at other addresses.
+    /// The milliseconds that a won race lost: from when the winner's answer was seen to the start of the winner's
+    /// attempt. They include pauses, the wait for the AAAA answer, and attempts at other addresses. None if the race
+    /// was not won.
     pub fn lost(&self) -> Option<u64>
         ensures { result ≡ lost self.now }
     {
@@ -120,7 +121,7 @@ impl<A: Allocator> Course<A> {
         Some(line.tick.saturating_sub(seen.tick))
     }
 
-    /// The attempts before the winner's, by place: each had failed, or ran, when the winner's started.
+    /// The attempts before the winner's, by place. Each had failed or was running when the winner's started.
     pub fn before_winner(&self) -> &[Line]
         ensures { result.now ≡ before_winner self.now }
     {
@@ -146,7 +147,7 @@ fn seen_of<A: Allocator>(timeline: &Timeline<A>, family: Family) -> Option<Seen>
     }
 }
 
-// The events up to the race's end by tick, those of one tick in the order of their kinds.
+// The events up to the race's end by tick, and by kind within a tick.
 fn events_in<A: Allocator + Copy, B: Allocator, C: Allocator>(
     alloc: A,
     timeline: &Timeline<B>,
@@ -169,7 +170,7 @@ fn keep_until<A: Allocator>(events: &mut Vec<Event, A>, end: u64)
     events.retain(|event| comes_by(event, end));
 }
 
-// Whether the event comes by the race's end, and a pause before it.
+// Whether the event comes by the race's end; a pause must begin before it.
 fn comes_by(event: &Event, end: u64) -> bool
     ensures { result ≡ comes_by end event.now.tick event.now.kind }
 {
@@ -179,7 +180,7 @@ fn comes_by(event: &Event, end: u64) -> bool
     }
 }
 
-fn sort_by_tick<A: Allocator>(events: &mut Vec<Event, A>) -> Result<(), AllocError>
+fn sort_by_tick<A: Allocator>(events: &mut Vec<Event, A>) -> Result<(), Memory>
     ensures { OnOk result (events.new.items ≡ put_events [] events.old.items) }
 {
     events.sort_by_key(|event| event.tick)

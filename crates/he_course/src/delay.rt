@@ -1,4 +1,4 @@
-// Whether a race's Resolution Delay was waited out.
+// Whether a race's Resolution Delay ended without an AAAA answer.
 
 ghost use Rattle.std.specs.Prelude.{◌≡◌, ◌&&◌, Some};
 ghost use Rattle.std.specs.List.{list_any};
@@ -12,8 +12,8 @@ use he_plan::Transcript;
 use he_timeline::Timeline;
 use std::alloc::Allocator;
 
-/// Whether the client saw, by the end of the race with this transcript, that the Resolution Delay had ended without an
-/// AAAA answer (RFC 8305 section 3): whether the race's course has that event.
+/// Whether the client saw, by the end of the race with this transcript, that the Resolution Delay had ended without
+/// an AAAA answer (RFC 8305 section 3); the race's course then has that event.
 pub fn is_delay_over<A: Allocator, B: Allocator>(
     timeline: &Timeline<A>,
     transcript: &Transcript<B>,
@@ -37,7 +37,7 @@ fn is_over_by<A: Allocator>(timeline: &Timeline<A>, end: u64) -> bool
     !is_aaaa_seen_by(timeline, over) && over <= end
 }
 
-/// Whether the client waits for the AAAA answer where the A answer, at this tick, has these addresses.
+/// Whether the client waits for the AAAA answer after an A answer with these addresses at this tick.
 pub(crate) fn is_waiting<A: Allocator>(timeline: &Timeline<A>, tick: u64, ips: &[Ip]) -> bool
     requires { timeline.now.a ≡ Some (record { tick = tick; addresses = ips.now }) }
     ensures { result ≡ is_waiting timeline.now (record { tick = tick; addresses = ips.now }) }

@@ -1,4 +1,4 @@
-// What happens in a race, each event with its tick.
+// The events of a race, each with its tick.
 
 use crate::cause::Cause;
 use crate::listing::Listed;
@@ -10,26 +10,26 @@ pub struct Start {
     pub place: usize,
     pub ip: Ip,
 
-    /// What the attempt waited for.
+    /// Why the attempt starts.
     pub cause: Cause,
 
-    /// Whether it was due before it started, and so held back by a pause.
+    /// Whether a pause held it back: it was due before it started.
     pub held: bool,
 
-    /// Where its address stands in the list from which it is taken.
+    /// The place of its address in the list from which it is taken.
     pub listed: Listed,
 }
 
-/// What happens at a tick of a race.
+/// The kind of an event.
 #[derive(Clone, Copy, Debug, PartialEq, Eq)]
 pub enum EventKind {
     /// The client begins to sleep, up to this tick.
     Paused(u64),
 
-    /// The answer of this family is seen, with so many usable addresses.
+    /// The answer of this family is seen, with this number of usable addresses.
     Answered(Family, usize),
 
-    /// The client waits for the AAAA answer, up to this tick, at which the Resolution Delay ends.
+    /// The client waits for the AAAA answer up to this tick, the end of the Resolution Delay.
     Waits(u64),
 
     /// The client sees that the Resolution Delay has ended without an AAAA answer.
@@ -41,20 +41,20 @@ pub enum EventKind {
     /// An attempt starts.
     Started(Start),
 
-    /// The attempt of this place won, and the race is over.
+    /// The attempt of this place won; the race is over.
     Won(usize),
 
-    /// Every attempt failed, and the race is over.
+    /// Every attempt failed; the race is over.
     Exhausted,
 
-    /// The race is given up.
+    /// The race reached its limit.
     Limit,
 
-    /// The attempt of this place is cancelled, since the race is over.
+    /// The attempt of this place is cancelled because the race is over.
     Cancelled(usize),
 }
 
-/// What happens in a race, and when.
+/// An event of a race.
 #[derive(Clone, Copy, Debug, PartialEq, Eq)]
 pub struct Event {
     pub tick: u64,

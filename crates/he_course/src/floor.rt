@@ -1,4 +1,4 @@
-// How a race ends, and what a floor would have changed.
+// How a race ends, and how it would have ended with a floor.
 
 ghost use Rattle.std.specs.Prelude.{◌≡◌, None, Some, IfOk, IsTrue};
 ghost use Rattle.he_timeline.specs.declared.limits.TheConstants.{MIN_FLOOR};
@@ -21,10 +21,10 @@ use std::alloc::Allocator;
 pub struct Ended {
     pub result: Outcome3,
 
-    /// The attempt that won, if one did.
+    /// The attempt that won, if any.
     pub winner: Option<Line>,
 
-    /// How many attempts were made.
+    /// The number of attempts.
     pub attempts: usize,
 }
 
@@ -51,7 +51,7 @@ fn winner_of(lines: &[Line], ending: Outcome3) -> Option<Line>
     }
 }
 
-/// How the race ends with the least floor, where it has none and that is sooner.
+/// How the race ends with the least floor, if it has no floor and that is sooner.
 pub(crate) fn end_with_floor<A: Allocator + Copy, B: Allocator, C: Allocator>(
     alloc: A,
     timeline: &Timeline<B>,
@@ -101,8 +101,8 @@ fn is_failure(outcome: Option<Outcome>) -> bool
     matches!(outcome, Some(Outcome::Fail(_)))
 }
 
-// Whether the transcript is surely that of the race with a floor too: a floor starts an attempt only where all before
-// it have failed, and the first one never does.
+// Whether the transcript is certainly that of the race with a floor too: a floor starts an attempt only if all before
+// it have failed, and the first one never fails.
 fn is_floored<A: Allocator, B: Allocator>(
     timeline: &Timeline<A>,
     transcript: &Transcript<B>,
@@ -113,7 +113,7 @@ fn is_floored<A: Allocator, B: Allocator>(
     begins_unfailing(timeline, transcript.attempts())
 }
 
-// The transcript of the race with the least floor, whose addresses are in the same order.
+// The transcript of the race with the least floor; its addresses have the same order.
 #[tactic(auto, unfolding(crate::specs::Addresses::all_attributes_of))]
 fn floored_transcript<A: Allocator + Copy, B: Allocator>(
     alloc: A,

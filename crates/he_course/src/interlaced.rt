@@ -1,4 +1,4 @@
-// The list from which attempts take their addresses: all that is received, by preference and interlaced (RFC 8305
+// The list from which attempts take their addresses: all received addresses by preference, interlaced (RFC 8305
 // section 4).
 
 ghost use Rattle.std.specs.Prelude.{◌≡◌, false, filter, map, [], IfOk, OnOk};
@@ -12,9 +12,9 @@ use he_plan::interlace;
 use he_select::DestinationAttributes;
 use he_timeline::timeline::are_addresses_in_range;
 use he_timeline::{Timeline, put};
-use std::alloc::{AllocError, Allocator};
+use std::alloc::Allocator;
 
-// The interlaced list of what is received, and which answers it is made of.
+// The interlaced list of the received addresses, and which answers it includes.
 #[derive(Drop)]
 pub(crate) struct Interlaced<A: Allocator> {
     pub(crate) v6: bool,
@@ -37,8 +37,8 @@ impl<A: Allocator + Copy> Interlaced<A> {
     }
 }
 
-// Brings the list to what is received at the tick. It is made anew only where the answers that are seen by then are
-// not those that it is made of, so at most twice in a race; its addresses stand in the order of all usable ones.
+// Updates the list to the addresses received by the tick, in the order of all usable ones. It is made anew only if
+// the answers seen by then are not those that it includes: at most twice in a race.
 pub(crate) fn bring_to<A: Allocator + Copy, B: Allocator>(
     alloc: A,
     timeline: &Timeline<B>,
@@ -70,7 +70,7 @@ fn is_received<A: Allocator>(timeline: &Timeline<A>, family: Family, tick: u64) 
     }
 }
 
-// The interlaced list of the included answers: the order of some addresses is the order of all without the others.
+// The interlaced list of the included answers. Leaving out an answer doesn't change the order of the other addresses.
 fn interlaced_list<A: Allocator + Copy, B: Allocator>(
     alloc: A,
     timeline: &Timeline<B>,
@@ -86,13 +86,13 @@ fn interlaced_list<A: Allocator + Copy, B: Allocator>(
     interlace(alloc, &ips, timeline.settings().count())
 }
 
-// Of the sorted addresses those of the included answers.
+// The sorted addresses of the included answers.
 fn included<A: Allocator>(
     alloc: A,
     sorted: &[DestinationAttributes],
     v6: bool,
     v4: bool,
-) -> Result<Vec<Ip, A>, AllocError>
+) -> Result<Vec<Ip, A>, Memory>
     ensures { IfOk result (λ ips. ips.items ≡ filter (is_of_included v6 v4) (map
         (λ attributes. attributes.ip) sorted.now)) }
 {

@@ -1,22 +1,22 @@
-// Laws of the definitions. Each is the contract of a function that does nothing.
+// Laws of the definitions. Each is the contract of an empty function.
 
 ghost use Rattle.he_course.specs.Laws.{CausesStand, CourseStands, DuesStand, FloorsStand, LinesStand, OneRuleDecides, PlacesStand, StartsStand, WaitsStand};
 
-/// Between two members of a list just one rule decides, and that is the one which is named of their addresses.
+/// Exactly one rule decides between two members of a list: the rule that is reported of their addresses.
 pub fn one_rule_decides()
     ensures { OneRuleDecides }
 {}
 
-/// The cause of an attempt is what came at its tick, and not before; where it came is seen at the attempt's tick. It
-/// is that all so far have failed exactly where the floor starts the attempt, before the Connection Attempt Delay is
-/// over.
+/// The cause of an attempt holds at the attempt's tick and at no earlier one; the tick at which it was due is seen at
+/// the attempt's tick. The cause is that all attempts so far have failed exactly if the floor starts the attempt,
+/// before the Connection Attempt Delay is over.
 pub fn causes_stand()
     ensures causes { CausesStand }
     ensures dues { DuesStand }
     ensures floors { FloorsStand }
 {}
 
-/// An attempt's address stands at the place that is reported of it, and all before it in that list were tried.
+/// An attempt's address is at the place that is reported of it, and all addresses before it in that list were tried.
 pub fn places_stand()
     ensures { PlacesStand }
 {}
@@ -31,13 +31,13 @@ pub fn starts_stand()
     ensures { StartsStand }
 {}
 
-/// Each attempt of a transcript has just one start among the events of a course, at its tick and to its address, and
-/// just one end, as its mark says.
+/// Each attempt of a transcript has exactly one start among the events of a course, at its tick and to its address,
+/// and exactly one end, which its mark gives.
 pub fn lines_stand()
     ensures { LinesStand }
 {}
 
-/// A wait for the AAAA answer stands in a course just where it made the first attempt start later.
+/// A course has a wait for the AAAA answer exactly if the wait made the first attempt start later.
 pub fn waits_stand()
     ensures { WaitsStand }
 {}

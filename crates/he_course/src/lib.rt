@@ -1,17 +1,17 @@
 //! The course of a race: all that is reported of it, made once.
 //!
 //! [`Course::of`] makes a [`Course`] of a timeline. It has the race's number and line, its answers as the client sees
-//! them, its addresses in order of preference, each with the rule that puts it after the one before (RFC 6724 section
-//! 6, RFC 8305 section 4), its transcript, how it ended and how it would have ended with the least floor, and its
-//! [`Event`]s by tick (RFC 8305 sections 3 to 5): the answers, the wait for the AAAA answer, each attempt with its
-//! [`Cause`] and the place of its address in the interlaced list, failures, pauses, and the end. Stories, pictures and
-//! JSON texts are made of this value alone; summaries, which count many races, read transcripts.
+//! them, its addresses in order of preference, each with the rule that sorts it after the one before (RFC 6724
+//! section 6, RFC 8305 section 4), its transcript, how it ended and how it would have ended with the least floor, and
+//! its [`Event`]s by tick (RFC 8305 sections 3 to 5): the answers, the wait for the AAAA answer, each attempt with
+//! its [`Cause`] and the place of its address in the interlaced list, failures, pauses, and the end. Stories,
+//! pictures and JSON texts read this value alone; summaries, which count many races, read transcripts.
 //!
-//! Proved, for every race: the value is that of `specs/Course`, by the race's one transcript. [`laws`] has what
-//! follows: each attempt of the transcript has just one start and one end among the events; the cause of an attempt
-//! (`specs/Causes`) is what came at its tick and not before; its address is the first untried one of the interlaced
-//! list (`specs/Listing`); a wait stands just where it moved the first start; the events are all those up to the end
-//! (`specs/Events`), by tick; and exactly one rule decides between two addresses.
+//! Proved, for every race: the value is that of `specs/Course`, by the race's one transcript. [`laws`] has the
+//! consequences: each attempt of the transcript has exactly one start and one end among the events; the cause of an
+//! attempt (`specs/Causes`) comes at its tick and not before; its address is the first untried one of the interlaced
+//! list (`specs/Listing`); there is a wait exactly if it delayed the first start; the events are all those up to the
+//! end (`specs/Events`), by tick; and exactly one rule decides between two addresses.
 #![tactic(auto)]
 
 pub mod addresses;

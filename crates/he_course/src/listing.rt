@@ -1,4 +1,4 @@
-// Where an attempt's address stands in the interlaced list from which it is taken (RFC 8305 section 4).
+// The place of an attempt's address in the interlaced list from which it is taken (RFC 8305 section 4).
 
 ghost use Rattle.std.specs.Prelude.{◌≡◌, ◌≤◌};
 ghost use Rattle.std.specs.List.{count_by};
@@ -7,13 +7,13 @@ ghost use Rattle.he_course.specs.Listing.{is_v6_at, listed_in, place_in, turn_at
 
 use he_addr::Ip;
 
-/// Whose turn it is at a place of the interlaced list.
+/// Why a place of the interlaced list has an address of its family.
 #[derive(Clone, Copy, Debug, PartialEq, Eq)]
 pub enum Turn {
-    /// The family of the first address leads, with as many addresses as the First Address Family Count says.
+    /// The family of the first address leads, with First Address Family Count addresses.
     Leads,
 
-    /// The families alternate, and the address before is of the other family.
+    /// The families alternate; the address before is of the other family.
     InTurn,
 
     /// The other family has no more addresses.
@@ -26,14 +26,14 @@ pub struct Listed {
     /// Counted from 0.
     pub place: usize,
 
-    /// How many addresses the list has.
+    /// The number of addresses in the list.
     pub count: usize,
 
     pub turn: Turn,
 }
 
-// The place of an address in the list from which it is taken, in which it stands once at most. It is looked for at
-// `first`, and only then in the whole list.
+// The place of an address in the list from which it is taken, which has it at most once. The search tries `first`,
+// then the whole list.
 pub(crate) fn listed_in(ips: &[Ip], first: usize, count: u64, ip: Ip) -> Listed
     requires { count_by (same_ip ip) ips.now ≤ 1 }
     ensures { result ≡ listed_in count ips.now ip }

@@ -22,7 +22,7 @@ pub record IsHeader (message : List ℕ) (id flags questions answers : ℕ) : Ty
   pub questions_word : IsWordAt message 4 questions
   pub answers_word : IsWordAt message 6 answers
 
--- the question behind the header asks for the family's addresses of this name; it ends here
+-- the question after the header asks for the family's addresses of this name; it ends here
 pub record Asks (message : List ℕ) (name : List ℕ) (family : Family) (end : ℕ) : Type 0 where
   pub asked : List ℕ
   pub after : ℕ
@@ -32,14 +32,14 @@ pub record Asks (message : List ℕ) (name : List ℕ) (family : Family) (end : 
   pub class : IsWordAt message (after + 2) class_in
   pub ends : end ≡ after + 4
 
--- A response to our query: the same id, QR 1 and OPCODE 0 (a standard query), and one question, which is ours. With
--- its flags, the number of its answer records, and where they begin.
+-- a response to our query: it has the same id, QR 1 and OPCODE 0 (a standard query), and one question, which is ours.
+-- With its flags, the number of its answer records, and their start
 pub record Responds (message : List ℕ) (id : ℕ) (name : List ℕ) (family : Family) (flags answers at : ℕ) : Type 0 where
   pub header : IsHeader message id flags 1 answers
   pub standard : qr_and_opcode_of flags ≡ 16
   pub question : Asks message name family at
 
--- the bits that say whether the server is an authority for the name (AA), and whether it asks other servers (RA)
+-- the bits for an authority for the name (AA), and for a recursive server (RA)
 abbrev pub aa_of : ℕ → ℕ
 aa_of flags = flags / 2 ^ 10 % 2
 
@@ -49,7 +49,7 @@ ra_of flags = flags / 2 ^ 7 % 2
 abbrev pub is_lame_by : ℕ → Bool
 is_lame_by flags = aa_of flags == 0 && ra_of flags == 0
 
--- the server that sent the message neither is an authority nor asks others
+-- the server that sent the message is neither an authority nor recursive
 pub record IsLame (message : List ℕ) : Type 0 where
   pub id : ℕ
   pub flags : ℕ

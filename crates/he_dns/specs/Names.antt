@@ -1,5 +1,5 @@
 -- Names of a message, with compression (RFC 1035 section 4.1.4). A name is the list of its octets without the last
--- one, which is the root's empty label: each label behind the octet that tells its length.
+-- one, which is the root's empty label: each label comes after an octet with its length.
 use Rattle.std.specs.Prelude.{◌≡◌, ℕ, ◌+◌, ◌*◌, ◌<◌, ◌≤◌, Bool, List, [], ◌∷◌, ◌++◌, length, slice_index, take, drop, map}
 use Rattle.std.specs.Char.{to_ascii_lowercase}
 use Rattle.std.specs.Str.{bytes_eq}
@@ -7,8 +7,8 @@ use Rattle.he_dns.specs.declared.parts.NamePart.{NamePart}
 use Rattle.he_dns.specs.declared.parts.NamePart.TheVariants.{Root, Label, Pointer}
 use Rattle.he_dns.specs.Numbers.{max_label, max_name, max_parts}
 
--- What stands at a place of a name: the octet 0; a label of n octets behind the octet n; or two octets whose highest
--- two bits are ones, and whose other bits are the place where the name goes on.
+-- the part of a name at a place: the octet 0; a label of n octets after the octet n; or two octets whose highest two
+-- bits are ones, and whose other bits are the place where the name continues
 abbrev pub IsPartAt : List ℕ → ℕ → NamePart → Type 0
 IsPartAt message at Root = (at < length message) × (slice_index message at ≡ 0)
 IsPartAt message at (Label n) = (1 ≤ n) × (n ≤ max_label) × (at + n < length message) × (slice_index message at ≡ n)
@@ -16,8 +16,8 @@ IsPartAt message at (Pointer to) =
     (at + 1 < length message) × (192 ≤ slice_index message at)
     × (49152 + to ≡ slice_index message at * 256 + slice_index message (at + 1))
 
--- The parts of a name from a place on, up to the root. A label is followed by what stands behind it, a pointer by what
--- stands where it leads to: at an earlier place than `begin`, where the labels before it began.
+-- the parts of a name from a place on, up to the root. A label is followed by the part after it, a pointer by the
+-- part at its target: a place before `begin`, where the preceding labels began
 abbrev pub AreParts : List ℕ → ℕ → ℕ → List NamePart → Type 0
 AreParts message begin at [] = ⊥
 AreParts message begin at (Root ∷ more) = IsPartAt message at Root × (more ≡ [])
@@ -25,21 +25,21 @@ AreParts message begin at (Label n ∷ more) = IsPartAt message at (Label n) × 
 AreParts message begin at (Pointer to ∷ more) =
     IsPartAt message at (Pointer to) × (to < begin) × AreParts message to to more
 
--- the labels among the parts, each behind its length
+-- the labels among the parts, each after its length
 abbrev pub octets_of : List ℕ → ℕ → List NamePart → List ℕ
 octets_of message at [] = []
 octets_of message at (Root ∷ more) = []
 octets_of message at (Label n ∷ more) = take (1 + n) (drop at message) ++ octets_of message (at + (1 + n)) more
 octets_of message at (Pointer to ∷ more) = octets_of message to more
 
--- where the name ends that begins at a place: behind the root, or behind the first pointer
+-- the end of the name that begins at a place: after the root, or after the first pointer
 abbrev pub end_of : ℕ → List NamePart → ℕ
 end_of at [] = at
 end_of at (Root ∷ more) = at + 1
 end_of at (Label n ∷ more) = end_of (at + (1 + n)) more
 end_of at (Pointer to ∷ more) = at + 2
 
--- the name that stands at a place, and where it ends there
+-- the name at a place, and its end there
 pub record IsNameAt (message : List ℕ) (at : ℕ) (name : List ℕ) (end : ℕ) : Type 0 where
   pub parts : List NamePart
   pub stand : AreParts message at at parts
@@ -48,7 +48,7 @@ pub record IsNameAt (message : List ℕ) (at : ℕ) (name : List ℕ) (end : ℕ
   pub short : length name ≤ max_name
   pub ends : end ≡ end_of at parts
 
--- Whether two names are the same: without regard to the case of ASCII letters (RFC 1035 section 2.3.3, RFC 4343). An
--- octet that tells a length is at most 63, and so no letter.
+-- whether two names are equal without regard to the case of ASCII letters (RFC 1035 section 2.3.3, RFC 4343). An
+-- octet with a length is at most 63, and so no letter
 abbrev pub is_same : List ℕ → List ℕ → Bool
 is_same name other = bytes_eq (map to_ascii_lowercase name) (map to_ascii_lowercase other)

@@ -1,6 +1,5 @@
--- Mirrors the code: what the readers answer, as functions on lists. What stands in a message is said in `Names`,
--- `Header`,
--- `Records`, `Chains` and `Answers`.
+-- Mirrors the code: the results of the readers, as functions on lists. `Names`, `Header`, `Records`, `Chains` and
+-- `Answers` define the parts of a message.
 use Rattle.std.specs.Prelude.{◌≡◌, ℕ, zero, suc, ◌+◌, ◌-◌, ◌*◌, ◌<◌, ◌/◌, ◌==◌, ◌&&◌, Bool, List, [], ◌∷◌, ◌++◌, Option, Some, None, Result, Ok, Err, length, min, slice_index, slice_range, take, drop, nat_lt, nat_le, false, is_none, not, if◌then◌else◌}
 use Rattle.std.specs.Int.{w32, w128, from_be_bytes}
 use Rattle.std.specs.Option.{option_and_then, option_map, option_map_or, option_or, unwrap_or}
@@ -30,7 +29,7 @@ infixl 10 ◌>>=◌
 abbrev pub ◌>>=◌ : {A B : Type 0} → Option A → (A → Option B) → Option B
 o >>= f = option_and_then f o
 
--- why a label is none, and the first of some that is
+-- the fault of a label, and the first fault of some labels
 abbrev pub label_fault : List ℕ → Option NameFault
 label_fault label =
     if length label == 0 then Some names.EmptyLabel else if nat_lt 63 (length label) then Some names.LongLabel
@@ -54,7 +53,7 @@ unfoldable pub ttl_at : List ℕ → ℕ → Option ℕ
 ttl_at message at = word_at message at >>= λ high. word_at message (at + 2) >>= λ low.
     Some (counted_ttl (high * 65536 + low))
 
--- what stands at a place of a name
+-- the part of a name at a place
 unfoldable pub label_at : List ℕ → ℕ → ℕ → Option NamePart
 label_at message at len = if nat_lt (at + len) (length message) then Some (Label len) else None
 
@@ -65,20 +64,21 @@ part_at message at = octet_at message at >>= λ first.
     else if nat_lt first 192 then None
     else octet_at message (at + 1) >>= λ second. Some (Pointer ((first - 192) * 256 + second))
 
--- the part lies within a message of this length
+-- the part is inside a message of this length
 abbrev pub IsWithin : ℕ → ℕ → NamePart → Type 0
 IsWithin len at Root = at < len
 IsWithin len at (Label n) = at + n < len
 IsWithin len at (Pointer to) = at + 1 < len
 
--- what comes of each part
+-- a value for each kind of part
 abbrev pub by_part : {A : Type 0} → Option NamePart → A → A → (ℕ → A) → (ℕ → A) → A
 by_part None none root label pointer = none
 by_part (Some Root) none root label pointer = root
 by_part (Some (Label len)) none root label pointer = label len
 by_part (Some (Pointer to)) none root label pointer = pointer to
 
--- the name whose octets up to this place are read, with so many parts left; its end is known behind the first pointer
+-- the name with these octets read up to this place, and `left` parts yet to read; the end is known after the first
+-- pointer
 unfoldable pub name_from : ℕ → List ℕ → ℕ → ℕ → Option ℕ → List ℕ → Option (List ℕ × ℕ)
 name_from zero message begin place end octets = None
 name_from (suc left) message begin place end octets = by_part (part_at message place) None
@@ -90,7 +90,7 @@ name_from (suc left) message begin place end octets = by_part (part_at message p
 unfoldable pub name_at : List ℕ → ℕ → Option (List ℕ × ℕ)
 name_at message at = name_from 255 message at at None []
 
--- the header, and the place behind the question, of a response to this query
+-- the header, and the place after the question, of a response to this query
 unfoldable pub header_at : List ℕ → Option Header
 header_at message = if nat_lt (length message) 12 then None
     else word_at message 0 >>= λ id. word_at message 2 >>= λ flags. word_at message 4 >>=
@@ -132,13 +132,13 @@ record_at message at =
       size = size;
     })
 
--- where the last of so many records ends
+-- the end of `count` records
 unfoldable pub behind_records : ℕ → List ℕ → ℕ → Option ℕ
 behind_records zero message at = Some at
 behind_records (suc count) message at =
     record_at message at >>= λ r. behind_records count message (r.place + r.size)
 
--- the upper bits of a code, after one more record, and after so many
+-- the upper bits of a code, after one more record, and after several
 abbrev pub extended : Option ℕ → Record → Option (Option ℕ)
 extended found r =
     if r.kind == type_opt
@@ -176,7 +176,7 @@ unfoldable pub refusal_in : List ℕ → ℕ → Option ℕ
 refusal_in message id = header_at message >>= λ header.
     if responds_bare header id then option_and_then failure_by (code_in message header.flags header.answers 12) else None
 
--- what a record says
+-- the content of a record
 unfoldable pub alias_at : List ℕ → ℕ → ℕ → Option Content
 alias_at message place size =
     name_at message place >>= λ target. if target.1 == place + size then Some (Alias target.0) else None
@@ -197,20 +197,20 @@ unfoldable pub entry_at : List ℕ → Family → ℕ → Option (Entry × ℕ)
 entry_at message family at = record_at message at >>= λ r. content_of message family r >>= λ content.
     Some (record { owner = r.owner; ttl = r.ttl; content = content }, r.place + r.size)
 
--- what so many records say from a place on
+-- the contents of `count` records from a place on
 unfoldable pub entries_from : ℕ → List ℕ → Family → ℕ → Option (List Entry)
 entries_from zero message family at = Some []
 entries_from (suc count) message family at =
     entry_at message family at >>=
     λ first. option_map (λ more. first.0 ∷ more) (entries_from count message family first.1)
 
--- the name at the end of the chain, where so many names may be looked up
+-- the name at the end of the chain, if at most this number of names are looked up
 unfoldable pub chain_end : ℕ → List Entry → List ℕ → Result (List ℕ) AnswerFault
 chain_end zero entries name = Err faults.ChainTooLong
 chain_end (suc left) entries name =
     option_map_or (λ target. chain_end left entries target) (alias_of entries name) (Ok name)
 
--- the lesser of two TTLs, where there are two
+-- the lesser of two TTLs, or the only one
 abbrev pub lesser : Option ℕ → Option ℕ → Option ℕ
 lesser None other = other
 lesser (Some ttl) None = Some ttl
@@ -262,7 +262,7 @@ answer_of message id name family = option_map_or
     (section_addresses message response.0 response.1 name family))
     (response_in message id name family) (Err faults.NotOurs)
 
--- what a fault of the reading of an answer section tells of it
+-- the meaning of a fault in reading an answer section
 abbrev pub Refuses : Option (List Entry) → AnswerFault → Type 0
 Refuses expected faults.Malformed = expected ≡ None
 Refuses expected fault = fault ≡ faults.Memory

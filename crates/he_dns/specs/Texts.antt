@@ -1,18 +1,18 @@
--- Host names as texts (RFC 1035 section 2.3.1): labels parted by dots.
+-- Host names as texts (RFC 1035 section 2.3.1): labels separated by dots.
 use Rattle.std.specs.Prelude.{◌≡◌, ℕ, ◌-◌, ◌<◌, ◌≤◌, ◌==◌, ◌&&◌, Bool, List, [], ◌∷◌, ◌++◌, length, nat_lt, slice_index, take, if◌then◌else◌}
 use Rattle.std.specs.List.{AllByRecursion, count_by, slice_split}
 use Rattle.he_dns.specs.declared.fault.NameFault.{NameFault}
 use Rattle.he_dns.specs.declared.fault.NameFault.TheVariants as faults
 use Rattle.he_dns.specs.Numbers.{max_label, max_name}
 
--- what contracts see of a host name: its octets without the root's empty label, and of its text how many dots it has
--- and whether the last byte is one
+-- a host name in contracts: its octets without the root's empty label, the number of dots of its text, and whether
+-- the last byte is one
 pub record HostName : Type 0 where
   pub octets : List ℕ
   pub dots : ℕ
   pub is_absolute : Bool
 
--- each label behind its length
+-- each label after its length
 abbrev pub labels_octets : List (List ℕ) → List ℕ
 labels_octets [] = []
 labels_octets (label ∷ more) = length label ∷ label ++ labels_octets more
@@ -39,7 +39,7 @@ pub record SpellsName (text : List ℕ) (name : HostName) : Type 0 where
   pub dots : name.dots ≡ count_by (λ b. b == 46) text
   pub absolute : name.is_absolute ≡ is_absolute text
 
--- a label that is none, with only labels before it
+-- a faulty label that comes after correct ones only
 abbrev pub IsFirstWrong : List (List ℕ) → (List ℕ → Type 0) → Type 0
 IsFirstWrong labels Wrong =
     (before : List (List ℕ)) × (label : List ℕ) × (behind : List (List ℕ)) × (labels ≡ before ++ label ∷ behind)

@@ -17,17 +17,17 @@ use crate::question::behind_question;
 use he_addr::{Family, Ip};
 use std::alloc::{Allocator, Global};
 
-/// What a message answers for a host.
+/// A message's answer for a host.
 #[derive(Drop)]
 pub struct Answer<A: Allocator = Global> {
-    /// The host's addresses of the family that was asked for, in the order in which they stand.
+    /// The host's addresses of the requested family, in the order of their records.
     pub addresses: Vec<Ip, A>,
-    /// The seconds for which they may be kept, at most 2^31 - 1: the least TTL of the aliases that were followed and
-    /// of the addresses (RFC 1035 section 3.2.1). None where there is no such record.
+    /// The time for which they may be kept, in seconds, at most 2^31 - 1: the least TTL of the aliases followed and
+    /// of the addresses (RFC 1035 section 3.2.1). None if there is no such record.
     pub ttl: Option<u32>,
 }
 
-// The header of a response to this query, and where its answer section begins.
+// The header of a response to this query, and the start of its answer section.
 #[tactic(auto, unfolding(crate::specs::Reading::response_in))]
 fn read_response(message: &[u8], id: u16, name: &[u8], family: Family) -> Option<(Header, usize)>
     ensures { result ≡ response_in message.now id name.now family }
@@ -40,7 +40,7 @@ fn read_response(message: &[u8], id: u16, name: &[u8], family: Family) -> Option
     Some((header, at))
 }
 
-// What the answer section of a response has for a name.
+// Reads the answer for a name from the answer section of a response.
 #[tactic(auto, unfolding(crate::specs::Reading::section_addresses, crate::specs::Reading::chain_addresses, crate::specs::Reading::section_ttl))]
 fn read_section<A: Allocator + Copy>(
     alloc: A,
@@ -63,7 +63,7 @@ fn read_section<A: Allocator + Copy>(
     })
 }
 
-// What a message answers for a name.
+// Reads the answer for a name from a message.
 #[tactic(auto, unfolding(crate::specs::Reading::answer_of, crate::specs::Reading::ttl_of))]
 fn find_answer<A: Allocator + Copy>(
     alloc: A,
@@ -84,24 +84,22 @@ fn find_answer<A: Allocator + Copy>(
     read_section(alloc, message, header, at, name, family)
 }
 
-/// The addresses of this family that a response has for a host, and for how long they may be kept.
+/// Reads a host's addresses of this family from a response, and the time for which they may be kept.
 ///
-/// A response to the query has its id, QR set, OPCODE 0, one question, and in it the name without regard to case, the
-/// type of the family's addresses and class IN. Its answer section is as many records as the header says. From the
-/// name the CNAME records of the section are followed, the first one of each name, at most [`MAX_ALIASES`]; the
-/// addresses are those of the name where no further one leads on, in the order in which they stand. There may be none.
-/// Records of other types and classes are passed over. A name's pointers lead to earlier places than where its labels
-/// before them began, it has at most [`MAX_PARTS`] labels and pointers, and at most 255 octets.
+/// A response to the query has its id, QR set, OPCODE 0, and one question with the name (compared
+/// case-insensitively), the type of the family's addresses and class IN. Its answer section has as many records as
+/// the header states. The CNAME records of the section are followed from the name, the first one of each name, at
+/// most [`MAX_ALIASES`]; the addresses are those of the last name, in the order of their records. There may be none.
+/// Records of other types and classes are ignored. The pointers of a name lead to places before the start of the
+/// labels that precede them; a name has at most [`MAX_PARTS`] labels and pointers, and at most 255 octets.
 ///
 /// # Errors
 ///
-/// In the order of the checks: `NotOurs` where the message is no response to the query; `Truncated` where TC is set;
-/// `Malformed` where the sections aren't as many whole records as the header says, or the upper bits of its code can't
-/// be known, unless RCODE alone says an error, but for 3; `ServerFailure`, `NoSuchName`, `Refused` or `OtherCode` by
-/// its
-/// code of 12 bits, if that isn't 0; `Malformed` where the RDATA of a CNAME isn't one name, or that of an address
-/// hasn't
-/// 4 or 16 octets; `ChainTooLong`. `Memory` may come in place of an answer, of the last `Malformed` or of
+/// In the order of the checks: `NotOurs` if the message is no response to the query; `Truncated` if TC is set;
+/// `Malformed` if the sections don't have as many whole records as the header states, or the upper bits of the code
+/// can't be determined, unless RCODE by itself is an error other than 3; `ServerFailure`, `NoSuchName`, `Refused` or
+/// `OtherCode` for a 12-bit code other than 0; `Malformed` if the RDATA of a CNAME is not exactly one name, or that
+/// of an address is not 4 or 16 octets; `ChainTooLong`. `Memory` may replace an answer, the last `Malformed` or
 /// `ChainTooLong`.
 ///
 /// [`MAX_ALIASES`]: crate::limits::MAX_ALIASES

@@ -1,4 +1,4 @@
-// The chain of aliases that leads from a name to the host's own.
+// The chain of aliases from a name to the host's canonical name.
 
 ghost use Rattle.std.specs.Prelude.{◌≡◌, ◌≤◌, IfOk, OnErr, MatchResult, Ok, Err};
 ghost use Rattle.std.specs.Option.{option_map};
@@ -15,10 +15,10 @@ use crate::question::is_same;
 use he_addr::Ip;
 use std::alloc::Allocator;
 
-// The names of a chain: one more than its aliases.
+// The maximum number of names of a chain: one more than its aliases.
 const MAX_NAMES: usize = MAX_ALIASES + 1;
 
-// The name of which this one is an alias, if the entry says so.
+// The name that this one is an alias of, if the entry states that.
 fn target_for<'e>(name: &[u8], entry: &'e Entry) -> Option<&'e [u8]>
     ensures { option_map (λ target. target.now) result ≡ target_for name.now entry.now }
 {
@@ -28,7 +28,7 @@ fn target_for<'e>(name: &[u8], entry: &'e Entry) -> Option<&'e [u8]>
     }
 }
 
-// The address of this name that the entry has.
+// The entry's address, if it is one of this name.
 fn address_for(name: &[u8], entry: &Entry) -> Option<Ip>
     ensures { result ≡ address_for name.now entry.now }
 {
@@ -38,7 +38,7 @@ fn address_for(name: &[u8], entry: &Entry) -> Option<Ip>
     }
 }
 
-// The name of which this one is an alias, by the first record that says so, and the TTL of that record.
+// The name that this one is an alias of, by the first such record, and the TTL of that record.
 fn alias_of<'e>(entries: &'e [Entry], name: &[u8]) -> Option<(&'e [u8], u32)>
     ensures target { option_map (λ alias. alias.0.now) result ≡ alias_of entries.now name.now }
     ensures ttl { option_map (λ alias. alias.1) result ≡ alias_ttl entries.now name.now }
@@ -51,7 +51,7 @@ fn alias_of<'e>(entries: &'e [Entry], name: &[u8]) -> Option<(&'e [u8], u32)>
     None
 }
 
-// The name at the end of the chain, and the least TTL of the aliases that lead to it, where there are any.
+// The name at the end of the chain, and the least TTL of the aliases that lead to it, if there are any.
 pub(crate) fn chain_end<'e>(
     entries: &'e [Entry],
     name: &'e [u8],
@@ -74,7 +74,7 @@ pub(crate) fn chain_end<'e>(
     Err(AnswerFault::ChainTooLong)
 }
 
-// The lesser of two TTLs, where there are two.
+// The lesser of two TTLs, or the only one.
 pub(crate) fn lesser(ttl: Option<u32>, other: Option<u32>) -> Option<u32>
     ensures { result ≡ lesser ttl other }
 {
@@ -84,7 +84,7 @@ pub(crate) fn lesser(ttl: Option<u32>, other: Option<u32>) -> Option<u32>
     }
 }
 
-// The least TTL of the addresses of a name, where it has any.
+// The least TTL of the addresses of a name, if it has any.
 pub(crate) fn addresses_ttl(entries: &[Entry], name: &[u8]) -> Option<u32>
     ensures { result ≡ addresses_ttl entries.now name.now }
 {
@@ -95,7 +95,7 @@ pub(crate) fn addresses_ttl(entries: &[Entry], name: &[u8]) -> Option<u32>
     least
 }
 
-// The TTL of the address of this name that the entry has.
+// The entry's TTL, if it has an address of this name.
 fn address_ttl(name: &[u8], entry: &Entry) -> Option<u32>
     ensures { result ≡ address_ttl name.now entry.now }
 {
@@ -105,7 +105,7 @@ fn address_ttl(name: &[u8], entry: &Entry) -> Option<u32>
     }
 }
 
-// The addresses of a name, in the order in which they stand.
+// The addresses of a name, in the order of their records.
 pub(crate) fn addresses_of<A: Allocator + Copy>(
     alloc: A,
     entries: &[Entry],

@@ -1,5 +1,4 @@
-// The code of a response: RCODE (RFC 1035 section 4.1.1), of which an OPT record has the upper 8 bits (RFC 6891
-// section
+// The code of a response: RCODE (RFC 1035 section 4.1.1), with the upper 8 bits from an OPT record (RFC 6891 section
 // 6.1.3).
 
 ghost use Rattle.std.specs.Prelude.{◌≡◌, Err, None, Ok};
@@ -16,7 +15,7 @@ const NO_ERROR: u16 = 0;
 
 const NAME_ERROR: u16 = 3;
 
-// Whether the response whose answer section begins at a place is whole (TC) and its code is that of no error.
+// Checks that the response whose answer section begins at `at` is whole (TC) and that its code is 0.
 pub(crate) fn check(message: &[u8], header: Header, at: usize) -> Result<(), AnswerFault>
     ensures { result ≡ option_map_or (λ fault. Err fault) (response_fault message.now header.flags header.answers at)
         (Ok tt) }
@@ -34,8 +33,8 @@ pub(crate) fn check(message: &[u8], header: Header, at: usize) -> Result<(), Ans
     }
 }
 
-// The code of a response. Where its records can't be read, an error in its header is one still, but for that there is
-// no such name.
+// The code of a response. If its records can't be read, an error code in its header still counts, except 3 (no such
+// name).
 pub(crate) fn read_code(message: &[u8], header: Header, at: usize) -> Option<u16>
     ensures { result ≡ code_in message.now header.flags header.answers at }
 {
@@ -47,8 +46,8 @@ pub(crate) fn read_code(message: &[u8], header: Header, at: usize) -> Option<u16
     }
 }
 
-// The upper bits of the code, 0 where no record has them. None where the sections aren't as many whole records as the
-// header says, or two records have them, or one whose owner is not the root.
+// The upper bits of the code, 0 if no record has them. None if the sections don't have as many whole records as the
+// header states, or two records have these bits, or one whose owner is not the root.
 #[tactic(auto, unfolding(crate::specs::Reading::extension_in))]
 fn read_extension(message: &[u8], header: Header, at: usize) -> Option<u8>
     ensures { result ≡ extension_in message.now header.answers at }
@@ -60,7 +59,7 @@ fn read_extension(message: &[u8], header: Header, at: usize) -> Option<u8>
     read_additional(message, begin, additionals)
 }
 
-// Where the last of the records ends of which the first begins at a place.
+// The end of `count` records, the first of which begins at `at`.
 fn behind_records(message: &[u8], at: usize, count: u16) -> Option<usize>
     ensures { result ≡ behind_records count message.now at }
 {
@@ -72,7 +71,7 @@ fn behind_records(message: &[u8], at: usize, count: u16) -> Option<usize>
     Some(at)
 }
 
-// The upper bits that one of the additional records has.
+// The upper bits from the additional records, if one of them has any.
 fn read_additional(message: &[u8], at: usize, count: u16) -> Option<u8>
     ensures { result ≡ extension_from count message.now None at }
 {

@@ -1,4 +1,4 @@
-// What the records of an answer section say of hosts.
+// The contents of the records of an answer section.
 
 ghost use Rattle.std.specs.Prelude.{◌≡◌, ◌+◌, ◌≤◌, Ok, Err, Some, None, MatchResult, length};
 ghost use Rattle.he_dns.specs.Reading.{address_of, alias_at, content_of, entries_from, entry_at, Refuses};
@@ -12,25 +12,25 @@ use crate::records::{Record, read_record};
 use he_addr::{Family, Ip};
 use std::alloc::Allocator;
 
-// What a record says of its owner.
+// The content of a record, about its owner.
 #[derive(Drop)]
 pub(crate) enum Content {
-    // The owner is another name for the host with this name.
+    // The owner is an alias of this name.
     Alias(Octets),
     Address(Ip),
-    // Something that wasn't asked for.
+    // Anything that was not requested.
     Other,
 }
 
 #[derive(Drop)]
 pub(crate) struct Entry {
     pub(crate) owner: Octets,
-    // The seconds for which it may be kept.
+    // The time for which it may be kept, in seconds.
     pub(crate) ttl: u32,
     pub(crate) content: Content,
 }
 
-// The name that is the whole data of an alias.
+// Reads an alias: a name that is the whole data.
 #[tactic(auto, unfolding(crate::specs::Reading::alias_at))]
 fn read_alias(message: &[u8], place: usize, size: usize) -> Option<Content>
     ensures { result ≡ alias_at message.now place size }
@@ -42,7 +42,7 @@ fn read_alias(message: &[u8], place: usize, size: usize) -> Option<Content>
     Some(Content::Alias(target))
 }
 
-// The address that is the whole data.
+// Reads an address that is the whole data.
 #[tactic(auto, unfolding(crate::specs::Reading::address_of))]
 fn read_address(octets: &[u8], family: Family) -> Option<Content>
     ensures { result ≡ address_of octets.now family }
@@ -71,7 +71,7 @@ fn read_content(message: &[u8], source: &Record, family: Family) -> Option<Conte
     Some(Content::Other)
 }
 
-// The entry of the record at a place, and where the record ends.
+// The entry of the record at a place, and the end of the record.
 #[tactic(auto, unfolding(crate::specs::Reading::entry_at))]
 fn read_entry(message: &[u8], at: usize, family: Family) -> Option<(Entry, usize)>
     ensures { result ≡ entry_at message.now family at }
@@ -89,7 +89,7 @@ fn read_entry(message: &[u8], at: usize, family: Family) -> Option<(Entry, usize
     ))
 }
 
-// The entries of so many records from a place on.
+// The entries of `count` records from a place on.
 pub(crate) fn read_entries<A: Allocator + Copy>(
     alloc: A,
     message: &[u8],

@@ -1,22 +1,22 @@
 // Why a text is no host name, and why a message has no addresses.
 
 use he_addr::Memory;
-use std::alloc::{AllocError, AllocFailed};
+use std::alloc::AllocFailed;
 use thiserror::Error;
 
 /// Why a text is no host name.
 #[derive(Clone, Copy, Debug, PartialEq, Eq, Error)]
 pub enum NameFault {
-    /// A name of more than 255 octets in a message (RFC 1035 section 2.3.4).
+    /// The name has more than 255 octets in a message (RFC 1035 section 2.3.4).
     #[error("name too long")]
     LongName,
-    /// Nothing stands before, between or after the dots.
+    /// A label before, between or after the dots is empty.
     #[error("empty label")]
     EmptyLabel,
-    /// More than 63 bytes between two dots.
+    /// A label has more than 63 bytes.
     #[error("label too long")]
     LongLabel,
-    /// An allocation was refused.
+    /// An allocation failed.
     #[error("out of memory")]
     Memory,
 }
@@ -24,13 +24,13 @@ pub enum NameFault {
 /// Why a message has no addresses of a host.
 #[derive(Clone, Copy, Debug, PartialEq, Eq, Error)]
 pub enum AnswerFault {
-    /// No response, or one to another query: passed over and waited on.
+    /// The message is no response, or one to another query: ignore it and wait on.
     #[error("not a response to this query")]
     NotOurs,
-    /// The response is cut off (TC): to be asked again over TCP.
+    /// The response is cut off (TC): query again over TCP.
     #[error("truncated")]
     Truncated,
-    /// There is no such name (RCODE 3).
+    /// The name does not exist (RCODE 3).
     #[error("no such name")]
     NoSuchName,
     /// The server failed (RCODE 2).
@@ -39,28 +39,28 @@ pub enum AnswerFault {
     /// The server refused (RCODE 5).
     #[error("refused")]
     Refused,
-    /// Another response code than 0, 2, 3 and 5, of 12 bits (RFC 6891 section 6.1.3).
+    /// Another 12-bit response code than 0, 2, 3 and 5 (RFC 6891 section 6.1.3).
     #[error("response code {0}")]
     OtherCode(u16),
-    /// The sections aren't as many whole records as the header says, an alias or address in the answer section isn't
-    /// one, or there are two records of RFC 6891, or one whose owner isn't the root.
+    /// The sections don't have as many whole records as the header states, an alias or address in the answer section
+    /// is malformed, or there are two records of RFC 6891, or one whose owner isn't the root.
     #[error("malformed")]
     Malformed,
-    /// More aliases lead on than are followed.
+    /// There are more aliases than are followed.
     #[error("too many aliases")]
     ChainTooLong,
-    /// An allocation was refused.
+    /// An allocation failed.
     #[error("out of memory")]
     Memory,
 }
 
-impl From<AllocError> for NameFault {
+impl From<Memory> for NameFault {
     ghost use Rattle.std.specs.Prelude.{◌≡◌};
     ghost use Rattle.he_dns.specs.declared.fault.NameFault.TheVariants as faults;
 
     ghost from_gives = { λ _ fault. fault ≡ faults.Memory };
 
-    fn from(_refused: AllocError) -> NameFault {
+    fn from(_refused: Memory) -> NameFault {
         NameFault::Memory
     }
 }

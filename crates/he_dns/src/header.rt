@@ -15,7 +15,7 @@ pub(crate) struct Header {
     answers: u16,
 }
 
-// None where the message is too short for a header.
+// Reads a header; None if the message is too short for one.
 #[tactic(auto, unfolding(crate::specs::Reading::header_at))]
 pub(crate) fn read_header(message: &[u8]) -> Option<Header>
     ensures { result ≡ header_at message.now }
@@ -36,28 +36,28 @@ pub(crate) fn read_header(message: &[u8]) -> Option<Header>
 }
 
 impl Header {
-    // Whether it is of a response (QR) to a standard query (OPCODE 0) with this id and one question.
+    // Whether it is the header of a response (QR) to a standard query (OPCODE 0) with this id and one question.
     pub(crate) fn responds_to(self, id: u16) -> bool
         ensures { result ≡ responds self id }
     {
         self.id == id && self.flags >> 11 == 0b1_0000 && self.questions == 1
     }
 
-    // Whether it is of a response to a standard query with this id that repeats no question.
+    // Whether it is the header of a response to a standard query with this id, without a question.
     pub(crate) fn responds_bare_to(self, id: u16) -> bool
         ensures { result ≡ responds_bare self id }
     {
         self.id == id && self.flags >> 11 == 0b1_0000 && self.questions == 0
     }
 
-    // Whether the server neither is an authority (AA) nor follows names itself (RA).
+    // Whether the server is neither an authority (AA) nor recursive (RA).
     pub(crate) fn is_lame(self) -> bool
         ensures { result ≡ is_lame_by self.flags }
     {
         (self.flags >> 10) % 2 == 0 && (self.flags >> 7) % 2 == 0
     }
 
-    // How many records the answer section has.
+    // The number of records in the answer section.
     pub(crate) fn answers(self) -> u16
         ensures { result ≡ self.answers }
     {
@@ -71,7 +71,7 @@ impl Header {
         (self.flags >> 9) % 2 == 1
     }
 
-    // RCODE: the lower 4 bits of the response's code.
+    // RCODE: the lower 4 bits of the response code.
     pub(crate) fn low_code(self) -> u16
         ensures { result ≡ rcode_of self.flags }
     {

@@ -14,10 +14,10 @@ use std::marker::Model;
 const DOT: u8 = b'.';
 
 /// A host name: labels of 1 to 63 octets each, and at most 255 octets in a message (RFC 1035 section 2.3.4). Names
-/// differ only if they do so without regard to the case of ASCII letters (RFC 4343).
+/// are compared without regard to the case of ASCII letters (RFC 4343).
 #[derive(Drop)]
 pub struct Name<A: Allocator = Global> {
-    // Each label behind an octet that tells its length, as in a message, without the root's empty label at the end.
+    // Each label after an octet with its length, as in a message, without the root's empty label at the end.
     octets: Vec<u8, A>,
     dots: usize,
     absolute: bool,
@@ -38,7 +38,7 @@ fn is_absolute(text: &[u8]) -> bool
     !text.is_empty() && text[text.len() - 1] == DOT
 }
 
-// The text without a dot at its end.
+// The text without a final dot.
 fn body_of(text: &[u8]) -> &[u8]
     ensures { result.now ≡ body_of text.now }
 {
@@ -62,7 +62,7 @@ fn first_dot(text: &[u8]) -> Option<usize>
     text.iter().position(|byte| *byte == DOT)
 }
 
-// Why a label is none.
+// The fault of a label, if it has one.
 fn label_fault(label: &[u8]) -> Option<NameFault>
     ensures fault { result ≡ label_fault label.now }
     ensures short { IfNone result (length label.now ≤ MAX_LABEL) }
@@ -76,7 +76,7 @@ fn label_fault(label: &[u8]) -> Option<NameFault>
     }
 }
 
-// Appends a label behind its length.
+// Appends a label after its length.
 fn append_label<A: Allocator + Copy>(octets: &mut Vec<u8, A>, label: &[u8]) -> Result<(), NameFault>
     ensures ok { IfOk result (λ _. (label_fault label.now ≡ None)
         × (octets.new.items ≡ octets.old.items ++ length label.now ∷ label.now)) }
@@ -92,7 +92,7 @@ fn append_label<A: Allocator + Copy>(octets: &mut Vec<u8, A>, label: &[u8]) -> R
     }
 }
 
-// What stands behind a place.
+// The text after a place.
 fn behind(text: &[u8], at: usize) -> &[u8]
     requires { at < length text.now }
     ensures { result.now ≡ drop (at + 1) text.now }
@@ -118,11 +118,11 @@ fn read_labels<A: Allocator + Copy>(alloc: A, body: &[u8]) -> Result<Vec<u8, A>,
 }
 
 impl<A: Allocator + Copy> Name<A> {
-    /// The name of a text: labels parted by dots, with or without a dot at the end.
+    /// Reads a name: labels separated by dots, with or without a final dot.
     ///
     /// # Errors
     ///
-    /// `EmptyLabel` or `LongLabel` of the first label that is none; else `LongName` where the name has more than 255
+    /// `EmptyLabel` or `LongLabel` for the first faulty label; otherwise `LongName` if the name has more than 255
     /// octets in a message; or `Memory`.
     #[tactic(auto, using(crate::proofs::Labels::all_labels, crate::proofs::Labels::told_wrong))]
     pub fn read(alloc: A, text: &[u8]) -> Result<Name<A>, NameFault>
@@ -140,11 +140,11 @@ impl<A: Allocator + Copy> Name<A> {
         })
     }
 
-    /// The name followed by a suffix, as a resolver's `search` list has them.
+    /// The name followed by a suffix, as with a resolver's `search` list.
     ///
     /// # Errors
     ///
-    /// `LongName` where both together have more than 255 octets, or `Memory`.
+    /// `LongName` if both together have more than 255 octets, or `Memory`.
     pub fn with_suffix<B: Allocator>(
         &self,
         alloc: A,
@@ -176,7 +176,7 @@ impl<A: Allocator> Name<A> {
         self.absolute
     }
 
-    /// How many dots the text has, one at its end included.
+    /// The number of dots of the text, including a final one.
     pub fn dots(&self) -> usize
         ensures { result ≡ self.now.dots }
     {

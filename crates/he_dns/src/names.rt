@@ -7,7 +7,7 @@ use crate::limits::MAX_PARTS;
 use crate::octets::Octets;
 use crate::parts::{NamePart, part_at};
 
-// A label behind the octet that tells its length.
+// A label after the octet with its length.
 fn label_octets(message: &[u8], at: usize, len: usize) -> &[u8]
     requires { at + len < length message.now }
     ensures value { result.now ≡ take (1 + len) (drop at message.now) }
@@ -16,8 +16,8 @@ fn label_octets(message: &[u8], at: usize, len: usize) -> &[u8]
     &message[at..][..1 + len]
 }
 
-// The name at a place, and where it ends there. A pointer leads to an earlier place than where the labels before it
-// began, or the name is none.
+// The name at a place, and its end there. None if a pointer doesn't lead to a place before the start of the labels
+// that precede it.
 pub(crate) fn read_name(message: &[u8], at: usize) -> Option<(Octets, usize)>
     ensures value { result ≡ name_at message.now at }
     ensures within { IfSome result (λ name. name.1 ≤ length message.now) }

@@ -1,4 +1,4 @@
-// The octets of a name in a fixed place: a name read from a message takes no allocation.
+// The octets of a name in a fixed place: reading a name from a message allocates nothing.
 
 ghost use Rattle.std.specs.Prelude.{◌≡◌, ◌+◌, ◌≤◌, ◌<◌, ◌++◌, [], length, MatchOption};
 
@@ -6,7 +6,7 @@ use crate::limits::MAX_NAME;
 use arrayvec::ArrayVec;
 use std::marker::Model;
 
-// The labels of a name, each behind an octet that tells its length, without the root's empty label at the end.
+// The labels of a name, each after an octet with its length, without the root's empty label at the end.
 #[derive(Drop)]
 pub(crate) struct Octets {
     octets: ArrayVec<u8, MAX_NAME>,
@@ -35,7 +35,7 @@ impl Octets {
         self.octets.as_slice()
     }
 
-    // Appends a part, if there is room for it.
+    // Appends a part; None if there is no room for it.
     pub(crate) fn append(&mut self, part: &[u8]) -> Option<()>
         ensures appended { MatchOption result (MAX_NAME < length self.old + length part.now) (λ _. self.new
             ≡ self.old ++ part.now) }

@@ -7,14 +7,14 @@ ghost use Rattle.he_dns.specs.Reading.{IsWithin, label_at, part_at};
 use crate::limits::{MAX_LABEL, POINTER};
 use crate::words::octet_at;
 
-// What stands at a place of a name.
+// A part of a name.
 #[derive(Clone, Copy)]
 pub(crate) enum NamePart {
     // The empty label, the name's end.
     Root,
-    // A label of so many octets, behind the one that tells its length.
+    // A label of this number of octets, after the octet with its length.
     Label(usize),
-    // Two octets that tell where the name goes on.
+    // Two octets with the place where the name continues.
     Pointer(usize),
 }
 
@@ -37,7 +37,7 @@ pub(crate) fn part_at(message: &[u8], at: usize) -> Option<NamePart>
     Some(NamePart::Pointer((first - POINTER) as usize * 256 + second as usize))
 }
 
-// A label that lies within the message.
+// A label inside the message.
 #[tactic(auto, unfolding(crate::specs::Reading::label_at))]
 fn label_at(message: &[u8], at: usize, len: usize) -> Option<NamePart>
     ensures value { result ≡ label_at message.now at len }

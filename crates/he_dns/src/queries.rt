@@ -10,7 +10,7 @@ use crate::question::type_of;
 use he_addr::{Family, Memory};
 use std::alloc::Allocator;
 
-// RD: the server is asked to follow the names itself (RFC 1035 section 4.1.1).
+// RD: asks the server to resolve recursively (RFC 1035 section 4.1.1).
 const RECURSION_DESIRED: u16 = 0x0100;
 
 fn append_word<A: Allocator>(word: u16, out: &mut Vec<u8, A>) -> Result<(), Memory>
@@ -20,9 +20,9 @@ fn append_word<A: Allocator>(word: u16, out: &mut Vec<u8, A>) -> Result<(), Memo
     Ok(())
 }
 
-/// A query for the addresses of one family of a host (RFC 1035 section 4.1; RFC 3596 for IPv6): a header with this id
-/// and RD set, one question with the name, the type and class IN, and, where a room is offered, a record that says
-/// the server that a datagram of its answer may have so many bytes (RFC 6891 section 6.1).
+/// A query for a host's addresses of one family (RFC 1035 section 4.1; RFC 3596 for IPv6): a header with this id and
+/// RD set; one question with the name, the type and class IN; and, with `room`, a record that allows the server this
+/// number of bytes for a datagram of its answer (RFC 6891 section 6.1).
 pub fn write_query<A: Allocator + Copy, B: Allocator>(
     alloc: A,
     id: u16,
@@ -45,7 +45,7 @@ pub fn write_query<A: Allocator + Copy, B: Allocator>(
     Ok(query)
 }
 
-// How many records the additional section has.
+// The number of records in the additional section.
 fn arcount_of(room: Option<u16>) -> u16
     ensures { result ≡ arcount_of room }
 {

@@ -20,15 +20,15 @@ pub(crate) fn type_of(family: Family) -> u16
     }
 }
 
-// Whether two names are the same without regard to the case of ASCII letters (RFC 4343). An octet that tells a label's
-// length is no letter.
+// Whether two names are equal without regard to the case of ASCII letters (RFC 4343). An octet with a label's length
+// is no letter.
 pub(crate) fn is_same(name: &[u8], other: &[u8]) -> bool
     ensures { result ≡ is_same name.now other.now }
 {
     name.eq_ignore_ascii_case(other)
 }
 
-// Where the first question ends, if it asks for the addresses of this family of the host with this name.
+// The end of the first question, if it asks for this host's addresses of this family.
 #[tactic(auto, unfolding(crate::specs::Reading::behind_question, crate::specs::Reading::word_at))]
 pub(crate) fn behind_question(message: &[u8], name: &[u8], family: Family) -> Option<usize>
     ensures { result ≡ behind_question message.now name.now family }

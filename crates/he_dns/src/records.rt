@@ -7,7 +7,7 @@ use crate::names::read_name;
 use crate::octets::Octets;
 use crate::words::{octet_at, ttl_at, word_at};
 
-// What stands before a record's data, and where the data stands.
+// The fields of a record before its data, and the place of the data.
 #[derive(Drop)]
 pub(crate) struct Record {
     // NAME
@@ -18,7 +18,7 @@ pub(crate) struct Record {
     pub(crate) class: u16,
     // TTL
     pub(crate) ttl: u32,
-    // Its first octet.
+    // The first octet of TTL.
     pub(crate) ttl_first: u8,
     // The place of RDATA.
     pub(crate) place: usize,

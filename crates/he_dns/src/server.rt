@@ -1,4 +1,4 @@
-// What a message says of the server that sent it (RFC 1035 section 4.1.1).
+// A message's information about the server that sent it (RFC 1035 section 4.1.1).
 
 ghost use Rattle.std.specs.Prelude.{◌≡◌, true, IfNone, IfSome};
 ghost use Rattle.he_dns.specs.Codes.{IsRefusal};
@@ -9,8 +9,8 @@ use crate::codes::read_code;
 use crate::header::read_header;
 use crate::limits::HEADER_LEN;
 
-/// The code by which a server refuses the query with this id and repeats no question, as one may that does not read
-/// on: any code but 0 and 3. None for every other message.
+/// The code by which a server refuses the query with this id without repeating the question, as a server may that
+/// stopped reading: any code but 0 and 3. None for every other message.
 pub fn read_refusal(message: &[u8], id: u16) -> Option<u16>
     ensures some { IfSome result (IsRefusal message.now id) }
     ensures none { IfNone result ((code : _) → IsRefusal message.now id code → ⊥) }
@@ -32,8 +32,8 @@ fn find_refusal(message: &[u8], id: u16) -> Option<u16>
     }
 }
 
-/// Whether the server that sent a message can't answer for others: it is no authority for the name (AA), and doesn't
-/// ask other servers (RA). What it says of a name that has no address is no answer.
+/// Whether the server that sent a message is lame: neither an authority for the name (AA) nor recursive (RA). Its
+/// negative answer about a name doesn't count.
 pub fn is_lame(message: &[u8]) -> bool
     ensures lame { result ≡ true → IsLame message.now }
     ensures able { IsLame message.now → result ≡ true }

@@ -1,4 +1,4 @@
-// Messages that were put together by hand from the figures of RFC 1035 section 4.1.
+// Messages put together by hand from the figures of RFC 1035 section 4.1.
 
 use crate::fault::{AnswerFault, NameFault};
 use crate::name::Name;

@@ -1,4 +1,4 @@
-// Numbers of a message: octets, and words of two octets, the first the high one (RFC 1035 section 2.3.2).
+// Numbers of a message: octets, and words of two octets, the high one first (RFC 1035 section 2.3.2).
 
 ghost use Rattle.std.specs.Prelude.{◌≡◌};
 ghost use Rattle.he_dns.specs.Reading.{octet_at, ttl_at, word_at};
@@ -27,7 +27,7 @@ pub(crate) fn word_at(message: &[u8], at: usize) -> Option<u16>
     }
 }
 
-// The TTL at a place, in seconds (RFC 1035 section 3.2.1). One above 2^31 - 1 counts as 0 (RFC 2181 section 8).
+// The TTL at a place, in seconds (RFC 1035 section 3.2.1). A TTL above 2^31 - 1 counts as 0 (RFC 2181 section 8).
 #[tactic(auto, unfolding(crate::specs::Reading::ttl_at, crate::specs::Reading::word_at))]
 pub(crate) fn ttl_at(message: &[u8], at: usize) -> Option<u32>
     ensures { result ≡ ttl_at message.now at }

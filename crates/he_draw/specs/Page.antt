@@ -17,19 +17,19 @@ use Rattle.he_draw.specs.declared.totals.Totals.{Totals}
 use Rattle.he_draw.specs.Picture.{label_fact, words_facts}
 use Rattle.he_draw.specs.Rows.{end_of, rows_of}
 
--- neither `&` nor `<`, with which HTML begins a character's name or a tag
+-- neither `&` nor `<`, which begin a character reference and a tag in HTML
 abbrev pub is_plain : ℕ → Bool
 is_plain byte = not (byte == 38) && not (byte == 60)
 
--- a byte as HTML has it in a text
+-- a byte in a text of HTML
 abbrev pub escaped : ℕ → List ℕ
 escaped byte = if is_plain byte then byte ∷ [] else if byte == 38 then codes "&amp;" else codes "&lt;"
 
--- no tag begins in a text that is escaped
+-- no tag begins in an escaped text
 abbrev pub NamesAreNoTags : Type 0
 NamesAreNoTags = (bytes : List ℕ) → IsTrue (list_all (λ byte. not (byte == 60)) (flat_map escaped bytes))
 
--- where a bar begins, and how long it is up to the end of the race, in ticks
+-- the start of a bar, and its length up to the end of the race, in ticks
 abbrev pub length_facts : ℕ → ℕ → ℕ → List (Fact Words)
 length_facts end from to = Number from ∷ Number (min to end - from) ∷ []
 
@@ -62,7 +62,7 @@ section_facts course file =
     opening_facts course file
     ++ (race_facts course ++ flat_map (page_row_facts (end_of course)) (rows_of course))
 
--- the part of a page that a race has: its picture, then its story, of which nothing is read as a tag
+-- a race's part of a page: its picture, then its story; nothing of the story is read as a tag
 pub record IsSection {A : Type 0} (course : Course A) (file : ℕ) (text : List ℕ) : Type 0 where
   pub picture : List ℕ
   pub story : List ℕ
@@ -75,11 +75,11 @@ pub record IsSection {A : Type 0} (course : Course A) (file : ℕ) (text : List 
 abbrev pub WritesSection : {A : Type 0} → Course A → ℕ → List ℕ → List ℕ → Type 0
 WritesSection course file old new = (text : List ℕ) × IsSection course file text × (new ≡ old ++ text)
 
--- a text's name is a heading above its races, of which nothing is read as a tag
+-- a text's name is a heading above its races; nothing of it is read as a tag
 abbrev pub name_text : List ℕ → List ℕ
 name_text name = codes "</article><article>\n<h2>" ++ (flat_map escaped name ++ codes "</h2>\n")
 
--- what is counted of all races, each number after what it is
+-- the counts of all races, each number after its meaning
 abbrev pub count_facts : Counted → ℕ → List (Fact Counted)
 count_facts counted n = Said counted ∷ Number n ∷ []
 
@@ -88,7 +88,7 @@ times_facts None = []
 times_facts (Some times) =
     count_facts counts.Median times.median ++ (count_facts counts.P90 times.p90 ++ count_facts counts.P99 times.p99)
 
--- the end of the scale stands for the browser, and for its reader
+-- the end of the scale comes twice: for the browser, and for its reader
 unfoldable pub totals_facts : Totals → List (Fact Counted)
 totals_facts totals =
     (count_facts counts.End totals.end ++ count_facts counts.Races totals.races)

@@ -1,4 +1,4 @@
--- What pictures say, in whatever words, signs and colours; and the picture of a race for a terminal.
+-- The facts of pictures, in any words, signs and colours; and the picture of a race for a terminal.
 use Rattle.std.specs.Prelude.{ℕ, ◌≡◌, ◌-◌, ◌*◌, ◌/◌, ◌%◌, ◌==◌, ◌++◌, if◌then◌else◌, List, [], ◌∷◌, min}
 use Rattle.std.specs.List.{flat_map}
 use Rattle.he_addr.specs.declared.ip.Family.TheVariants as families
@@ -23,7 +23,7 @@ Prints facts old new = (text : List ℕ) × States facts text × (new ≡ old ++
 abbrev pub told : {S : Type 0} → List (Part S) → List (Fact S)
 told parts = flat_map fact_of parts
 
--- of what a row is
+-- the subject of a row
 abbrev pub label_fact : What → Fact Words
 label_fact (Answer family usable) = Said (says.Answered family)
 label_fact (Wait usable) = Said (says.Answered families.V4)
@@ -31,7 +31,7 @@ label_fact (Missing family) = Said (says.Answered family)
 label_fact Pause = Said says.Paused
 label_fact (Attempt ip became) = Ip ip
 
--- the ticks of a row, and what was then
+-- the ticks of a row, and the event or state at them
 abbrev pub words_facts : ℕ → ℕ → What → List (Fact Words)
 words_facts from to (Answer family usable) = Number from ∷ Number usable ∷ Said says.ToTry ∷ []
 words_facts from to (Wait usable) =
@@ -40,16 +40,16 @@ words_facts from to (Missing family) = Said (says.NoAnswer family) ∷ []
 words_facts from to Pause = Number from ∷ Number to ∷ []
 words_facts from to (Attempt ip became) = Number from ∷ Number to ∷ Said became ∷ []
 
--- the column of a tick, from 0, where the time up to the end has so many; what comes after the end is not drawn, and
--- its column is the last one
+-- the column of a tick, from 0; the time up to the end has `columns`. Nothing after the end is drawn: its column is
+-- the last one
 abbrev pub column : ℕ → ℕ → ℕ → ℕ
 column columns end tick = if end == 0 then 0 else min tick end * (columns - 1) / end
 
--- so many columns that are alike, by eights
+-- this number of equal columns, by eights
 abbrev pub times : ℕ → List (Fact Words)
 times n = Times (n / 8) ∷ Times (n % 8) ∷ []
 
--- what stands in so many columns and one more: an answer in the first, what became of an attempt in the last
+-- the content of `more + 1` columns: an answer in the first, an attempt's outcome in the last
 abbrev pub bar_facts : What → ℕ → List (Fact Words)
 bar_facts (Answer family usable) more = Said (says.Answered family) ∷ []
 bar_facts (Wait usable) more = Said (says.Answered families.V4) ∷ times more
@@ -68,7 +68,7 @@ row_facts columns end row =
     ∷ (columns_facts columns (column columns end row.from) (column columns end row.to) row.what
     ++ words_facts row.from row.to row.what)
 
--- how the race ended, its rows in so many columns, and the end of the scale below them
+-- how the race ended, its rows in this number of columns, and the end of the scale below them
 unfoldable pub picture_facts : {A : Type 0} → ℕ → Course A → List (Fact Words)
 picture_facts columns course =
     race_facts course

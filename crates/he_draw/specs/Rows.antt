@@ -1,4 +1,4 @@
--- The rows of a picture: what is drawn of a race.
+-- The rows of a picture of a race.
 use Rattle.std.specs.Prelude.{ℕ, ◌++◌, if◌then◌else◌, List, [], ◌∷◌, map, min, nat_le, Option, Some, None}
 use Rattle.std.specs.List.{flat_map}
 use Rattle.std.specs.Option.{option_map_or}
@@ -22,7 +22,7 @@ use Rattle.he_draw.specs.declared.rows.What.TheVariants.{Answer, Wait, Missing, 
 abbrev pub end_of : {A : Type 0} → Course A → ℕ
 end_of course = (end_event course.transcript.result).tick
 
--- an answer, where it is seen by the end
+-- an answer, if it is seen by the end
 abbrev pub answer_row : ℕ → Family → Option Seen → Row
 answer_row end family None = record { what = Missing family; from = 0; to = 0 }
 answer_row end family (Some answer) =
@@ -30,7 +30,7 @@ answer_row end family (Some answer) =
     then record { what = Answer family answer.usable; from = answer.tick; to = answer.tick }
     else record { what = Missing family; from = 0; to = 0 }
 
--- the end of the Resolution Delay in which the client waits for the AAAA answer, where it does (RFC 8305 section 3)
+-- the end of the Resolution Delay in which the client waits for the AAAA answer, if it does (RFC 8305 section 3)
 abbrev pub until_of : EventKind → Option ℕ → Option ℕ
 until_of (kinds.Waits until) later = Some until
 until_of _ later = later
@@ -43,7 +43,7 @@ wait_in (event ∷ more) = until_of event.kind (wait_in more)
 abbrev pub wait_end : Option Seen → ℕ → ℕ
 wait_end aaaa last = option_map_or (λ answer. min answer.tick last) aaaa last
 
--- the A answer, and the wait that begins there
+-- the A answer, and the wait that begins with it
 abbrev pub a_row : ℕ → Option Seen → Option ℕ → Option Seen → Row
 a_row end aaaa (Some until) (Some a) =
     record { what = Wait a.usable; from = a.tick; to = wait_end aaaa (min until end) }
@@ -54,7 +54,7 @@ abbrev pub pause_rows : ℕ → EventKind → List Row
 pause_rows tick (kinds.Paused until) = record { what = Pause; from = tick; to = until } ∷ []
 pause_rows tick _ = []
 
--- what became of an attempt, and when
+-- the outcome of an attempt, and its tick
 abbrev pub became : Mark → Said
 became (marks.Won tick) = says.Won
 became (marks.Failed tick) = says.Failed

@@ -1,4 +1,4 @@
--- The picture of a race as an SVG image: the same rows on one scale of time.
+-- The picture of a race as an SVG image: the rows of a picture on one scale of time.
 use Rattle.std.specs.Prelude.{ℕ, ◌+◌, ◌-◌, ◌*◌, ◌++◌, List, [], ◌∷◌, length, min}
 use Rattle.he_course.specs.declared.course.Course.{Course}
 use Rattle.he_print.specs.declared.part.Fact.{Fact}
@@ -12,19 +12,19 @@ use Rattle.he_draw.specs.declared.shapes.TheConstants.{COLUMNS, LEFT, ROW, SIGN}
 use Rattle.he_draw.specs.Picture.{column, label_fact, words_facts}
 use Rattle.he_draw.specs.Rows.{end_of, rows_of}
 
--- where the row of a place begins, from the top: what stands above the rows is as high as two of them
+-- the distance of a row from the top: the heading above the rows is as high as two of them
 abbrev pub top_of : ℕ → ℕ
 top_of place = min (ROW * (place + 2)) 18446744073709551615
 
--- the place of a tick from the left
+-- the distance of a tick from the left
 abbrev pub x_of : ℕ → ℕ → ℕ
 x_of end tick = LEFT + column COLUMNS end tick
 
--- where a bar begins, and how wide it is
+-- the start of a bar, and its width
 abbrev pub bar_places : ℕ → ℕ → List (Fact Words)
 bar_places left right = Number left ∷ Number (right - left + 1) ∷ []
 
--- between these places: an answer at the left one, what became of an attempt after the right one
+-- between these places: an answer at the left one, an attempt's outcome after the right one
 abbrev pub shape_facts : ℕ → ℕ → What → List (Fact Words)
 shape_facts left right (Answer family usable) = Number left ∷ []
 shape_facts left right (Wait usable) = bar_places left right ++ Number left ∷ []
@@ -45,7 +45,7 @@ image_rows_facts end place [] = []
 image_rows_facts end place (row ∷ more) =
     image_row_facts end place row ++ image_rows_facts end (place + 1) more
 
--- its height; how the race ended, as the title and above the rows; how far down the edges of the time go, and its end;
+-- its height; how the race ended, as the title and above the rows; the depth of the edges of the time, and its end;
 -- and the rows
 unfoldable pub svg_facts : {A : Type 0} → Course A → List (Fact Words)
 svg_facts course =

@@ -14,13 +14,13 @@ use he_print::{Part, push_parts};
 use he_story::Said;
 use std::alloc::Allocator;
 
-// How many signs are written at once.
+// The number of signs that are written at once.
 const RUN: usize = 8;
 
 // The widest address has 39 characters.
 const GAP: &[u8] = b"                                        ";
 
-/// The rows of a picture, whose labels are so wide.
+/// The rows of a picture. `labels` has the width of each label.
 pub(crate) fn push_rows<A: Allocator>(
     frame: Frame,
     labels: &[usize],
@@ -58,14 +58,14 @@ fn push_row<A: Allocator>(
     push_parts(&[Part::Words(b"\n")], parts)
 }
 
-/// So many spaces, at most 40.
+/// This number of spaces, at most 40.
 pub(crate) fn blank(count: usize) -> Part<Said>
     ensures { fact_of result ≡ [] }
 {
     Part::Words(&GAP[..count.min(GAP.len())])
 }
 
-// All columns of a row, whose own are from this one to that one.
+// All columns of a row; its own are `from` to `to`.
 fn push_columns<A: Allocator>(
     frame: Frame,
     from: usize,
@@ -81,7 +81,7 @@ fn push_columns<A: Allocator>(
     push_parts(&times(BLANK, last.saturating_sub(to)), parts)
 }
 
-// A row's own columns: so many and one more.
+// A row's own columns, `more + 1` of them.
 fn push_bar<A: Allocator>(
     signs: Signs,
     what: What,
@@ -113,7 +113,7 @@ fn push_bar<A: Allocator>(
     }
 }
 
-// A sign so many times.
+// A sign, `count` times.
 fn times(run: Run, count: usize) -> [Part<Said>; 2]
     ensures { told result ≡ times count }
 {

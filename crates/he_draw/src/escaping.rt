@@ -1,4 +1,4 @@
-// Texts that stand in a page.
+// Texts in a page.
 
 ghost use Rattle.std.specs.Prelude.{◌≡◌, ◌++◌, OnOk};
 ghost use Rattle.std.specs.List.{flat_map, list_all};
@@ -55,7 +55,7 @@ fn write_byte<A: Allocator + Copy>(byte: u8, text: &mut Vec<u8, A>) -> Result<()
     Ok(())
 }
 
-/// No byte of a text that is escaped is read as a tag's first one.
+/// No byte of an escaped text begins a tag.
 pub fn names_are_no_tags()
     ensures { NamesAreNoTags }
 {}

@@ -11,8 +11,8 @@ use he_print::{Part, write_parts};
 use he_story::Said;
 use std::alloc::Allocator;
 
-/// What all rows of a picture have in common: their signs, how wide their labels are, how many columns the time has,
-/// and the tick at the right edge.
+/// The measures that all rows of a picture share: their signs, the width of the labels, the number of columns of the
+/// time, and the tick at the right edge.
 #[derive(Clone, Copy)]
 pub(crate) struct Frame {
     pub(crate) signs: Signs,
@@ -21,13 +21,14 @@ pub(crate) struct Frame {
     pub(crate) end: u64,
 }
 
-/// The time has at least so many columns, however narrow the terminal is.
+/// The time has at least this number of columns, however narrow the terminal is.
 pub const LEAST_COLUMNS: usize = 10;
 
 // The two edges and the spaces beside them.
 const EDGES: usize = 4;
 
-/// The frame of these rows in a terminal of this width, in a race that ends at this tick; and how wide each label is.
+/// The frame of these rows in a terminal of this width, in a race that ends at this tick; and the width of each
+/// label.
 pub(crate) fn frame_of<A: Allocator + Copy>(
     alloc: A,
     look: Look,
@@ -59,7 +60,7 @@ pub(crate) fn frame_of<A: Allocator + Copy>(
     Ok((frame, labels))
 }
 
-// How wide parts are, which are of ASCII.
+// The width of parts, all in ASCII.
 fn width_of<A: Allocator + Copy>(
     parts: &[Part<Said>],
     text: &mut Vec<u8, A>,
@@ -71,7 +72,7 @@ fn width_of<A: Allocator + Copy>(
     Ok(width)
 }
 
-// An address is written, to see how wide it is.
+// Writes an address to get its width.
 fn part_width<A: Allocator + Copy>(
     part: Part<Said>,
     text: &mut Vec<u8, A>,
@@ -87,7 +88,7 @@ fn part_width<A: Allocator + Copy>(
     }
 }
 
-// How many digits a number has.
+// The number of digits of a number.
 fn digits(number: u64) -> usize {
     match number.checked_ilog10() {
         Some(more) => (more as usize).saturating_add(1),
@@ -95,7 +96,7 @@ fn digits(number: u64) -> usize {
     }
 }
 
-/// The column of a tick, where the time up to `end` has so many.
+/// The column of a tick; the time up to `end` has `columns`.
 pub(crate) fn column(columns: usize, end: u64, tick: u64) -> usize
     ensures value { result ≡ column columns end tick }
     ensures range { result ≤ columns - 1 }

@@ -1,10 +1,10 @@
-//! Pictures of a race: what `he draw` writes.
+//! Pictures of a race, as `he draw` prints them.
 //!
 //! [`write_picture`] draws a race for a terminal: a line on how it ended; a row for the AAAA answer, the A answer,
 //! each pause and each attempt, with a bar from its start to its end on one scale of time, and these ticks; and the
-//! scale. The right edge is the end of the race, and what comes after it is not drawn. The A answer's bar is the wait
-//! for the AAAA answer (RFC 8305 section 3). [`write_svg`] draws the same rows as an SVG image, and [`collect_rows`]
-//! answers them by themselves. Ticks are milliseconds.
+//! scale. The right edge is the end of the race; nothing later is drawn. The A answer's bar is the wait for the AAAA
+//! answer (RFC 8305 section 3). [`write_svg`] draws the rows as an SVG image, and [`collect_rows`] returns the rows
+//! alone. Ticks are milliseconds.
 //!
 //! ```text
 //! race 1, line 1: connected to 198.51.100.1 after 340 ms
@@ -15,14 +15,14 @@
 //!                0                                 340 ms
 //! ```
 //!
-//! A page of races has [`write_head`], of each race [`write_section`], its rows as bars of HTML and its story
+//! A page of races has [`write_head`], for each race [`write_section`], its rows as bars of HTML and its story
 //! (he_story), and [`write_tail`], with the totals; [`write_name`] writes the name of a text above its races. Races
-//! are written as they come. A page needs nothing from elsewhere and runs no script.
+//! are written as they come. A page loads nothing and runs no script.
 //!
-//! Proved, for every race: the rows are those of `specs/Rows`, both answers, the pauses that begin before the end, and
-//! each attempt once, by place. What is appended says the facts of `specs/Picture` or `specs/Svg`, in this order: how
-//! the race ended, and of each row whose it is, the columns before, in and after its bar, its ticks, and what became
-//! of it. Where memory is refused, the vector is as it was. A section has the same rows with their ticks, and totals
+//! Proved, for every race: the rows are those of `specs/Rows`, both answers, the pauses that begin before the end,
+//! and each attempt once, by place. The appended text states the facts of `specs/Picture` or `specs/Svg`, in this
+//! order: how the race ended, and for each row its subject, the columns before, in and after its bar, its ticks, and
+//! its outcome. If memory is refused, the vector is unchanged. A section has those rows with their ticks, and totals
 //! their numbers (`specs/Page`); no byte of a name or a story is read as a tag.
 //!
 //! Not proved: the words, signs and colours, that lines are as wide as the terminal, and how a viewer shows an image.

@@ -1,17 +1,17 @@
-// The characters of which pictures are drawn.
+// The characters of pictures.
 
 use he_story::Said;
 
-/// Of which characters a picture is drawn.
+/// The characters that draw a picture.
 #[derive(Clone, Copy, Debug, PartialEq, Eq)]
 pub enum Look {
-    /// Of ASCII alone.
+    /// ASCII alone.
     Ascii,
-    /// Of lines, dots and check marks, each of them one column wide, in UTF-8.
+    /// Lines, dots and check marks in UTF-8, each one column wide.
     Unicode,
 }
 
-/// A sign that stands in a row of its own, and eight of them.
+/// A sign of a row, once and eight times.
 pub(crate) type Run = (&'static [u8], &'static [u8]);
 
 pub(crate) const BLANK: Run = (b" ", b"        ");
@@ -60,7 +60,7 @@ pub(crate) fn signs_of(look: Look) -> Signs {
 }
 
 impl Signs {
-    /// The sign of what became of an attempt.
+    /// The sign of an attempt's outcome.
     pub(crate) fn of(self, became: Said) -> &'static [u8] {
         match became {
             Said::Won => self.won,

@@ -10,9 +10,9 @@ use he_addr::Memory;
 use he_print::write_parts;
 use std::alloc::Allocator;
 
-// What begins a page, up to its first text. Totals are known last and stand first, and races are written as they come
-// and stand by their end: `order` puts them there. Bars are as long as their ticks, over those of the longest race, or
-// of their own.
+// The beginning of a page, up to its first text. Totals are known last but shown first, and races are written as they
+// come but shown by their end: `order` sorts them. Bars are as long as their ticks, on the scale of the longest race,
+// or on their race's own.
 const HEAD: &[u8] = b"<!DOCTYPE html>\n<html lang='en'>\n<head>\n<meta charset='utf-8'>\n\
 <meta name='viewport' content='width=device-width,initial-scale=1'>\n<title>Races</title>\n<style>\n\
 :root{color-scheme:light dark;--bg:#fff;--fg:#222;--dim:#666;--line:#ddd;--won:#171;--failed:#b22;--cancelled:#999;\
@@ -58,8 +58,8 @@ section p{grid-column:1/3;grid-row:2}small{font-size:.78rem}}\n\
 <span><i class='pause'></i> pause</span><span><i class='won'></i> won</span><span><i class='failed'></i> failed</span>\
 <span><i class='cancelled'></i> cancelled</span></nav>\n<main><article>\n";
 
-/// Appends what begins a page: how it is laid out, its switches, and what its colours are. After `Memory` the vector
-/// holds a first part of it too.
+/// Appends the beginning of a page: its layout, switches and colours. After `Memory` the vector holds a first part of
+/// it too.
 pub fn write_head<A: Allocator + Copy>(text: &mut Vec<u8, A>) -> Result<(), Memory>
     ensures { OnOk result ((head : List ℕ) × (text.new.items ≡ text.old.items ++ head)) }
 {
@@ -76,8 +76,8 @@ pub fn write_name<A: Allocator + Copy>(name: &str, text: &mut Vec<u8, A>) -> Res
     Ok(())
 }
 
-/// Appends what ends a page: the totals of its races, which stand first, and the end of their scale. After `Memory`
-/// the vector holds a first part of it too.
+/// Appends the end of a page: the totals of its races, which are shown first, and the end of their scale. After
+/// `Memory` the vector holds a first part of it too.
 pub fn write_tail<A: Allocator + Copy>(totals: Totals, text: &mut Vec<u8, A>) -> Result<(), Memory>
     ensures { OnOk result (Prints (totals_facts totals) text.old.items text.new.items) }
 {

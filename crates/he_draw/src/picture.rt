@@ -17,8 +17,8 @@ use std::alloc::Allocator;
 
 /// Appends the picture of the race: a line on how it ended; a row for each answer, each pause that begins before the
 /// end, and each attempt by place, with a bar from its start to its end and these ticks, in milliseconds; the scale;
-/// and an empty line. Lines are as wide as `width` columns, or wider where that leaves fewer than ten for the bars.
-/// After `Memory` the vector holds what it held.
+/// and an empty line. Lines are `width` columns wide, or wider if that leaves fewer than ten for the bars. After
+/// `Memory` the vector is unchanged.
 pub fn write_picture<A: Allocator + Copy, B: Allocator>(
     course: &Course<B>,
     look: Look,
@@ -30,10 +30,10 @@ pub fn write_picture<A: Allocator + Copy, B: Allocator>(
     ensures err { OnErr result (out.new.items ≡ out.old.items) }
 {
     let text = picture(*out.allocator(), course, look, width)?;
-    out.extend_from_slice(&text).map_err(|_| Memory)
+    out.extend_from_slice(&text)
 }
 
-// The picture in a text of its own, so that nothing is appended of one that memory does not suffice for.
+// The picture in a text of its own: if memory runs out, nothing of it is appended.
 #[tactic(auto, unfolding(crate::specs::Picture::picture_facts))]
 fn picture<A: Allocator + Copy, B: Allocator>(
     alloc: A,
@@ -55,7 +55,7 @@ fn picture<A: Allocator + Copy, B: Allocator>(
     Ok(text)
 }
 
-// What stands beside the greatest number below the last column: `0`, the space after it, and ` ms`.
+// The columns beside the greatest number below the last column: `0`, the space after it, and ` ms`.
 const BESIDE_END: usize = 5;
 
 // The scale below the rows, and an empty line.

@@ -8,9 +8,9 @@ use he_addr::{Family, Ip, Memory};
 use he_course::{Course, Event, EventKind, Seen};
 use he_plan::{Line, Mark};
 use he_story::Said;
-use std::alloc::{AllocError, Allocator};
+use std::alloc::Allocator;
 
-/// A row of a picture, with the ticks from which and to which it is drawn, in milliseconds.
+/// A row of a picture, with the ticks of its start and its end, in milliseconds.
 #[derive(Clone, Copy, Debug, PartialEq, Eq)]
 pub struct Row {
     pub what: What,
@@ -18,13 +18,13 @@ pub struct Row {
     pub to: u64,
 }
 
-/// What is drawn in a row.
+/// The subject of a row.
 #[derive(Clone, Copy, Debug, PartialEq, Eq)]
 pub enum What {
-    /// The answer of this family is seen, with so many usable addresses.
+    /// The answer of this family is seen, with this number of usable addresses.
     Answer(Family, usize),
 
-    /// The A answer is seen, with so many usable addresses, and the client waits for the AAAA answer.
+    /// The A answer is seen, with this number of usable addresses, and the client waits for the AAAA answer.
     Wait(usize),
 
     /// No answer of this family is seen by the end of the race.
@@ -33,11 +33,11 @@ pub enum What {
     /// The client sees and starts nothing.
     Pause,
 
-    /// An attempt at this address, and what became of it.
+    /// An attempt at this address, and its outcome.
     Attempt(Ip, Said),
 }
 
-// That of the AAAA answer, and that of the A answer.
+// The rows of the AAAA answer and of the A answer.
 const ANSWER_ROWS: usize = 2;
 
 /// The rows of a race: the AAAA answer, the A answer, the pauses that begin before the end of the race, and the
@@ -99,7 +99,7 @@ fn wait_end(aaaa: Option<Seen>, last: u64) -> u64
     }
 }
 
-// Up to when the client waits for the AAAA answer at most, where it does.
+// The tick up to which the client waits for the AAAA answer at most, if it waits.
 fn wait_in(events: &[Event]) -> Option<u64>
     ensures { result ≡ wait_in events.now }
 {
@@ -111,7 +111,7 @@ fn wait_in(events: &[Event]) -> Option<u64>
     None
 }
 
-fn push_pauses<A: Allocator>(rows: &mut Vec<Row, A>, events: &[Event]) -> Result<(), AllocError>
+fn push_pauses<A: Allocator>(rows: &mut Vec<Row, A>, events: &[Event]) -> Result<(), Memory>
     ensures { OnOk result (rows.new.items ≡ rows.old.items
         ++ flat_map (λ event. pause_rows event.tick event.kind) events.now) }
 {
@@ -124,7 +124,7 @@ fn push_pauses<A: Allocator>(rows: &mut Vec<Row, A>, events: &[Event]) -> Result
     Ok(())
 }
 
-fn push_attempts<A: Allocator>(rows: &mut Vec<Row, A>, lines: &[Line]) -> Result<(), AllocError>
+fn push_attempts<A: Allocator>(rows: &mut Vec<Row, A>, lines: &[Line]) -> Result<(), Memory>
     ensures { OnOk result (rows.new.items ≡ rows.old.items ++ map attempt_row lines.now) }
 {
     for line in lines {

@@ -1,4 +1,4 @@
-// The part of a page that a race has.
+// A race's part of a page.
 
 ghost use Rattle.std.specs.Prelude.{◌≡◌, ◌++◌, [], IfOk, OnOk};
 ghost use Rattle.std.specs.List.{flat_map};
@@ -45,7 +45,7 @@ fn story<A: Allocator + Copy, B: Allocator>(
     Ok(story)
 }
 
-// All but the story.
+// The section without the story.
 fn write_rows<A: Allocator + Copy, B: Allocator>(
     alloc: A,
     course: &Course<B>,
@@ -147,7 +147,7 @@ fn push_row<A: Allocator>(end: u64, row: Row, parts: &mut Vec<Part<Said>, A>) ->
     push_parts(&[Part::Words(b"</small></div>\n")], parts)
 }
 
-// The bars of a row: where an answer is seen, and what lasts up to a tick, or to the end of the race.
+// The bars of a row: a dot where an answer is seen, and a bar that lasts up to a tick, or to the end of the race.
 fn push_track<A: Allocator>(
     end: u64,
     row: Row,
@@ -180,7 +180,7 @@ fn push_track<A: Allocator>(
 
 const CLOSING: &[u8] = b"'></i>";
 
-// A bar of a kind, from a tick and so long.
+// A bar of a kind, from a tick, of this length.
 fn bar(kind: Part<Said>, from: Part<Said>, length: Part<Said>) -> [Part<Said>; 7]
     ensures { told result ≡ fact_of kind ++ (fact_of from ++ fact_of length) }
 {

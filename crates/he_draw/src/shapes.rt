@@ -14,8 +14,8 @@ use he_print::{Part, push_parts};
 use he_story::Said;
 use std::alloc::Allocator;
 
-/// The time's first column in an image, how many it has, how high a row is, and how far after its bar what became of
-/// an attempt stands.
+/// The time's first column in an image, the number of its columns, the height of a row, and how far after its bar the
+/// sign of an attempt's outcome is.
 pub const LEFT: u64 = 300;
 
 pub const COLUMNS: usize = 501;
@@ -24,7 +24,7 @@ pub const ROW: u64 = 24;
 
 pub const SIGN: u64 = 4;
 
-/// Where the row of a place begins, from the top.
+/// The distance of a row from the top.
 pub(crate) fn top_of(place: usize) -> u64
     ensures { result ≡ top_of place }
 {
@@ -68,7 +68,7 @@ fn push_row<A: Allocator>(
     push_parts(&[Part::Words(b"</text></g>\n")], parts)
 }
 
-// The place of a tick from the left, in a race that ends at `end`.
+// The distance of a tick from the left, in a race that ends at `end`.
 fn x_of(end: u64, tick: u64) -> u64
     ensures value { result ≡ x_of end tick }
     ensures range { result ≤ 800 }
@@ -76,7 +76,7 @@ fn x_of(end: u64, tick: u64) -> u64
     LEFT + column(COLUMNS, end, tick) as u64
 }
 
-// The shapes of a row between these places.
+// The shapes of a row between `left` and `right`.
 fn push_shape<A: Allocator>(
     left: u64,
     right: u64,
@@ -119,7 +119,7 @@ fn push_shape<A: Allocator>(
     }
 }
 
-// A bar of a kind between these places.
+// A bar of a kind between `left` and `right`.
 fn bar(kind: Part<Said>, left: u64, right: u64) -> [Part<Said>; 7]
     requires { right ≤ 800 }
     ensures { told result ≡ fact_of kind ++ bar_places left right }

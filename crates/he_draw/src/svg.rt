@@ -13,9 +13,9 @@ use he_print::{Part, push_parts, write_parts};
 use he_story::heading_parts;
 use std::alloc::Allocator;
 
-/// Appends the picture of the race as one SVG image: its title says how the race ended, and it has the rows of
-/// [`crate::collect_rows`], each with a bar from its start to its end and these ticks, in milliseconds. Bars differ by
-/// colour, and by a sign or a pattern too. After `Memory` the vector holds what it held.
+/// Appends the picture of the race as one SVG image: its title is how the race ended, and it has the rows of
+/// [`crate::collect_rows`], each with a bar from its start to its end and these ticks, in milliseconds. Bars differ
+/// by colour, and by a sign or a pattern too. After `Memory` the vector is unchanged.
 pub fn write_svg<A: Allocator + Copy, B: Allocator>(
     course: &Course<B>,
     out: &mut Vec<u8, A>,
@@ -24,10 +24,10 @@ pub fn write_svg<A: Allocator + Copy, B: Allocator>(
     ensures err { OnErr result (out.new.items ≡ out.old.items) }
 {
     let text = svg(*out.allocator(), course)?;
-    out.extend_from_slice(&text).map_err(|_| Memory)
+    out.extend_from_slice(&text)
 }
 
-// The image in a text of its own, so that nothing is appended of one that memory does not suffice for.
+// The image in a text of its own: if memory runs out, nothing of it is appended.
 #[tactic(auto, unfolding(crate::specs::Svg::svg_facts))]
 fn svg<A: Allocator + Copy, B: Allocator>(
     alloc: A,
@@ -78,7 +78,7 @@ const STYLE: &[u8] =
 <pattern id='hatch' width='5' height='5' patternUnits='userSpaceOnUse'><path d='M0 5L5 0'/></pattern>\n</defs>\n\
 <text y='18'>";
 
-// The two edges of the time, down to where the rows end, and its ends.
+// The two edges of the time, down to the end of the rows, and its ends.
 const EDGES: &[u8] = b"</text>\n<path d='M300 48V";
 
 const SCALE: &[u8] = b"'/>\n<text x='300' y='42'>0</text><text x='801' y='42' text-anchor='end'>";

@@ -1,4 +1,4 @@
-// What stands above all races of a page.
+// The totals above all races of a page.
 
 ghost use Rattle.std.specs.Prelude.{◌≡◌, ◌++◌, OnOk};
 ghost use Rattle.he_draw.specs.Picture.{told};
@@ -8,24 +8,24 @@ use he_addr::Memory;
 use he_print::{Part, push_parts};
 use std::alloc::Allocator;
 
-/// What is counted of the races of a page.
+/// Counts of the races of a page.
 #[derive(Clone, Copy, Debug, PartialEq, Eq)]
 pub struct Totals {
     pub races: u64,
 
-    /// How many were won by an address of each family, and how many were not won.
+    /// The races that an address of each family won, and those not won.
     pub by_v6: u64,
     pub by_v4: u64,
     pub not_won: u64,
 
-    /// The times to connect of those that were won, if one was.
+    /// The times to connect of the races that were won, if any.
     pub times: Option<Times>,
 
     /// The tick at which the longest race ends.
     pub end: u64,
 }
 
-/// The least milliseconds within which so many of 100 connect.
+/// The least milliseconds within which 50, 90 and 99 of 100 connect.
 #[derive(Clone, Copy, Debug, PartialEq, Eq)]
 pub struct Times {
     pub median: u64,
@@ -33,7 +33,7 @@ pub struct Times {
     pub p99: u64,
 }
 
-/// What a number of a page's heading is.
+/// The meaning of a number in a page's heading.
 #[derive(Clone, Copy, Debug, PartialEq, Eq)]
 pub enum Counted {
     Races,
@@ -46,7 +46,7 @@ pub enum Counted {
     End,
 }
 
-/// Totals, as the heading of a page, which stands first whatever stands before it.
+/// Totals, as the heading of a page, shown first wherever it is written.
 #[tactic(auto, unfolding(crate::specs::Page::totals_facts))]
 pub(crate) fn push_totals<A: Allocator>(
     totals: Totals,

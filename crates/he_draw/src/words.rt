@@ -10,7 +10,7 @@ use he_print::{Part, push_parts};
 use he_story::Said;
 use std::alloc::Allocator;
 
-/// Of what a row is.
+/// The subject of a row.
 pub(crate) fn label(what: What) -> Part<Said>
     ensures { fact_of result ≡ label_fact what ∷ [] }
 {
@@ -31,7 +31,7 @@ fn answer_words(family: Family) -> &'static [u8] {
     }
 }
 
-/// What became of an attempt, in one word.
+/// The outcome of an attempt, in one word.
 pub(crate) fn became_word(became: Said) -> &'static [u8] {
     match became {
         Said::Won => b"won",
@@ -40,7 +40,7 @@ pub(crate) fn became_word(became: Said) -> &'static [u8] {
     }
 }
 
-/// The ticks of a row, and what was then.
+/// The ticks of a row, and the event or state at them.
 pub(crate) fn push_words<A: Allocator>(
     row: Row,
     parts: &mut Vec<Part<Said>, A>,

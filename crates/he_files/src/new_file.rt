@@ -1,4 +1,4 @@
-//! A new file beside the one that it is to replace.
+//! A new file next to the one that it will replace.
 
 use std::alloc::{AllocError, AllocGlobal, Global};
 use std::fs::{File, canonicalize, metadata, remove_file, rename, symlink_metadata};
@@ -6,24 +6,24 @@ use std::io::{Error, ErrorKind};
 use std::random::RandomSource;
 use std::rt::Files;
 
-// How many names are tried for the new file: another file has one of them only by chance.
+// The maximum number of names tried for the new file: another file has one of them only by chance.
 const MOST_NAMES: u32 = 16;
 
-/// The name that a new file is to have.
+/// The name that a new file will have.
 #[derive(Drop)]
 pub struct NewName {
-    // Where the file is now; None where it is written in its place.
+    // The file's present path; None if it is written in place.
     beside: Option<String>,
     path: String,
 }
 
-/// Opens a new file for writing, beside the one of this path and with the permissions that a new file has (0666 less
-/// the umask). A symbolic link is followed. What is there and is no regular file (a pipe, a terminal, `/dev/null`),
-/// and what a link names that is not there, is written in its place.
+/// Opens a new file for writing, next to the one at this path, with the permissions of a new file (0666 less the
+/// umask). Symbolic links are followed. An existing path that is not a regular file (a pipe, a terminal,
+/// `/dev/null`), or a link to a missing file, is written in place.
 ///
 /// # Errors
 ///
-/// That of the system where no file can be made there, as where a folder is missing or may not be written to.
+/// The system's error, if the file can't be made: for example, the folder is missing or not writable.
 pub fn create_beside<R: Files + RandomSource + AllocGlobal>(
     rt: &R,
     alloc: Global,
@@ -37,7 +37,7 @@ pub fn create_beside<R: Files + RandomSource + AllocGlobal>(
     create_new_beside(rt, alloc, path)
 }
 
-// Whether what is there is no regular file, or a symbolic link to nothing.
+// Whether the path exists and is not a regular file, or is a symbolic link to nothing.
 fn is_written_in_place<R: Files>(rt: &R, path: &str) -> bool {
     match metadata(rt, path) {
         Ok(there) => !there.is_file(),
@@ -45,7 +45,7 @@ fn is_written_in_place<R: Files>(rt: &R, path: &str) -> bool {
     }
 }
 
-// The path with its symbolic links followed; as it is where nothing is there.
+// The path with its symbolic links followed; unchanged if it doesn't exist.
 fn path_of<R: Files + AllocGlobal>(rt: &R, alloc: Global, path: &str) -> Result<String, Error> {
     match canonicalize(rt, path) {
         Ok(found) => Ok(String::from_str(alloc, found.as_str())?),
@@ -53,7 +53,7 @@ fn path_of<R: Files + AllocGlobal>(rt: &R, alloc: Global, path: &str) -> Result<
     }
 }
 
-// A file of a name that no other has: `PATH.1b2c3d4e.new`.
+// Makes a file with a name that no other has: `PATH.1b2c3d4e.new`.
 fn create_new_beside<R: Files + RandomSource + AllocGlobal>(
     rt: &R,
     alloc: Global,
@@ -81,11 +81,11 @@ fn name_beside<R: RandomSource>(rt: &R, alloc: Global, path: &str) -> Result<Str
 }
 
 impl NewName {
-    /// Gives the file its name, now that it is whole: it takes the place of the one that is there.
+    /// Gives the file its name, now that it is whole; it replaces the old file.
     ///
     /// # Errors
     ///
-    /// That of the system where the name cannot be given. The new file is removed, and the old one stays.
+    /// The system's error, if the rename fails. The new file is then removed, and the old one is kept.
     pub fn keep<R: Files>(self, rt: &R) -> Result<(), Error> {
         let NewName { beside, path } = self;
         let Some(beside) = beside else {
@@ -100,7 +100,7 @@ impl NewName {
         }
     }
 
-    /// Removes the file, which is not whole. The old one stays.
+    /// Removes the file, which is not whole. The old one is kept.
     pub fn discard<R: Files>(self, rt: &R) {
         let NewName { beside, path: _ } = self;
         if let Some(beside) = beside {

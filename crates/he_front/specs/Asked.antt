@@ -1,4 +1,4 @@
--- What a request of SOCKS names: a host, as a text, and a port.
+-- The target of a SOCKS request: a host, as a text, and a port.
 use Rattle.std.specs.Prelude.{ℕ, ◌&&◌, ◌==◌, Bool, List, Option, Some, None, length, nat_le, if◌then◌else◌}
 use Rattle.std.specs.Char.{is_ascii_graphic}
 use Rattle.std.specs.List.{list_all}
@@ -8,11 +8,11 @@ use Rattle.he_front.specs.declared.socks.Request.{Request}
 use Rattle.he_front.specs.declared.socks.Target.{Target}
 use Rattle.he_front.specs.declared.socks.Target.TheVariants as targets
 
--- a name is 1 to 255 printable octets of ASCII, none of them a space
+-- a name is 1 to 255 printable ASCII octets without spaces
 abbrev pub is_printable : List ℕ → Bool
 is_printable name = (nat_le 1 (length name) && nat_le (length name) 255) && list_all is_ascii_graphic name
 
--- the text of the host: that of an address (RFC 5952 section 4); a name as it is
+-- the text of the host: that of an address (RFC 5952 section 4), or the name itself
 abbrev pub host_in : Target → Option (List ℕ)
 host_in (targets.Address ip) = Some (printed ip)
 host_in (targets.Name name) = if is_printable name.now then Some name.now else None

@@ -5,8 +5,8 @@ use Rattle.std.specs.List.{list_all, list_any}
 use Rattle.he_addr.specs.declared.ip.Ip.TheVariants.{V6}
 use Rattle.he_addr.specs.Text.{Spells, SpellsNumber}
 
--- the octets of a registered name (RFC 3986 section 3.2.2): unreserved, the percent sign of an octet that is written
--- in hexadecimal, and sub-delims
+-- the octets of a registered name (RFC 3986 section 3.2.2): unreserved, the percent sign of an octet written in
+-- hexadecimal, and sub-delims
 abbrev pub is_name_octet : ℕ → Bool
 is_name_octet octet = is_ascii_alphanumeric octet || list_any (λ other. other == octet) (codes "-._~%!$&'()*+,;=")
 
@@ -14,7 +14,7 @@ is_name_octet octet = is_ascii_alphanumeric octet || list_any (λ other. other =
 abbrev pub is_name : List ℕ → Bool
 is_name host = (nat_le 1 (length host) && nat_le (length host) 255) && list_all is_name_octet host
 
--- the host as it stands in the target: an address of IPv6 in brackets; a name or an IPv4 address
+-- the host as it appears in the target: an IPv6 address in brackets; a name or an IPv4 address
 abbrev pub IsHostText : List ℕ → List ℕ → Type 0
 IsHostText text host =
     ((text ≡ 91 ∷ host ++ 93 ∷ []) × ((n : ℕ) × Spells host (V6 n))) ⊎ ((text ≡ host) × (is_name host ≡ true))
@@ -23,7 +23,7 @@ IsHostText text host =
 abbrev pub SpellsPort : List ℕ → ℕ → Type 0
 SpellsPort text port = SpellsNumber text port × (1 ≤ port) × (port ≤ 65535)
 
--- the text names this host and this port
+-- the text has this host and this port
 pub record IsAuthority (text host : List ℕ) (port : ℕ) : Type 0 where
   pub host_text : List ℕ
   pub port_text : List ℕ
@@ -31,6 +31,6 @@ pub record IsAuthority (text host : List ℕ) (port : ℕ) : Type 0 where
   pub is_host : IsHostText host_text host
   pub is_port : SpellsPort port_text port
 
--- it names none
+-- it has none
 abbrev pub IsNoAuthority : List ℕ → Type 0
 IsNoAuthority text = (host : List ℕ) (port : ℕ) → IsAuthority text host port → ⊥

@@ -1,4 +1,4 @@
--- What a client of HTTP asks for: the head of a request (RFC 9112 section 3).
+-- The requests of HTTP clients: the head of a request (RFC 9112 section 3).
 use Rattle.std.specs.Prelude.{◌≡◌, ◌≢◌, ◌≤◌, IfSome, ℕ, Bool, true, false, List, Option, codes, count_by, drop, find, map, nat_le}
 use Rattle.std.specs.Char.{to_ascii_lowercase}
 use Rattle.std.specs.Option.{option_map}
@@ -14,43 +14,43 @@ use Rattle.he_front.specs.declared.http.Method.TheVariants as methods
 use Rattle.he_front.specs.declared.http.ReadHead.{ReadHead}
 use Rattle.he_front.specs.declared.http.ReadHead.TheVariants as reads
 
--- methods, with capital letters (RFC 9110 section 9.1)
+-- methods, in capital letters (RFC 9110 section 9.1)
 abbrev pub IsMethod : List ℕ → Method → Type 0
 IsMethod method methods.Connect = method ≡ codes "CONNECT"
 IsMethod method methods.Get = method ≡ codes "GET"
 IsMethod method methods.Head = method ≡ codes "HEAD"
 IsMethod method methods.Other = (method ≢ codes "CONNECT") × (method ≢ codes "GET") × (method ≢ codes "HEAD")
 
--- a field's name counts in any case of letters (RFC 9110 section 5.1)
+-- field names are compared case-insensitively (RFC 9110 section 5.1)
 abbrev pub is_named : List ℕ → List ℕ → Bool
 is_named name other = bytes_eq (map to_ascii_lowercase other) (map to_ascii_lowercase name)
 
--- the value of the first field of this name
+-- the value of the first field with this name
 abbrev pub value_of : List ℕ → List (List ℕ × List ℕ) → Option (List ℕ)
 value_of name fields = option_map (λ field. field.1) (find (λ field. is_named name field.0) fields)
 
--- where it stands
+-- the first field with this name, by its span
 abbrev pub field_named : List ℕ → List ℕ → List HeaderSpan → Option HeaderSpan
 field_named octets name fields = find (λ field. is_named name (span_bytes octets field.name)) fields
 
--- how many fields have this name
+-- the number of fields with this name
 abbrev pub count_of : List ℕ → List (List ℕ × List ℕ) → ℕ
 count_of name fields = count_by (λ field. is_named name field.0) fields
 
 abbrev pub count_named : List ℕ → List ℕ → List HeaderSpan → ℕ
 count_named octets name fields = count_by (λ field. is_named name (span_bytes octets field.name)) fields
 
--- more than one field Host, so that the request is none (RFC 9112 section 3.2)
+-- more than one field Host, so that the request is invalid (RFC 9112 section 3.2)
 abbrev pub has_two_hosts : RequestHead → Bool
 has_two_hosts request = nat_le 2 (count_of (codes "host") (map name_and_value request.fields))
 
--- the target, and the value of the field Host, stand here
+-- these are the spans of the target and of the value of the field Host
 abbrev pub HasTarget : List ℕ → RequestHead → Span → Option Span → Type 0
 HasTarget octets request target host =
     (span_bytes octets target ≡ request.target)
     × (option_map (span_bytes octets) host ≡ value_of (codes "host") (map name_and_value request.fields))
 
--- what is asked for: a tunnel to this target; this target, of this host, with or without the body; or something else
+-- the request: a tunnel to this target; this target of this host, with or without the body; or something else
 abbrev pub AsksFor : List ℕ → RequestHead → Head → Type 0
 AsksFor octets request (heads.Tunnel target) =
     (has_two_hosts request ≡ false) × IsMethod request.method methods.Connect
@@ -62,12 +62,12 @@ AsksFor octets request (heads.Head target host) =
 AsksFor octets request heads.TwoHosts = has_two_hosts request ≡ true
 AsksFor octets request heads.Other = (has_two_hosts request ≡ false) × IsMethod request.method methods.Other
 
--- the octets begin with a head that asks for this, and ends here
+-- the octets begin with this head, which ends here
 abbrev pub HasHead : List ℕ → Head → ℕ → Type 0
 HasHead octets head len =
     (request : RequestHead) × ReadsRequest octets request (drop len octets) × AsksFor octets request head
 
--- what is pointed to lies in the first n octets, and so does the head
+-- the spans of the head are inside the first n octets
 abbrev pub LiesWithin : ℕ → Head → Type 0
 LiesWithin n (heads.Tunnel target) = IsWithin n target
 LiesWithin n (heads.Get target host) = IsWithin n target × IfSome host (IsWithin n)
@@ -80,8 +80,8 @@ IsReadWithin n (reads.Whole head len) = LiesWithin n head × (len ≤ n)
 IsReadWithin n reads.Partial = Unit {0}
 IsReadWithin n reads.Refused = Unit {0}
 
--- The octets begin with this head, which has so many; with none yet, and more can make one; or with none that has at
--- most 64 fields, whatever follows.
+-- the octets begin with this head, of this length; or with none yet, and more can complete one; or with none that has
+-- at most 64 fields, whatever follows
 abbrev pub ReadsHead : List ℕ → ReadHead → Type 0
 ReadsHead octets (reads.Whole head len) = HasHead octets head len
 ReadsHead octets reads.Partial = HasNoRequest octets × MayBecomeRequest octets

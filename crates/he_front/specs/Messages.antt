@@ -1,4 +1,4 @@
--- What octets are that are to begin with a message.
+-- The results of reading a message.
 use Rattle.std.specs.Prelude.{ℕ, List, ◌++◌}
 use Rattle.he_front.specs.declared.socks.Read.{Read}
 use Rattle.he_front.specs.declared.socks.Read.TheVariants as reads
@@ -7,12 +7,12 @@ use Rattle.he_front.specs.declared.socks.Read.TheVariants as reads
 abbrev pub HasNone : {T : Type 0} → (List ℕ → T → ℕ → Type 0) → List ℕ → Type 0
 HasNone {T} Is octets = (message : T) (len : ℕ) → Is octets message len → ⊥
 
--- octets can follow with which they begin with one
+-- more octets can complete a message
 abbrev pub MayBecome : {T : Type 0} → (List ℕ → T → ℕ → Type 0) → List ℕ → Type 0
 MayBecome {T} Is octets = (more : List ℕ) × (message : T) × (len : ℕ) × Is (octets ++ more) message len
 
--- They begin with this message, which has so many octets; or with none yet, and more can make one; or with none,
--- whatever follows.
+-- the octets begin with this message, of this length; or with none yet, and more can complete one; or with none,
+-- whatever follows
 abbrev pub Reads : {T : Type 0} → (List ℕ → T → ℕ → Type 0) → List ℕ → Read T → Type 0
 Reads Is octets (reads.Whole message len) = Is octets message len
 Reads Is octets reads.Partial = HasNone Is octets × MayBecome Is octets

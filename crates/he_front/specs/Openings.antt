@@ -1,4 +1,4 @@
--- Which protocol a client speaks, by its first octet: the version of SOCKS (RFC 1928 section 3), or a letter of a
+-- The protocol that a client uses, by its first octet: the version of SOCKS (RFC 1928 section 3), or a letter of a
 -- method (RFC 9110 section 9.1).
 use Rattle.std.specs.Prelude.{ℕ, ◌==◌, if◌then◌else◌}
 use Rattle.std.specs.Char.{is_ascii_alphabetic}

@@ -1,4 +1,4 @@
--- The pages of the proxy's own, and who may ask for them.
+-- The proxy's own pages, and which requests get them.
 use Rattle.std.specs.Prelude.{◌≡◌, ◌⊎◌, ℕ, List, Option, Some, None, codes, map}
 use Rattle.std.specs.Char.{to_ascii_lowercase}
 use Rattle.std.specs.Borrow.{Bor}
@@ -22,7 +22,7 @@ IsOwnIp own ip = (ip ≡ own) ⊎ ((ip ≡ V4 0x7f00_0001) ⊎ (ip ≡ V6 1))
 abbrev pub SpellsOwn : Ip → List ℕ → Type 0
 SpellsOwn own host = (ip : Ip) × Spells host ip × IsOwnIp own ip
 
--- the host is `localhost`, in any case of letters (RFC 6761 section 6.3), or spells such an address
+-- the host is `localhost`, compared case-insensitively (RFC 6761 section 6.3), or spells such an address
 abbrev pub IsOwnHost : Ip → List ℕ → Type 0
 IsOwnHost own host = (map to_ascii_lowercase host ≡ codes "localhost") ⊎ SpellsOwn own host
 
@@ -30,7 +30,7 @@ IsOwnHost own host = (map to_ascii_lowercase host ≡ codes "localhost") ⊎ Spe
 abbrev pub IsOwn : Ip → ℕ → List ℕ → Type 0
 IsOwn own port value = (host : List ℕ) × IsAuthority value host port × IsOwnHost own host
 
--- the page is asked for at its path, and of the proxy itself
+-- the page is requested by its path, of the proxy itself
 abbrev pub Asks : Ip → ℕ → List ℕ → Option (List ℕ) → Page → Type 0
 Asks own port target None page = ⊥
 Asks own port target (Some host) page = (target ≡ path_of page) × IsOwn own port host

@@ -1,12 +1,12 @@
--- Mirrors the code: what the reader of a tunnel's target answers, as functions on lists. What a target names stands in
--- `Authority`.
+-- Mirrors the code: the results of the reader of a tunnel's target, as functions on lists. `Authority` defines the
+-- targets.
 use Rattle.std.specs.Prelude.{ℕ, ◌&&◌, ◌==◌, List, Option, Some, None, drop, nat_le, nat_lt, slice_index, length, if◌then◌else◌}
 use Rattle.std.specs.Option.{option_map_or}
 use Rattle.he_addr.specs.declared.ip.Family.TheVariants as families
 use Rattle.he_addr.specs.Reading.{◌>>=◌, cut_in, ip_of_in, number_in}
 use Rattle.he_front.specs.Authority.{is_name}
 
--- what stands after the mark with which the text begins
+-- the text after a leading mark
 unfoldable pub after : ℕ → List ℕ → Option (List ℕ)
 after mark text = if nat_lt 0 (length text) && slice_index text 0 == mark then Some (drop 1 text) else None
 
@@ -22,7 +22,7 @@ named_in text = do
   port ← port_in cut.1
   if is_name cut.0 then Some (cut.0, port) else None
 
--- what follows an opening bracket: an IPv6 address, a closing bracket, a colon and a port
+-- the text after an opening bracket: an IPv6 address, a closing bracket, a colon and a port
 unfoldable pub bracketed_in : List ℕ → Option (List ℕ × ℕ)
 bracketed_in text = do
   cut ← cut_in 93 text

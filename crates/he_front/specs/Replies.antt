@@ -1,4 +1,4 @@
--- What a client is answered (RFC 1928 section 6; RFC 9110 section 15).
+-- The replies to a client (RFC 1928 section 6; RFC 9110 section 15).
 use Rattle.std.specs.Prelude.{ℕ}
 use Rattle.he_front.specs.declared.replies.Ended.{Ended}
 use Rattle.he_front.specs.declared.replies.Ended.TheVariants as ended

@@ -1,4 +1,4 @@
--- Responses of HTTP (RFC 9112 section 4), and the texts of their bodies.
+-- HTTP responses (RFC 9112 section 4), and the texts of their bodies.
 use Rattle.std.specs.Prelude.{ℕ, ◌+◌, ◌==◌, List, ◌++◌, codes, decimal, length, if◌then◌else◌}
 use Rattle.he_addr.specs.declared.ip.Ip.{Ip}
 use Rattle.he_addr.specs.declared.ip.Ip.TheVariants.{V4, V6}
@@ -29,18 +29,18 @@ status_text status phrase = codes "HTTP/1.1 " ++ (decimal status ++ (codes " " +
 unfoldable pub media_text : List ℕ → List ℕ
 media_text media = codes "Content-Type: " ++ (media ++ codes "\r\n")
 
--- its length, that nothing keeps it (RFC 9111 section 5.2.2.5), and that the connection is closed after it
+-- the body's length, no caching (RFC 9111 section 5.2.2.5), and that the connection is closed afterwards
 unfoldable pub len_text : ℕ → List ℕ
 len_text len = codes "Content-Length: " ++ (decimal len ++ codes "\r\nCache-Control: no-store\r\nConnection: close\r\n\r\n")
 
--- what stands before a body of so many octets
+-- the head before a body of `len` octets
 unfoldable pub head_text : ℕ → List ℕ → List ℕ → ℕ → List ℕ
 head_text status phrase media len = status_text status phrase ++ (media_text media ++ len_text len)
 
 abbrev pub message_text : ℕ → List ℕ → List ℕ → List ℕ → List ℕ
 message_text status phrase media body = head_text status phrase media (length body) ++ body
 
--- to a CONNECT that has its tunnel: a status line alone (RFC 9110 section 9.3.6)
+-- to a CONNECT with a tunnel: only a status line (RFC 9110 section 9.3.6)
 abbrev pub tunnel_text : List ℕ
 tunnel_text = status_text 200 (phrase_of ended.Connected) ++ codes "\r\n"
 
@@ -60,7 +60,7 @@ media_of pages.Races = codes "text/html; charset=utf-8"
 abbrev pub page_text : Page → List ℕ → List ℕ
 page_text page body = message_text 200 (codes "OK") (media_of page) body
 
--- an address in a URL: one of IPv6 in brackets (RFC 3986 section 3.2.2)
+-- an address in a URL: an IPv6 one in brackets (RFC 3986 section 3.2.2)
 abbrev pub url_host : Ip → List ℕ
 url_host (V4 n) = printed (V4 n)
 url_host (V6 n) = codes "[" ++ (printed (V6 n) ++ codes "]")
@@ -68,7 +68,7 @@ url_host (V6 n) = codes "[" ++ (printed (V6 n) ++ codes "]")
 abbrev pub socket_text : Ip → ℕ → List ℕ
 socket_text ip port = url_host ip ++ (codes ":" ++ decimal port)
 
--- a proxy auto-config text: this machine and plain host names straight, all else by SOCKS 5, and straight where that
+-- a proxy auto-config text: this machine and plain host names directly, all else by SOCKS 5, and directly if that
 -- fails
 abbrev pub config_text : Ip → ℕ → List ℕ
 config_text ip port =
@@ -77,7 +77,7 @@ config_text ip port =
     ++ (codes "      shExpMatch(host, \"127.*\") || host == \"::1\" || host == \"[::1]\")\n"
     ++ (codes "    return \"DIRECT\";\n  return \"SOCKS5 " ++ (socket_text ip port ++ codes "; DIRECT\";\n}\n"))))
 
--- what to set for a client
+-- the settings that a client needs
 abbrev pub advice_text : Ip → ℕ → List ℕ
 advice_text ip port =
     codes "he proxy speaks SOCKS 5 and CONNECT: set ALL_PROXY=socks5h://" ++ (socket_text ip port

@@ -1,4 +1,4 @@
--- What a client of SOCKS 5 sends (RFC 1928), by places in a list of octets.
+-- The messages of SOCKS 5 clients (RFC 1928), by places in a list of octets.
 use Rattle.std.specs.Prelude.{◌≡◌, ◌⊎◌, ℕ, ◌+◌, ◌≤◌, ◌==◌, Bool, true, false, List, length, Option, Some, None, not, slice_get, slice_range}
 use Rattle.std.specs.Int.{w16, w32, w128, from_be_bytes}
 use Rattle.std.specs.List.{list_any}
@@ -22,7 +22,7 @@ pub record IsGreeting (octets : List ℕ) (offered : Bool) (len : ℕ) : Type 0 
   pub whole : len ≤ length octets
   pub methods : offered ≡ offers_none (slice_range octets 2 len)
 
--- section 5: the address that stands after ATYP, which is at place 3, and ends here
+-- section 5: the address after ATYP, which is at place 3; the address ends here
 abbrev pub IsTarget : List ℕ → Target → ℕ → Type 0
 IsTarget octets (targets.Address (V4 n)) end =
     (slice_get octets 3 ≡ Some 1) × (end ≡ 8) × (n ≡ from_be_bytes w32 (slice_range octets 4 8))
@@ -32,7 +32,7 @@ IsTarget octets (targets.Name name) end =
     (slice_get octets 3 ≡ Some 3) × (slice_get octets 4 ≡ Some (length name.now)) × (end ≡ 5 + length name.now)
     × (name.now ≡ slice_range octets 5 end)
 
--- where an address of its kind ends
+-- the end of an address, by its type
 abbrev pub IsEnd : List ℕ → ℕ → Type 0
 IsEnd octets end =
     ((slice_get octets 3 ≡ Some 1) × (end ≡ 8)) ⊎ ((slice_get octets 3 ≡ Some 4) × (end ≡ 20))
@@ -49,7 +49,7 @@ pub record IsRequest (octets : List ℕ) (request : Request) (len : ℕ) : Type 
   pub whole : len ≤ length octets
   pub port : request.port ≡ from_be_bytes w16 (slice_range octets end len)
 
--- another octet stands at the place
+-- the octet at the place exists and is a different one
 abbrev pub is_other_than : ℕ → Option ℕ → Bool
 is_other_than wanted None = false
 is_other_than wanted (Some octet) = not (octet == wanted)
@@ -57,17 +57,17 @@ is_other_than wanted (Some octet) = not (octet == wanted)
 abbrev pub is_other : List ℕ → ℕ → ℕ → Bool
 is_other octets place wanted = is_other_than wanted (slice_get octets place)
 
--- an address is neither of IPv4, nor of IPv6, nor a name
+-- the address is neither IPv4, nor IPv6, nor a name
 abbrev pub HasOtherKind : List ℕ → Type 0
 HasOtherKind octets = (is_other octets 3 1 ≡ true) × (is_other octets 3 4 ≡ true) × (is_other octets 3 3 ≡ true)
 
--- why it is no request: another version or no reserved 0; another command; another kind of address
+-- why it is no request: another version or no reserved 0; another command; another type of address
 abbrev pub IsRefused : List ℕ → Refusal → Type 0
 IsRefused octets refusals.Message = (is_other octets 0 5 ≡ true) ⊎ (is_other octets 2 0 ≡ true)
 IsRefused octets refusals.Command = is_other octets 1 1 ≡ true
 IsRefused octets refusals.Kind = HasOtherKind octets
 
--- as far as it has come it may be one
+-- the octets so far can begin a request
 pub record IsBegun (octets : List ℕ) : Type 0 where
   pub version : is_other octets 0 5 ≡ false
   pub command : is_other octets 1 1 ≡ false

@@ -1,4 +1,4 @@
-// What a client asks to be connected to, by either protocol.
+// The target of a client's request, in either protocol.
 
 ghost use Rattle.std.specs.Prelude.{◌≡◌, IfOk, IsAscii, MatchOption, None, Some, string_bytes};
 ghost use Rattle.std.specs.List.{list_all};
@@ -13,7 +13,7 @@ use he_addr::{Ip, Memory, write_ip};
 use std::alloc::{Allocator, Global};
 use std::str::from_utf8;
 
-/// What a client asks to be connected to.
+/// The target of a client's request.
 #[derive(Drop)]
 pub struct Asked<A: Allocator = Global> {
     /// The text of an address, without brackets, or a name as the client sent it: printable ASCII without spaces.
@@ -23,12 +23,12 @@ pub struct Asked<A: Allocator = Global> {
 }
 
 impl<A: Allocator + Copy> Asked<A> {
-    /// What a request of SOCKS names; None where its name isn't 1 to 255 printable octets of ASCII without spaces, or
-    /// its port is 0.
+    /// The target of a SOCKS request; None if its name isn't 1 to 255 printable ASCII octets without spaces, or its
+    /// port is 0.
     ///
     /// # Errors
     ///
-    /// [`Memory`] where an allocation was refused.
+    /// [`Memory`] if an allocation failed.
     pub fn by_socks(alloc: A, request: &Request<'_>) -> Result<Option<Asked<A>>, Memory>
         ensures { IfOk result (λ asked. MatchOption asked (asked_in request.now ≡ None)
             (λ asked. asked_in request.now ≡ Some (string_bytes asked.host, asked.port))) }
@@ -47,11 +47,11 @@ impl<A: Allocator + Copy> Asked<A> {
         }))
     }
 
-    /// What the target of a CONNECT names, as [`read_authority`] reads it; None where it names nothing.
+    /// The target of a CONNECT, as [`read_authority`] reads it; None if it is invalid.
     ///
     /// # Errors
     ///
-    /// [`Memory`] where an allocation was refused.
+    /// [`Memory`] if an allocation failed.
     pub fn by_connect(alloc: A, target: &[u8]) -> Result<Option<Asked<A>>, Memory>
         ensures { IfOk result (λ asked. MatchOption asked (IsNoAuthority target.now)
             (λ asked. IsAuthority target.now (string_bytes asked.host) asked.port)) }

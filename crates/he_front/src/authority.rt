@@ -15,17 +15,17 @@ const CLOSE: u8 = b']';
 
 const COLON: u8 = b':';
 
-// The octets of a registered name beside letters and digits.
+// The octets of a registered name, besides letters and digits.
 const NAME_SIGNS: &[u8] = b"-._~%!$&'()*+,;=";
 
-/// The most octets of a host.
+/// The maximum number of octets of a host.
 pub const MOST_HOST: usize = 255;
 
 const MOST_PORT: u64 = 65_535;
 
-/// The host and the port that the target of a tunnel names; None where it names none. The host is a name or an IPv4
-/// address, of 1 to 255 octets of RFC 3986 section 3.2.2, or an IPv6 address, which stands in brackets in the target
-/// and is given without them. The port is 1 to 65535, in decimal, without a sign and without leading zeros.
+/// Reads the target of a tunnel: a host and a port; None if it is invalid. The host is a name or an IPv4 address, of
+/// 1 to 255 octets of RFC 3986 section 3.2.2, or an IPv6 address, which is in brackets in the target and is returned
+/// without them. The port is 1 to 65535, in decimal, without a sign and without leading zeros.
 pub fn read_authority(text: &[u8]) -> Option<(&[u8], u16)>
     ensures found { IfSome result (λ named. IsAuthority text.now named.0.now named.1) }
     ensures none { IfNone result (IsNoAuthority text.now) }
@@ -43,7 +43,7 @@ fn parse(text: &[u8]) -> Option<(&[u8], u16)>
     }
 }
 
-// A name or an IPv4 address, a colon and a port.
+// Reads a name or an IPv4 address, a colon and a port.
 #[tactic(auto, unfolding(crate::specs::Reading::named_in))]
 fn read_named(text: &[u8]) -> Option<(&[u8], u16)>
     ensures { option_map (λ named. (named.0.now, named.1)) result ≡ named_in text.now }
@@ -57,7 +57,7 @@ fn read_named(text: &[u8]) -> Option<(&[u8], u16)>
     }
 }
 
-// What follows an opening bracket: an IPv6 address, a closing bracket, a colon and a port.
+// Reads the text after an opening bracket: an IPv6 address, a closing bracket, a colon and a port.
 #[tactic(auto, unfolding(crate::specs::Reading::bracketed_in))]
 fn read_bracketed(text: &[u8]) -> Option<(&[u8], u16)>
     ensures { option_map (λ named. (named.0.now, named.1)) result ≡ bracketed_in text.now }
@@ -98,7 +98,7 @@ fn is_name_octet(octet: u8) -> bool
     octet.is_ascii_alphanumeric() || NAME_SIGNS.contains(&octet)
 }
 
-// What stands after the mark with which the text begins.
+// The text after a leading mark; None if it doesn't begin with the mark.
 #[tactic(auto, unfolding(crate::specs::Reading::after))]
 fn after(text: &[u8], mark: u8) -> Option<&[u8]>
     ensures { option_map (λ rest. rest.now) result ≡ after mark text.now }
@@ -116,7 +116,7 @@ fn find(text: &[u8], mark: u8) -> Option<usize>
     text.iter().position(|octet| *octet == mark)
 }
 
-// What stands before the first mark, and what stands after it.
+// The text before the first mark, and the text after it.
 #[tactic(auto, unfolding(he_addr::specs::Reading::cut_in))]
 pub(crate) fn cut(text: &[u8], mark: u8) -> Option<(&[u8], &[u8])>
     ensures { option_map (λ parts. (parts.0.now, parts.1.now)) result ≡ cut_in mark text.now }

@@ -1,4 +1,4 @@
-// What a client of HTTP asks for (RFC 9112 section 3; a tunnel: RFC 9110 section 9.3.6).
+// The requests of HTTP clients (RFC 9112 section 3; a tunnel: RFC 9110 section 9.3.6).
 
 ghost use Rattle.std.specs.Prelude.{◌≡◌, All, IfSome, length, map, nat_le};
 ghost use Rattle.std.specs.Option.{option_map};
@@ -8,17 +8,17 @@ ghost use Rattle.he_front.specs.Http.{HasHead, IsMethod, IsReadWithin, LiesWithi
 use httparse::Status;
 use httparse::spans::{EMPTY_HEADER_SPAN, HeaderSpan, RequestSpans, Span, parse_request};
 
-/// The most fields that a head may have.
+/// The maximum number of fields of a head.
 pub const MOST_FIELDS: usize = 64;
 
 /// The head of a request.
 #[derive(Clone, Copy, Debug, PartialEq, Eq)]
 pub enum Head {
-    /// CONNECT, and where its target stands.
+    /// CONNECT, with the span of its target.
     Tunnel(Span),
-    /// GET: where its target stands, and the value of its field Host.
+    /// GET, with the spans of its target and of the value of its field Host.
     Get(Span, Option<Span>),
-    /// HEAD: the same.
+    /// HEAD, with the same spans as GET.
     Head(Span, Option<Span>),
     /// A request of any method with more than one field Host (RFC 9112 section 3.2).
     TwoHosts,
@@ -26,14 +26,14 @@ pub enum Head {
     Other,
 }
 
-/// What octets are that are to begin with the head of a request.
+/// The result of reading a request's head.
 #[derive(Clone, Copy, Debug, PartialEq, Eq)]
 pub enum ReadHead {
-    /// They begin with this one, which has so many octets.
+    /// The octets begin with this head, of this length.
     Whole(Head, usize),
-    /// They begin with none, and more octets can make one.
+    /// The octets begin with no whole head, but more octets can complete one.
     Partial,
-    /// They begin with none that has at most [`MOST_FIELDS`] fields, whatever follows.
+    /// The octets begin with no head of at most [`MOST_FIELDS`] fields, whatever follows.
     Refused,
 }
 
@@ -59,7 +59,7 @@ fn method_of(method: &[u8]) -> Method
     }
 }
 
-/// The head that the octets begin with.
+/// Reads the head with which the octets begin.
 pub fn read_head(octets: &[u8]) -> ReadHead
     ensures head { ReadsHead octets.now result }
     ensures within { IsReadWithin (length octets.now) result }
@@ -74,7 +74,7 @@ pub fn read_head(octets: &[u8]) -> ReadHead
     }
 }
 
-// What the head with these parts asks for.
+// The head with these parts.
 fn head_of(octets: &[u8], fields: &[HeaderSpan], spans: &RequestSpans) -> Head
     requires within { IsRequestWithin octets.now fields.now spans.now }
     requires at { IsRequestOf octets.now fields.now spans.now }
@@ -108,7 +108,7 @@ fn has_two(octets: &[u8], fields: &[HeaderSpan], name: &[u8]) -> bool
     count >= 2
 }
 
-// Where the value of the first field of this name stands.
+// The span of the value of the first field with this name.
 fn value_named(octets: &[u8], fields: &[HeaderSpan], name: &[u8]) -> Option<Span>
     requires { All (IsHeaderWithin (length octets.now)) fields.now }
     ensures value { option_map (span_bytes octets.now) result
@@ -121,7 +121,7 @@ fn value_named(octets: &[u8], fields: &[HeaderSpan], name: &[u8]) -> Option<Span
     }
 }
 
-// The first field of this name.
+// The first field with this name.
 fn field_named(octets: &[u8], fields: &[HeaderSpan], name: &[u8]) -> Option<HeaderSpan>
     requires { All (IsHeaderWithin (length octets.now)) fields.now }
     ensures field { result ≡ field_named octets.now name.now fields.now }

@@ -1,25 +1,25 @@
-//! What a client of a proxy asks for, and what it is answered: SOCKS 5 (RFC 1928), tunnels over HTTP (RFC 9110
-//! section 9.3.6), and the proxy's own pages. It reads octets and makes octets, and holds no socket.
+//! The requests of a proxy's clients and the replies to them: SOCKS 5 (RFC 1928), tunnels over HTTP (RFC 9110 section
+//! 9.3.6), and the proxy's own pages. This crate reads and writes octets, and has no sockets.
 //!
 //! Proved, for all octets:
 //!
-//! - [`read_greeting`], [`read_request`]: a message is read exactly where the octets begin with one; `Partial` where
-//!   they don't and more octets can make one; `Refused` where none can follow that do (`specs/Messages`,
-//!   `specs/Socks`).
-//! - [`read_head`]: the same of the head of a request of HTTP, by the grammar of `httparse`, with at most
-//!   [`MOST_FIELDS`] fields; where its target and its first field Host stand (`specs/Http`).
+//! - [`read_greeting`], [`read_request`]: a message is read exactly if the octets begin with one; `Partial` if they
+//!   don't and more octets can complete one; `Refused` if none can (`specs/Messages`, `specs/Socks`).
+//! - [`read_head`]: so is the head of an HTTP request, by the grammar of `httparse`, with at most [`MOST_FIELDS`]
+//!   fields, and with the spans of its target and its first field Host (`specs/Http`).
 //! - [`request_line`]: the method and the target of any octets, for a log (`specs/Lines`).
-//! - [`read_authority`]: a target names a host and a port exactly where it is one of the grammar, and then those
+//! - [`read_authority`]: a target has a host and a port exactly if it is one of the grammar, and then these
 //!   (`specs/Authority`).
-//! - [`Asked::by_socks`], [`Asked::by_connect`]: the host's text and the port are those that the request names
+//! - [`Asked::by_socks`], [`Asked::by_connect`]: the host's text and the port are those of the request
 //!   (`specs/Asked`, `specs/Authority`).
-//! - [`page_asked`]: a page is answered exactly where the target is its path, and the field Host the proxy itself
+//! - [`page_asked`]: a page is returned exactly if the target is its path and the field Host is the proxy itself
 //!   (`specs/Pages`).
 //! - [`Ended::socks_reply`]: the octets of a reply, with the code of RFC 1928 section 6 (`specs/Replies`);
 //!   [`Ended::write_response`], [`write_page`], [`write_config`] and [`write_advice`] append the texts of
 //!   `specs/Responses`.
 //!
-//! Only tested: that these succeed where memory is granted. That a browser takes the auto-config text is neither.
+//! Only tested: that these succeed if memory is available. Neither proved nor tested: that a browser accepts the
+//! auto-config text.
 #![tactic(auto)]
 
 pub mod asked;

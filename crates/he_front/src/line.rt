@@ -1,4 +1,4 @@
-// The request line of a request that is refused, for a log.
+// The request line of a refused request, for a log.
 
 ghost use Rattle.std.specs.Prelude.{◌≡◌, take};
 ghost use Rattle.he_front.specs.Lines.{after, before, method_in, target_in};
@@ -11,14 +11,14 @@ const LF: u8 = b'\n';
 
 const CR: u8 = b'\r';
 
-/// The most octets that are given of a method.
+/// The maximum number of octets returned of a method.
 pub const MOST_METHOD: usize = 32;
 
-/// The most octets that are given of a target.
+/// The maximum number of octets returned of a target.
 pub const MOST_TARGET: usize = 256;
 
-/// The method and the target of a request that is refused, each cut to its most octets. They may be any octets but a
-/// space and the end of a line.
+/// The method and the target of a refused request, each cut to its maximum length. They may be any octets but a space
+/// and the end of a line.
 #[derive(Clone, Copy, Debug, PartialEq, Eq)]
 pub struct RequestLine<'o> {
     pub method: &'o [u8],
@@ -26,8 +26,7 @@ pub struct RequestLine<'o> {
 }
 
 /// The method and the target with which the octets begin (RFC 9112 section 3), as far as they have them: the first
-/// line
-/// up to its first space, and from there up to its second.
+/// line up to its first space, and from there up to its second.
 pub fn request_line(octets: &[u8]) -> RequestLine<'_>
     ensures method { result.method.now ≡ take 32 (method_in octets.now) }
     ensures target { result.target.now ≡ take 256 (target_in octets.now) }
@@ -39,7 +38,7 @@ pub fn request_line(octets: &[u8]) -> RequestLine<'_>
     }
 }
 
-// The text before the first mark; all of it where there is none.
+// The text before the first mark; all of it if there is none.
 fn before(text: &[u8], mark: u8) -> &[u8]
     ensures { result.now ≡ before mark text.now }
 {
@@ -49,7 +48,7 @@ fn before(text: &[u8], mark: u8) -> &[u8]
     }
 }
 
-// The text after the first mark; nothing where there is none.
+// The text after the first mark; empty if there is none.
 fn after(text: &[u8], mark: u8) -> &[u8]
     ensures { result.now ≡ after mark text.now }
 {

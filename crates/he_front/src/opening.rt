@@ -1,9 +1,9 @@
-// Which protocol a client speaks.
+// The protocol that a client uses.
 
 ghost use Rattle.std.specs.Prelude.{◌≡◌};
 ghost use Rattle.he_front.specs.Openings.{opening_of};
 
-/// What the first octet of a client begins.
+/// The protocol of a client, by its first octet.
 #[derive(Clone, Copy, Debug, PartialEq, Eq)]
 pub enum Opening {
     /// A greeting of SOCKS 5 (RFC 1928 section 3).
@@ -12,11 +12,11 @@ pub enum Opening {
     OldSocks,
     /// A request of HTTP, whose method begins with a letter (RFC 9110 section 9.1).
     Http,
-    /// None of these, as of TLS.
+    /// None of these, for example TLS.
     Other,
 }
 
-/// What a client's first octet begins.
+/// The protocol that a client's first octet begins.
 pub fn opening_of(first: u8) -> Opening
     ensures { result ≡ opening_of first }
 {

@@ -1,4 +1,4 @@
-// The pages of the proxy's own.
+// The proxy's own pages.
 
 ghost use Rattle.std.specs.Prelude.{◌≡◌, ◌↔◌, IfNone, IfSome, IsTrue, None, Some};
 ghost use Rattle.he_front.specs.Pages.{Asks, AsksNone, IsOwn, IsOwnHost, IsOwnIp, SpellsOwn, host_of, path_of};
@@ -7,10 +7,10 @@ ghost use Rattle.he_front.specs.declared.pages.Page.{Page};
 use crate::authority::read_authority;
 use he_addr::{Ip, read_ip};
 
-/// A page of the proxy's own.
+/// A page of the proxy itself.
 #[derive(Clone, Copy, Debug, PartialEq, Eq)]
 pub enum Page {
-    /// `/proxy.pac`: the proxy auto-config text, which [`write_config`](crate::write_config) writes.
+    /// `/proxy.pac`: the proxy auto-config text that [`write_config`](crate::write_config) writes.
     Config,
     /// `/`: the last races.
     Races,
@@ -20,10 +20,10 @@ const LOOPBACK_V4: Ip = Ip::V4(0x7f00_0001);
 
 const LOOPBACK_V6: Ip = Ip::V6(1);
 
-/// The page of the proxy's own that a GET asks for, by its target, in origin form, and the value of its field Host:
-/// that has to name the proxy itself, as the port that it listens on and `localhost`, 127.0.0.1, ::1 or the address
-/// that the client reached. None for every other request, so that no name of another's that leads to this machine
-/// (DNS rebinding) has a page.
+/// The page that a GET requests of the proxy itself, by its target in origin form and the value of its field Host.
+/// The field must name the proxy: its listening port, and `localhost`, 127.0.0.1, ::1 or the address that the client
+/// reached. None for every other request, so that a foreign name that leads to this machine (DNS rebinding) gets no
+/// page.
 pub fn page_asked(target: &[u8], host: Option<&[u8]>, own: Ip, port: u16) -> Option<Page>
     ensures found { IfSome result (Asks own port target.now (host_of host.entry)) }
     ensures none { IfNone result (AsksNone own port target.now (host_of host.entry)) }

@@ -1,48 +1,48 @@
-// How a session ended, and what its client is answered.
+// How a session ended, and the reply to its client.
 
 ghost use Rattle.std.specs.Prelude.{◌≡◌, ◌∷◌, [], if◌then◌else◌};
 ghost use Rattle.he_front.specs.Replies.{code_of, status_of};
 
-/// The reply to a greeting: the client goes without authentication, or no method that it offers will do (RFC 1928
-/// section 3).
+/// The reply to a greeting: the client proceeds without authentication, or none of its methods is acceptable (RFC
+/// 1928 section 3).
 pub fn method_reply(offers_none: bool) -> [u8; 2]
     ensures { result ≡ 5 ∷ (if offers_none then 0 else 0xff) ∷ [] }
 {
     [5, if offers_none { 0 } else { 0xff }]
 }
 
-/// The reply to a request of SOCKS 4: refused (SOCKS 4 protocol, a version of 0 and the code 91).
+/// The reply to a SOCKS 4 request: refused (SOCKS 4 protocol, a version of 0 and the code 91).
 pub fn old_socks_reply() -> [u8; 8]
     ensures { result ≡ 0 ∷ 91 ∷ 0 ∷ 0 ∷ 0 ∷ 0 ∷ 0 ∷ 0 ∷ [] }
 {
     [0, 91, 0, 0, 0, 0, 0, 0]
 }
 
-/// How what a client asked for ended.
+/// How a client's request ended.
 #[derive(Clone, Copy, Debug, PartialEq, Eq)]
 pub enum Ended {
-    /// Connected: what follows is the remote's.
+    /// Connected: the octets that follow are the remote's.
     Connected,
-    /// The proxy itself failed, as where it has no memory or no descriptor.
+    /// The proxy itself failed, for example for lack of memory or descriptors.
     Failed,
     /// The target is not allowed.
     Forbidden,
-    /// No way to the network of any address.
+    /// No route to the network of any address.
     NoNetwork,
-    /// The host has no address, or none that could be looked up or reached.
+    /// The host has no address, or none that could be resolved or reached.
     NoHost,
     /// Each address refused the connection.
     Refused,
     /// No address answered before the limit.
     TimedOut,
-    /// The client asked for something else than to connect.
+    /// The client requested something other than a connection.
     Command,
-    /// The kind of the address is not known, or what the client sent names no host.
+    /// The address type is unknown, or the request names no valid host.
     Kind,
 }
 
 impl Ended {
-    /// The octets of a SOCKS reply (RFC 1928 section 6), whose bound address is 0.0.0.0 and port 0.
+    /// The octets of a SOCKS reply (RFC 1928 section 6), with the bound address 0.0.0.0 and port 0.
     pub fn socks_reply(self) -> [u8; 10]
         ensures { result ≡ 5 ∷ code_of self ∷ 0 ∷ 1 ∷ 0 ∷ 0 ∷ 0 ∷ 0 ∷ 0 ∷ 0 ∷ [] }
     {

@@ -1,4 +1,4 @@
-// Responses of HTTP: to CONNECT, and of the proxy's own pages.
+// HTTP responses: to CONNECT, and of the proxy's own pages.
 
 ghost use Rattle.std.specs.Prelude.{◌≡◌, ◌++◌, length, OnOk};
 ghost use Rattle.he_addr.specs.Printing.{printed};
@@ -26,13 +26,13 @@ impl Ended {
         }
     }
 
-    /// Appends the response to a client of HTTP. To a CONNECT that has its tunnel it has neither fields nor a body,
-    /// for what follows it is the remote's (RFC 9110 section 9.3.6). Any other one has the reason as its body, as a
-    /// line of text.
+    /// Appends the response to an HTTP client. For a CONNECT with a tunnel it has neither fields nor a body, since
+    /// the octets that follow are the remote's (RFC 9110 section 9.3.6). Any other response has the reason as its
+    /// body, as a line of text.
     ///
     /// # Errors
     ///
-    /// [`Memory`] where an allocation was refused: `out` then has a part of the response.
+    /// [`Memory`] if an allocation failed: `out` then has a part of the response.
     pub fn write_response<A: Allocator + Copy>(
         self,
         reason: &[u8],
@@ -68,11 +68,11 @@ fn write_tunnel<A: Allocator + Copy>(out: &mut Vec<u8, A>) -> Result<(), Memory>
     write_octets(b"\r\n", out)
 }
 
-/// Appends the response that has this page's text as its body.
+/// Appends the response with this page's text as its body.
 ///
 /// # Errors
 ///
-/// [`Memory`] where an allocation was refused: `out` then has a part of the response.
+/// [`Memory`] if an allocation failed: `out` then has a part of the response.
 pub fn write_page<A: Allocator + Copy>(
     page: Page,
     body: &[u8],
@@ -106,7 +106,7 @@ fn write_message<A: Allocator + Copy>(
     write_octets(body, out)
 }
 
-// What stands before a body of so many octets.
+// The head before a body of `len` octets.
 #[tactic(auto, unfolding(crate::specs::Responses::head_text))]
 fn write_head<A: Allocator + Copy>(
     status: u16,
@@ -158,13 +158,12 @@ fn write_len<A: Allocator + Copy>(len: usize, out: &mut Vec<u8, A>) -> Result<()
     )
 }
 
-/// Appends the proxy auto-config text that sends a browser's requests to this address and port by SOCKS 5, and
-/// straight to their hosts where it can't be reached. Those for this machine and for hosts without a dot go straight
-/// to them.
+/// Appends a proxy auto-config text: it sends a browser's requests to this address and port by SOCKS 5, and directly
+/// to their hosts if the proxy can't be reached. Requests for this machine and for hosts without a dot go directly.
 ///
 /// # Errors
 ///
-/// [`Memory`] where an allocation was refused: `out` then has a part of the text.
+/// [`Memory`] if an allocation failed: `out` then has a part of the text.
 pub fn write_config<A: Allocator + Copy>(
     ip: Ip,
     port: u16,
@@ -186,12 +185,12 @@ pub fn write_config<A: Allocator + Copy>(
     write_octets(b"; DIRECT\";\n}\n", out)
 }
 
-/// Appends the reason for which a client that asks for neither a tunnel nor a page is refused: how to set what it
-/// takes its proxy from.
+/// Appends the reason for refusing a client that requests neither a tunnel nor a page: how to set the variables from
+/// which clients take their proxy.
 ///
 /// # Errors
 ///
-/// [`Memory`] where an allocation was refused: `out` then has a part of the line.
+/// [`Memory`] if an allocation failed: `out` then has a part of the line.
 pub fn write_advice<A: Allocator + Copy>(
     ip: Ip,
     port: u16,

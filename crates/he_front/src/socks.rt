@@ -1,4 +1,4 @@
-// What a client of SOCKS 5 sends (RFC 1928).
+// The messages of SOCKS 5 clients (RFC 1928).
 
 ghost use Rattle.std.specs.Prelude.{◌≡◌, ◌<◌, ◌≤◌, IfNone, IfSome, length};
 ghost use Rattle.std.specs.Int.{w16, w32, w128, from_be_bytes};
@@ -21,34 +21,34 @@ const KIND_NAME: u8 = 3;
 
 const KIND_V6: u8 = 4;
 
-// The place of an address, and that of a name, which its length precedes.
+// The place of an address, and that of a name, which comes after its length.
 const ADDRESS: usize = 4;
 
 const NAME: usize = 5;
 
-/// What octets are that are to begin with a message.
+/// The result of reading a message.
 #[derive(Clone, Copy, Debug, PartialEq, Eq)]
 pub enum Read<T> {
-    /// They begin with this one, which has so many octets.
+    /// The octets begin with this message, of this length.
     Whole(T, usize),
-    /// They begin with none, and more octets can make one.
+    /// The octets begin with no whole message, but more octets can complete one.
     Partial,
-    /// They begin with none, whatever follows.
+    /// The octets begin with no message, whatever follows.
     Refused(Refusal),
 }
 
 /// Why octets are refused (RFC 1928 section 6).
 #[derive(Clone, Copy, Debug, PartialEq, Eq)]
 pub enum Refusal {
-    /// They are no message of this version.
+    /// The octets are no message of this version.
     Message,
-    /// It asks for something else than to connect.
+    /// The request is for something other than a connection.
     Command,
-    /// Its address is of another kind than IPv4, IPv6 and a name.
+    /// The address is neither IPv4, IPv6 nor a name.
     Kind,
 }
 
-/// What is to be connected to.
+/// The target of a request to connect.
 #[derive(Clone, Copy, Debug, PartialEq, Eq)]
 pub enum Target<'o> {
     /// An address.
@@ -61,11 +61,11 @@ pub enum Target<'o> {
 #[derive(Clone, Copy, Debug, PartialEq, Eq)]
 pub struct Request<'o> {
     pub target: Target<'o>,
-    /// Any port, 0 with the others.
+    /// The port; it may be 0.
     pub port: u16,
 }
 
-/// The greeting that the octets begin with: whether the client offers to go without authentication (section 3).
+/// Reads the greeting with which the octets begin: whether the client offers no authentication (section 3).
 pub fn read_greeting(octets: &[u8]) -> Read<bool>
     ensures { Reads IsGreeting octets.now result }
 {
@@ -91,7 +91,7 @@ fn offers_none(methods: &[u8]) -> bool
     methods.iter().any(|method| *method == NO_AUTHENTICATION)
 }
 
-/// The request that the octets begin with (section 4).
+/// Reads the request with which the octets begin (section 4).
 pub fn read_request(octets: &[u8]) -> Read<Request<'_>>
     ensures { Reads IsRequest octets.now result }
 {
@@ -112,7 +112,7 @@ pub fn read_request(octets: &[u8]) -> Read<Request<'_>>
     Read::Whole(request, end + 2)
 }
 
-// Where the address ends.
+// The end of the address.
 fn end_of(octets: &[u8]) -> usize
     requires room { 4 < length octets.now }
     requires begun { IsBegun octets.now }
@@ -125,7 +125,7 @@ fn end_of(octets: &[u8]) -> usize
     }
 }
 
-// The address that ends here.
+// The address that ends at `end`.
 fn target_of(octets: &[u8], end: usize) -> Target<'_>
     requires room { 4 < length octets.now }
     requires whole { end ≤ length octets.now }
@@ -139,7 +139,7 @@ fn target_of(octets: &[u8], end: usize) -> Target<'_>
     }
 }
 
-// Why no request can begin so; None where one may.
+// Why no request can begin with these octets; None if one can.
 fn refusal_of(octets: &[u8]) -> Option<Refusal>
     ensures refused { IfSome result (IsRefused octets.now) }
     ensures begun { IfNone result (IsBegun octets.now) }
@@ -159,7 +159,7 @@ fn refusal_of(octets: &[u8]) -> Option<Refusal>
     None
 }
 
-// Whether another octet stands at the place.
+// Whether the octet at the place exists and is a different one.
 fn is_other(octets: &[u8], place: usize, wanted: u8) -> bool
     ensures { result ≡ is_other octets.now place wanted }
 {

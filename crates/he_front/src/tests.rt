@@ -1,4 +1,4 @@
-// Messages that were put together by hand from RFC 1928 sections 3, 4 and 6 and RFC 9112.
+// Messages put together by hand from RFC 1928 sections 3, 4 and 6 and RFC 9112.
 
 use crate::asked::Asked;
 use crate::authority::read_authority;
@@ -55,7 +55,7 @@ fn a_request_is_taken_whole(rt: HostRuntime) {
     assert!(rt; read_request(&[5, 1, 0, 2]) == Read::Refused(Refusal::Kind));
 }
 
-// The host that a request of SOCKS names is this one.
+// Whether a SOCKS request names this host.
 fn asks_for(rt: HostRuntime, octets: &[u8], host: &str) -> Result<bool, Fail> {
     let Read::Whole(request, _) = read_request(octets) else {
         return Ok(false);

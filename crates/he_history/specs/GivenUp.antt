@@ -7,19 +7,19 @@ use Rattle.he_plan.specs.Transcript.{IsTranscript}
 use Rattle.he_plan.specs.declared.transcript.Line.{Line}
 use Rattle.he_history.specs.declared.giving_up.GivenUp.{GivenUp}
 
--- the address of a line's attempt, and when it began
+-- the address of a line's attempt, and when it started
 abbrev pub start_of : Line → Ip × ℕ
 start_of line = (line.ip, line.tick)
 
 abbrev pub same_start : Ip × ℕ → Ip × ℕ → Bool
 same_start start other = same_ip start.0 other.0 && start.1 == other.1
 
--- the lines are of the same attempts, in the same order
+-- the lines have equal attempts, in order
 abbrev pub are_same : List Line → List Line → Bool
 are_same lines others = pointwise same_start (map start_of lines) (map start_of others)
 
--- the tick at which the race was given up is its limit, and it replays to the attempts that were made, which these
--- lines are of
+-- the race's limit is the tick at which it was given up, and it replays to the attempts that were made, those of
+-- these lines
 pub record IsGivenUp (tick : ℕ) (made : List Line) (kept : GivenUp) : Type 0 where
   pub limit : kept.recorded.settings.limit ≡ tick
   pub transcript : IsTranscript kept.recorded kept.transcript

@@ -1,15 +1,15 @@
-//! Why a call of the system failed.
+//! Why a system call failed.
 
 use std::fmt::{Display, Formatter};
 use std::io::ErrorKind;
 use std::{fmt, io};
 
-// Linux's numbers of two errors: no sockets of the family, and no such address on this machine.
+// Linux's error numbers for no sockets of the family, and no such address on this machine.
 const EAFNOSUPPORT: i32 = 97;
 
 const EADDRNOTAVAIL: i32 = 99;
 
-/// Why a call of the system failed, in the system's words where it has a number.
+/// Why a system call failed, printed in the system's words if it has a number.
 #[derive(Clone, Copy, Debug, PartialEq, Eq)]
 pub struct Cause {
     kind: ErrorKind,
@@ -17,7 +17,7 @@ pub struct Cause {
 }
 
 impl Cause {
-    /// Why the call failed.
+    /// The cause of this error.
     pub fn of(error: &io::Error) -> Cause {
         Cause {
             kind: error.kind(),
@@ -25,7 +25,7 @@ impl Cause {
         }
     }
 
-    /// Whether this machine has no such address, or none of its family.
+    /// Whether this machine doesn't have the address, or any of its family.
     pub fn is_no_address(self) -> bool {
         matches!(self.number, Some(EAFNOSUPPORT | EADDRNOTAVAIL))
     }

@@ -5,23 +5,23 @@ ghost use Rattle.he_history.specs.GivenUp.{IsGivenUp, are_same, same_start, star
 
 use he_addr::{Ip, Memory};
 use he_plan::{BuildFault, Changes, Line, Timeline, TimelineBuilder, Transcript, transcript_of};
-use std::alloc::{AllocError, Global};
+use std::alloc::Global;
 use std::mem::drop;
 
-/// A race that was given up, as it is kept.
+/// A race that was given up, as it is recorded.
 #[derive(Drop)]
 pub struct GivenUp {
     pub recorded: Timeline,
     pub transcript: Transcript,
 }
 
-/// The record of a race that was given up at the tick, of which this one and its transcript go on to the race's limit
-/// without a turn: the tick is its limit, and the client's last pause, which lasted from the last turn to that limit,
-/// is none of it. None where it does not replay to the attempts that were made.
+/// The record of a race that was given up at `tick`, where `recorded` and `transcript` go on to the race's limit
+/// without a turn: its limit is the tick, and it lacks the client's last pause, from the last turn to the old limit.
+/// None if it does not replay to the attempts that were made.
 ///
 /// # Errors
 ///
-/// `Memory` where an allocation was refused.
+/// `Memory` if an allocation fails.
 pub fn given_up_at(
     alloc: Global,
     recorded: &Timeline,
@@ -65,15 +65,15 @@ fn without_last_pause(alloc: Global, recorded: &Timeline) -> Result<Timeline, Bu
     Ok(builder.finish())
 }
 
-// Whether the lines are of the same attempts.
-fn are_same(alloc: Global, lines: &[Line], others: &[Line]) -> Result<bool, AllocError>
+// Whether the lines have equal attempts.
+fn are_same(alloc: Global, lines: &[Line], others: &[Line]) -> Result<bool, Memory>
     ensures { IfOk result (λ same. same ≡ are_same lines.now others.now) }
 {
     let (starts, wanted) = (starts_of(alloc, lines)?, starts_of(alloc, others)?);
     Ok(same_starts(&starts, &wanted))
 }
 
-fn starts_of(alloc: Global, lines: &[Line]) -> Result<Vec<(Ip, u64)>, AllocError>
+fn starts_of(alloc: Global, lines: &[Line]) -> Result<Vec<(Ip, u64)>, Memory>
     ensures { IfOk result (λ starts. starts.items ≡ map start_of lines.now) }
 {
     lines.iter().map(|line| (line.ip, line.tick)).collect(alloc)

@@ -1,4 +1,4 @@
-//! What is known of addresses from earlier connections, and the file that keeps it.
+//! The history of addresses from earlier connections, and its file.
 ghost use Rattle.std.specs.Prelude.{◌≡◌, IfOk};
 ghost use Rattle.he_turns.specs.Heard.{ips_of};
 ghost use Rattle.he_history.specs.Known.{is_lost, seen_by};
@@ -13,7 +13,7 @@ use he_kernel::asked::AskedWays;
 use he_kernel::sockets::NO_SCOPE;
 use he_plan::{Line, Mark, Transcript};
 use he_select::Known;
-use std::alloc::{AllocError, AllocGlobal, Global};
+use std::alloc::{AllocGlobal, Global};
 use std::cell::Cell;
 use std::fs::OpenFile;
 use std::io::{ErrorKind, Write};
@@ -24,52 +24,52 @@ use std::rt::Files;
 use std::time::Clock;
 use std::{fs, io};
 
-// The octets of the longest file that is read: more than as many lines take as addresses are known.
+// The most octets of a file that is read: more than the lines of all addresses need.
 const MOST_OCTETS: u64 = 1 << 20;
 
-// What the name of a file ends with that is kept since it was no history.
+// The suffix of the copy of a file that was not a history.
 const ASIDE: &str = ".not-history";
 
-// How many such files there may be.
+// The most such files.
 const MOST_ASIDE: u32 = 100;
 
-/// What is known of addresses, for the races of a proxy.
+/// The history of addresses, for the races of a proxy.
 #[derive(Drop)]
 pub struct KnownAddresses {
     alloc: Global,
     history: Cell<Option<History>>,
     path: Option<String>,
-    // The second of the last write of the file, by a clock that may be set back.
+    // The second of the file's last write, by a clock that may be set back.
     written: Cell<u64>,
     trouble: Trouble,
 }
 
-/// What a race says of addresses, beside its transcript.
+/// The results of a race for addresses, beside its transcript.
 #[derive(Clone, Copy)]
 pub struct Learnt {
-    /// The address of this machine that the winner's connection comes from.
+    /// The local address of the winner's connection.
     pub source: Option<Ip>,
     /// The Connection Attempt Delay of the race, in ticks.
     pub delay: u64,
 }
 
-/// What is known at the start.
+/// The history at the start.
 #[derive(Drop)]
 pub struct KnownAtStart {
     pub known: KnownAddresses,
-    /// The lines of the file that were passed over.
+    /// The numbers of the file's lines that were ignored.
     pub wrong: Vec<u64>,
-    /// Where the text of a file is kept that was one of something else: no line of it was right.
+    /// The copy of a file that was not a history: no line of it was valid.
     pub moved: Option<String>,
 }
 
 impl KnownAddresses {
-    /// What the file at the path says, where there is one; without a path, nothing. The file is made where it is
-    /// missing, and begins anew where it is one of something else, whose text is kept beside it.
+    /// The history in the file at the path, if it exists; an empty one without a path. The file is created if it
+    /// doesn't exist. If it is not a history, it is copied beside its path and starts anew.
     ///
     /// # Errors
     ///
-    /// Those of the system; `InvalidInput` where what is there is no file or too long.
+    /// Those of the system; `InvalidInput` if the path is not a regular file or the file is too long.
     pub fn open<R: Files + RandomSource + AllocGlobal + Copy>(
         rt: &R,
         alloc: Global,
@@ -114,17 +114,17 @@ impl KnownAddresses {
         }
     }
 
-    /// The addresses, each with what is known of it, where the kernel takes the source in this race that it took then.
+    /// The addresses, each with its history, if the kernel selects the source in this race that it selected then.
     ///
     /// # Errors
     ///
-    /// `AllocError` where an allocation was refused.
+    /// `Memory` if an allocation fails.
     pub fn tell<R: Net + Clock>(
         &self,
         rt: &R,
         asked: &AskedWays,
         known: &[Known],
-    ) -> Result<Vec<Known>, AllocError>
+    ) -> Result<Vec<Known>, Memory>
         ensures { IfOk result (λ told. ips_of told.items ≡ ips_of known.now) }
     {
         let history = self.history.take();
@@ -133,8 +133,8 @@ impl KnownAddresses {
         told
     }
 
-    /// Takes what was seen of the attempts of a race that has ended; and writes it to the file, at most once a second.
-    /// A write that fails is noted.
+    /// Takes the results of a race that has ended, and writes the file, at most once a second. A failed write is
+    /// noted.
     pub fn learn<R: Files + RandomSource + Clock + AllocGlobal + Copy>(
         &self,
         rt: &R,
@@ -152,12 +152,12 @@ impl KnownAddresses {
         }
     }
 
-    /// Why the file can't be written, where that is not said yet.
+    /// Why the file can't be written, if not yet reported.
     pub fn fault(&self) -> Option<Cause> {
         self.trouble.take()
     }
 
-    // Writes the file, where there is one.
+    // Writes the file, if there is one.
     fn write<R: Files + RandomSource + AllocGlobal>(&self, rt: &R) -> io::Result<()> {
         let (Some(path), Some(history)) = (&self.path, self.history.take()) else {
             return Ok(());
@@ -172,7 +172,7 @@ impl KnownAddresses {
     }
 }
 
-// Writes a file in the place of the one of this path, with the mode and, where that may be, the owner of that one.
+// Replaces the file at this path, keeping its mode and, if permitted, its owner.
 fn replace_file<R: Files + RandomSource + AllocGlobal>(
     rt: &R,
     alloc: Global,
@@ -195,7 +195,7 @@ fn replace_file<R: Files + RandomSource + AllocGlobal>(
     Ok(())
 }
 
-// The path that the text of a file is kept at which was no history: where there is such a file already, with a number.
+// The path for the copy of a file that was not a history; with a number if there is such a file already.
 fn free_aside<R: Files>(rt: &R, alloc: Global, path: &str) -> io::Result<String> {
     let first = format!(in alloc; "{path}{ASIDE}")?;
     if !fs::exists(rt, first.as_str())? {
@@ -217,7 +217,7 @@ fn new_history(alloc: Global) -> io::Result<History> {
     }
 }
 
-// The bytes of a file that is not too long; none where it isn't there.
+// The bytes of a file that is not too long; empty if it doesn't exist.
 fn read_if_there<R: Files + AllocGlobal>(rt: &R, alloc: Global, path: &str) -> io::Result<Vec<u8>> {
     match fs::metadata(rt, path) {
         Ok(there) if there.is_file() && there.len() <= MOST_OCTETS => fs::read(rt, path),
@@ -233,7 +233,7 @@ fn tell_from<R: Net + Clock>(
     asked: &AskedWays,
     history: &Option<History>,
     known: &[Known],
-) -> Result<Vec<Known>, AllocError>
+) -> Result<Vec<Known>, Memory>
     ensures { IfOk result (λ told. ips_of told.items ≡ ips_of known.now) }
 {
     let now = second_now(rt);
@@ -244,7 +244,7 @@ fn tell_from<R: Net + Clock>(
     Ok(told)
 }
 
-// The address with what counts of it in this second.
+// The address with the history that counts in this second.
 fn tell_one<R: Net>(
     rt: &R,
     asked: &AskedWays,
@@ -264,7 +264,7 @@ fn tell_one<R: Net>(
     }
 }
 
-// What counts of an address in this second, where the kernel takes the source that it took then.
+// The history of an address that counts in this second, if the kernel selects the source that it selected then.
 fn find_seen<R: Net>(
     rt: &R,
     asked: &AskedWays,
@@ -281,8 +281,8 @@ fn find_seen<R: Net>(
     }
 }
 
-// Forgets the addresses of attempts that failed or had no answer, and takes what was seen of the winner's. Whether
-// anything is changed.
+// Forgets addresses whose attempts failed or had no answer, and takes the winner's result. Returns whether anything
+// changed.
 fn learn_from(history: &mut History, transcript: &Transcript, learnt: Learnt, now: u64) -> bool {
     let mut is_changed = false;
     for line in transcript.attempts() {
@@ -304,7 +304,7 @@ fn learn_line(history: &mut History, line: Line, learnt: Learnt, now: u64) -> bo
     }
 }
 
-// What is seen by the attempt in this second, where it won: its time is that from its own start to the connection.
+// The result of the attempt in this second, if it won: the time from its start to the connection.
 fn seen_by(line: Line, source: Option<Ip>, now: u64) -> Option<Seen>
     ensures { result ≡ seen_by line source now }
 {
@@ -320,8 +320,8 @@ fn seen_by(line: Line, source: Option<Ip>, now: u64) -> Option<Seen>
     })
 }
 
-// Whether what was seen of its address no more counts: the attempt failed, or it waited in vain for the Connection
-// Attempt Delay, in ticks, and for longer than its last connection took.
+// Whether the history of the line's address is void: the attempt failed, or it waited without an answer for the
+// Connection Attempt Delay, in ticks, and longer than the last connection took.
 fn is_lost(line: Line, seen: Seen, delay: u64) -> bool
     ensures { result ≡ is_lost line seen delay }
 {

@@ -1,17 +1,17 @@
-//! The past of a proxy: the records of its races, the last of them as a page, and what was seen of addresses.
+//! The past of a proxy: the records of its races, a page of the last ones, and the history of addresses.
 //!
-//! [`Records`] keeps each race in a file of its own, of which the oldest go where there are too many. [`Recent`] is
-//! the last hundred races, as `GET /` shows them. [`KnownAddresses`] is what earlier races say of addresses (RFC 8305
-//! section 4), with the file that keeps it (`he_cache`). [`given_up_at`] is the record of a race whose client left.
-//! What can't be kept is noted with its [`Cause`], and said once ([`Trouble`]).
+//! [`Records`] keeps each race in its own file and removes the oldest above a limit. [`Recent`] has the last hundred
+//! races, for the page at `GET /`. [`KnownAddresses`] has the history of addresses from earlier races (RFC 8305
+//! section 4), with its file (`he_cache`). [`given_up_at`] is the record of a race whose client left. A failed write
+//! is noted with its [`Cause`], and reported once ([`Trouble`]).
 //!
-//! Proved: what is kept of a race whose client left has the tick at which it was given up as its limit, and replays to
-//! the attempts that were made (`specs/GivenUp`). What a race says of an address is the time from the start of its
-//! attempt to the connection, or that it failed or was silent (`specs/Known`). An address that comes with what is
-//! known of it is the same address.
+//! Proved: the record of a race whose client left has the tick at which it was given up as its limit, and replays to
+//! the attempts that were made (`specs/GivenUp`). A race's result for an address is the time from the start of its
+//! attempt to the connection, or that it failed or was silent (`specs/Known`). Adding its history doesn't change an
+//! address.
 //!
-//! Only tested: what is known of which address, and its file; that a record is written to its file, the files' names,
-//! and that the oldest go; the page.
+//! Tested only: which address has which history, and its file; that a record is written to its file, the files'
+//! names, and that the oldest are removed; the page.
 #![tactic(auto)]
 
 pub mod cause;

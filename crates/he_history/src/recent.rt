@@ -4,20 +4,20 @@ use he_addr::{Family, Memory};
 use he_course::Course;
 use he_draw::{Times, Totals, write_head, write_name, write_section, write_tail};
 use he_timeline::Timeline;
-use std::alloc::{AllocError, Global};
+use std::alloc::Global;
 use std::cell::Cell;
 
-/// How many races the page has at most.
+/// The most races on the page.
 pub const PAGE_RACES: usize = 100;
 
-/// The last races, of which the oldest goes where there are too many.
+/// The last races; above the limit, the oldest is removed.
 #[derive(Drop)]
 pub struct Recent {
     alloc: Global,
     races: Cell<Vec<Shown>>,
 }
 
-/// A race that is shown, and what it is called.
+/// A race on the page, and its name.
 #[derive(Drop)]
 pub struct Shown {
     pub name: String,
@@ -32,7 +32,7 @@ impl Recent {
         }
     }
 
-    /// Adds a race. Where memory is refused it isn't shown.
+    /// Adds a race. If an allocation fails, it isn't shown.
     pub fn add(&self, race: Shown) {
         let mut races = self.races.replace(Vec::new(self.alloc));
         if races.len() >= PAGE_RACES {
@@ -42,11 +42,11 @@ impl Recent {
         self.races.set(races);
     }
 
-    /// Appends a page of the races, the newest first, which a browser reads again every five seconds.
+    /// Appends a page of the races, newest first, which a browser reloads every five seconds.
     ///
     /// # Errors
     ///
-    /// `Memory` where an allocation was refused; a part of the page may be there.
+    /// `Memory` if an allocation fails; part of the page may have been appended.
     pub fn write_page(&self, out: &mut Vec<u8>) -> Result<(), Memory> {
         let races = self.races.replace(Vec::new(self.alloc));
         let written = write_races(self.alloc, races.as_slice(), out);
@@ -68,13 +68,13 @@ fn write_races(alloc: Global, races: &[Shown], out: &mut Vec<u8>) -> Result<(), 
     write_tail(counts.totals()?, out)
 }
 
-// What is counted of the races.
+// The counts of the races.
 #[derive(Drop)]
 struct Counts {
     by_v6: u64,
     by_v4: u64,
     not_won: u64,
-    // The times to connect of those that were won.
+    // The times to connect of the won races.
     times: Vec<u64>,
     end: u64,
 }
@@ -126,7 +126,7 @@ impl Counts {
     }
 }
 
-// Of sorted times, the least within which so many of 100 connect.
+// Of sorted times, the least within which 50, 90 and 99 percent connect.
 fn times_of(times: &[u64]) -> Option<Times> {
     Some(Times {
         median: within(times, 50)?,

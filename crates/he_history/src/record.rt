@@ -1,27 +1,28 @@
-//! The files of the races' records.
+//! The record files of races.
 
 use crate::cause::Cause;
 use crate::trouble::Trouble;
-use std::alloc::{AllocError, AllocGlobal, Global};
+use he_addr::Memory;
+use std::alloc::{AllocGlobal, Global};
 use std::cell::Cell;
 use std::fs::{File, create_dir_all, hard_link, read_dir, remove_dir, remove_file};
 use std::io;
 use std::io::{ErrorKind, Write};
 use std::rt::Files;
 
-// How the name of a record ends.
+// The suffix of a record's name.
 const EXTENSION: &str = ".timeline";
 
-// How many octets a host's name has in the name of its record at most: a host may have 255, as a file's name may.
+// The most octets of a host in a record's name: a host may have 255, and so may a file name.
 const MOST_HOST: usize = 180;
 
-// How many races of one host and port may begin in one millisecond, each with a file of its own.
+// The most races of one host and port that begin in one millisecond, each with its own file.
 const MOST_TWINS: u32 = 1_000;
 
-// How many records one connection removes at most.
+// The most records that are removed after one race.
 const MOST_REMOVED: u32 = 4;
 
-// How many of the oldest records are listed at once.
+// The most of the oldest records listed at once.
 const MOST_LISTED: usize = 1_000;
 
 /// The directory of the records: `DIR/2026-11-26/16-34-40.123-example.org-443.timeline`, days and times in UTC.
@@ -31,24 +32,24 @@ pub struct Records {
     dir: String,
     most: u32,
     count: Cell<u32>,
-    // How many records may be kept until they are counted again, since others may have removed some.
+    // The number of records to keep until they are counted again, since others may have removed some.
     recount: Cell<u32>,
-    // The oldest records as they were listed last, the oldest at the end.
+    // The oldest records of the last listing, the oldest last.
     oldest: Cell<Vec<String>>,
     trouble: Trouble,
 }
 
-/// A race's place among the records: when it began, and what was asked for.
+/// The name of a race's record: when it began, and its target.
 #[derive(Clone, Copy)]
 pub struct RecordName<'a> {
-    /// As `stamp_now` has it.
+    /// As from `stamp_now`.
     pub began: &'a str,
     pub host: &'a str,
     pub port: u16,
 }
 
 impl Records {
-    /// The records in this directory, which is made where it is missing, of which at most so many are kept.
+    /// The records in this directory, which is created if missing. At most `most` are kept.
     ///
     /// # Errors
     ///
@@ -71,8 +72,8 @@ impl Records {
         })
     }
 
-    /// Keeps a record, in a file of its own; gives its name below the directory. The file has that name once all is
-    /// written. Where there are more records then than are kept, some of the oldest go. What fails is noted.
+    /// Keeps a record in its own file, and returns its path in the directory. The file gets its name after it is
+    /// written. If there are then more records than the limit, some of the oldest are removed. A failure is noted.
     pub fn keep<R: Files + AllocGlobal + Copy>(
         &self,
         rt: &R,
@@ -88,7 +89,7 @@ impl Records {
         kept
     }
 
-    /// Why a record can't be kept, where that is not said yet.
+    /// Why a record can't be kept, if not yet reported.
     pub fn fault(&self) -> Option<Cause> {
         self.trouble.take()
     }
@@ -112,7 +113,7 @@ impl Records {
         Ok(format!(in alloc; "{date}/{file}")?)
     }
 
-    // Removes the oldest records where there are too many, a few at once.
+    // Removes the oldest records above the limit, a few at a time.
     fn make_room<R: Files + AllocGlobal + Copy>(&self, rt: &R) -> io::Result<()> {
         for _ in 0..MOST_REMOVED {
             if self.count.get() <= self.most || !self.remove_oldest(rt)? {
@@ -122,7 +123,7 @@ impl Records {
         Ok(())
     }
 
-    // Removes the oldest record, where there are too many once those are counted again that are there.
+    // Removes the oldest record if, after they are counted again, there are too many.
     fn remove_oldest<R: Files + AllocGlobal + Copy>(&self, rt: &R) -> io::Result<bool> {
         self.count_again(rt)?;
         if self.count.get() <= self.most {
@@ -145,7 +146,7 @@ impl Records {
         Ok(true)
     }
 
-    // Counts the records after each hundredth of them.
+    // Counts the records again after each hundredth of them.
     fn count_again<R: Files + AllocGlobal + Copy>(&self, rt: &R) -> io::Result<()> {
         match self.recount.get().checked_sub(1) {
             Some(left) => self.recount.set(left),
@@ -159,7 +160,8 @@ impl Records {
     }
 }
 
-// The name of a record without its end: of the host, characters other than letters, digits, `-`, `.` and `:` are `_`.
+// The name of a record without its suffix. In the host, characters other than letters, digits, `-`, `.` and `:`
+// become `_`.
 fn stem_of(alloc: Global, time: &str, name: RecordName<'_>) -> io::Result<String> {
     let mut stem = String::new(alloc);
     for byte in time.as_bytes() {
@@ -178,8 +180,8 @@ fn stem_of(alloc: Global, time: &str, name: RecordName<'_>) -> io::Result<String
     Ok(format!(in alloc; "{stem}-{port}")?)
 }
 
-// Writes a new file of the day and gives its name, which it has once all is written: with a number after it, where
-// another race of the host began in the same millisecond.
+// Writes a new file of the day and returns its name, which it gets after it is written; with a number if another race
+// of the host began in this millisecond.
 fn write_new<R: Files + AllocGlobal + Copy>(
     rt: &R,
     alloc: Global,
@@ -201,7 +203,7 @@ fn write_file<R: Files>(rt: &R, path: &str, text: &[u8]) -> io::Result<()> {
     file.write_all(text)
 }
 
-// Gives the file beside a name of the day that no other has.
+// Links the temporary file to a free name of the day, and returns the name.
 fn give_name<R: Files + AllocGlobal + Copy>(
     rt: &R,
     alloc: Global,
@@ -221,14 +223,14 @@ fn give_name<R: Files + AllocGlobal + Copy>(
     Err(ErrorKind::AlreadyExists.into())
 }
 
-fn name_of(alloc: Global, stem: &str, number: u32) -> Result<String, AllocError> {
+fn name_of(alloc: Global, stem: &str, number: u32) -> Result<String, Memory> {
     match number {
         1 => format!(in alloc; "{stem}{EXTENSION}"),
         _ => format!(in alloc; "{stem}-{number}{EXTENSION}"),
     }
 }
 
-// Some of the oldest records, the oldest at the end; days without a record are removed.
+// Some of the oldest records, the oldest last. Removes days without a record.
 fn oldest_in<R: Files + AllocGlobal + Copy>(
     rt: &R,
     alloc: Global,
@@ -241,13 +243,13 @@ fn oldest_in<R: Files + AllocGlobal + Copy>(
             records.reverse();
             return Ok(records);
         }
-        // What else is there stays, and its directory with it.
+        // A directory that holds anything else stays.
         let _ = remove_dir(rt, day.as_str());
     }
     Ok(Vec::new(alloc))
 }
 
-// How many records there are.
+// The number of records.
 fn count_in<R: Files + AllocGlobal + Copy>(rt: &R, alloc: Global, dir: &str) -> io::Result<u32> {
     let mut count = 0u32;
     for day in days_in(rt, alloc, dir)?.iter() {
@@ -278,7 +280,7 @@ fn records_in<R: Files + AllocGlobal + Copy>(
     paths_in(rt, alloc, day, is_record)
 }
 
-// The paths of what has such a name in a directory, in the names' order.
+// The paths of a directory's entries with wanted names, sorted by name.
 fn paths_in<R: Files + AllocGlobal + Copy, F: Fn(&str) -> bool>(
     rt: &R,
     alloc: Global,
@@ -298,7 +300,7 @@ fn paths_in<R: Files + AllocGlobal + Copy, F: Fn(&str) -> bool>(
     Ok(paths)
 }
 
-// A name such as 2026-11-26.
+// Whether it is a name like 2026-11-26.
 fn is_day(name: &str) -> bool {
     name.len() == 10
         && name

@@ -1,16 +1,17 @@
-//! Times of day, in UTC.
+//! Times, in UTC.
 
+use he_addr::Memory;
 use jiff::Timestamp;
-use std::alloc::{AllocError, Global};
+use std::alloc::Global;
 use std::time::Clock;
 
-/// The time now as RFC 3339 has it, with milliseconds: `2026-11-26T16:34:40.123Z`. None where the clock fails.
+/// The current time as in RFC 3339, with milliseconds: `2026-11-26T16:34:40.123Z`. None if the clock fails.
 pub fn stamp_now<R: Clock>(rt: &R, alloc: Global) -> Option<String> {
     let now = Timestamp::now(rt).ok()?;
     format!(in alloc; "{now:.3}").ok()
 }
 
-/// The whole seconds since 1970, by the clock of the time of day. None where the clock fails, or is before that.
+/// Whole seconds since 1970, by the system clock. None if the clock fails, or is before 1970.
 pub fn second_now<R: Clock>(rt: &R) -> Option<u64> {
     u64::try_from(Timestamp::now(rt).ok()?.as_second()).ok()
 }

@@ -1,10 +1,10 @@
-//! A fault of the system that may last, and is said once.
+//! A system error that may last, reported once.
 
 use crate::cause::Cause;
 use std::cell::Cell;
 use std::io;
 
-/// Whether something fails, and whether that was said.
+/// Whether something fails, and whether that was reported.
 #[derive(Drop)]
 pub struct Trouble {
     state: Cell<State>,
@@ -18,14 +18,14 @@ enum State {
 }
 
 impl Trouble {
-    /// Nothing has failed yet.
+    /// No failure.
     pub fn none() -> Trouble {
         Trouble {
             state: Cell::new(State::Well),
         }
     }
 
-    /// Notes how it went this time.
+    /// Records this result.
     pub fn note(&self, done: &io::Result<()>) {
         match (done, self.state.get()) {
             (Ok(()), _) => self.state.set(State::Well),
@@ -34,7 +34,7 @@ impl Trouble {
         }
     }
 
-    /// The fault that is to be said: the first one, and the first one after each time that it went well.
+    /// The error to report: the first one, and the first one after each success.
     pub fn take(&self) -> Option<Cause> {
         match self.state.get() {
             State::Fails(cause) => {

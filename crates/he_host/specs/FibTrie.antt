@@ -1,5 +1,5 @@
--- /proc/net/fib_trie: the tables of IPv4 routes, each as a tree below its heading. In the table `Local:` an address of
--- the host is a leaf, a line `|-- ADDRESS`, with a line `/32 host LOCAL` among those below it.
+-- /proc/net/fib_trie: the IPv4 routing tables, each as a tree after its heading. In the table `Local:` an address of
+-- the host is a leaf, a line `|-- ADDRESS`, with a line `/32 host LOCAL` among those after it.
 use Rattle.std.specs.Prelude.{ℕ, ◌++◌, ◌||◌, ◌&&◌, Bool, true, false, codes, List, [], ◌∷◌, Option, Some, None, if◌then◌else◌}
 use Rattle.std.specs.Str.{bytes_eq}
 use Rattle.he_addr.specs.declared.ip.Ip.{Ip}
@@ -11,7 +11,7 @@ use Rattle.he_host.specs.declared.fib_trie.TrieLine.TheVariants.{Heading, Leaf, 
 use Rattle.he_host.specs.declared.fib_trie.TrieState.{TrieState}
 use Rattle.he_kernel.specs.Parts.{field_of}
 
--- the line is `/32 host LOCAL`; none where it has fewer fields
+-- the line is `/32 host LOCAL`; none if it has fewer fields
 unfoldable pub is_own : List ℕ → Option Bool
 is_own line = do
   len ← field_of 0 line
@@ -38,25 +38,25 @@ line_by line (Some first) =
     else (if bytes_eq first (codes "Main:") || bytes_eq first (codes "Id") then Heading false
     else own_or_other (is_own line)))
 
--- what a line says, by its first field
+-- the meaning of a line, by its first field
 unfoldable pub trie_line : List ℕ → TrieLine
 trie_line line = line_by line (field_of 0 line)
 
--- where one stands after a line: a heading begins a table, a leaf stands until the next one
+-- the state after a line: a heading begins a table, a leaf is current until the next one
 abbrev pub step : TrieState → TrieLine → TrieState
 step walk (Heading is_local) = record { is_local = is_local; leaf = None }
 step walk (Leaf leaf) = record { is_local = walk.is_local; leaf = leaf }
 step walk Own = walk
 step walk Other = walk
 
--- the line tells that the leaf is an address of this machine
+-- the line means that the leaf is an address of this machine
 abbrev pub told : TrieState → TrieLine → Bool
 told walk Own = walk.is_local
 told walk (Heading is_local) = false
 told walk (Leaf leaf) = false
 told walk Other = false
 
--- the addresses that the lines tell to one who stands here
+-- the addresses in the lines, from this state on
 abbrev pub own_from : TrieState → List (ℕ × List ℕ) → List OwnAddress
 own_from walk [] = []
 own_from walk (line ∷ lines) =
@@ -66,6 +66,6 @@ own_from walk (line ∷ lines) =
 abbrev pub nowhere : TrieState
 nowhere = record { is_local = false; leaf = None }
 
--- the addresses that all lines tell
+-- the addresses in all lines
 unfoldable pub own_addresses : List (ℕ × List ℕ) → List OwnAddress
 own_addresses lines = own_from nowhere lines

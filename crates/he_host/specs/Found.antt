@@ -1,4 +1,4 @@
--- What a line of a file says, by its file, with the interface that it names.
+-- The source or route of a line, by its file and the interface that it names.
 use Rattle.std.specs.Prelude.{ℕ, ◌==◌, List, Option, Some, None, Result, Err, if◌then◌else◌}
 use Rattle.he_select.specs.declared.host.Source.{Source}
 use Rattle.he_host.specs.declared.found.FoundRoute.{FoundRoute}
@@ -39,12 +39,12 @@ v6_source interfaces line = source_by (link_at interfaces 5 line) (address_line 
 unfoldable pub v6_route : List Interface → List ℕ → Result Metered Why
 v6_route interfaces line = route_by (link_at interfaces 9 line) (route_line line)
 
--- a line of /proc/net/route, whose field 0 is the interface; its first line names the fields
+-- a line of /proc/net/route, whose field 0 is the interface; the first line has the field names
 unfoldable pub v4_route_read : List Interface → ℕ → List ℕ → Result Metered Why
 v4_route_read interfaces number line =
     if number == HEADING then Err whys.Internal else v4_route_by (link_at interfaces 0 line) (v4_line line)
 
--- what a line with its number says
+-- the result for a line and its number
 abbrev pub found_v6_source : List Interface → ℕ × List ℕ → FoundSource
 found_v6_source interfaces line = record { file = files.IfInet6; line = line.0; read = v6_source interfaces line.1 }
 

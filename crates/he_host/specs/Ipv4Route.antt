@@ -10,11 +10,11 @@ use Rattle.he_kernel.specs.declared.link.Link.{Link}
 use Rattle.he_kernel.specs.declared.why.Why.{Why}
 use Rattle.he_kernel.specs.declared.why.Why.TheVariants as whys
 
--- how many ones a mask begins with, after the 96 bits of the mapped addresses
+-- the number of leading ones of a mask, after the 96 bits of mapped addresses
 abbrev pub mask_len : ℕ → ℕ
 mask_len mask = 96 + common_of (V4 mask) 32 (V4 (2 ^ 32 - 1))
 
--- the prefix of a network and its mask; none where a bit is set past the ones that the mask begins with
+-- the prefix of a network and its mask; none if a bit is set after the mask's leading ones
 unfoldable pub masked : ℕ → ℕ → Option PrefixBits
 masked number mask = do
   whole ← checked (record { bits = mapped_of (V4 mask); len = mask_len mask })
@@ -30,12 +30,12 @@ v4_route_on read prefix (Some link) =
       carrier = link.carrier;
     })
 
--- the route to a prefix, by the line's flags: no route for one that leads nowhere
+-- the route to a prefix, by the line's flags; none for one that leads nowhere
 abbrev pub v4_route_to : V4Line → Option Link → Option PrefixBits → Result Metered Why
 v4_route_to read link None = Err whys.Unclear
 v4_route_to read link (Some prefix) =
     if read.nowhere then Err whys.Unreachable else v4_route_on read prefix link
 
--- the route of a line, by its interface; without a gateway it leads to the addresses of a link
+-- the route of a line, by its interface; without a gateway it is connected
 unfoldable pub v4_route : V4Line → Option Link → Result Metered Why
 v4_route read link = v4_route_to read link (masked read.destination read.mask)

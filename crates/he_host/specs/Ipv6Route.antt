@@ -1,5 +1,6 @@
--- /proc/net/ipv6_route: one line for each IPv6 route of every table, of ten fields: destination and its prefix length,
--- source and its length, next hop, metric, two counts and flags, all in hexadecimal, and the interface's name.
+-- /proc/net/ipv6_route: one line for each IPv6 route of every table, with ten fields: destination and its prefix
+-- length, source and its length, next hop, metric, two counts and flags, all in hexadecimal, and the interface's
+-- name.
 use Rattle.std.specs.Prelude.{ℕ, ◌/◌, ◌^◌, ◌==◌, ◌&&◌, ◌||◌, Bool, false, not, List, Option, Some, None, Result, Ok, Err, if◌then◌else◌}
 use Rattle.he_addr.specs.Prefix.{PrefixBits}
 use Rattle.he_addr.specs.Reading.{◌>>=◌, checked}
@@ -24,9 +25,9 @@ abbrev pub is_loopback : Option Link → Bool
 is_loopback None = false
 is_loopback (Some link) = link.loopback
 
--- A route of the kernel's own: to an address of this machine that isn't on the loopback interface; to an anycast
--- address; a cached one; the one that leads nowhere with which each table ends; one to a network of the loopback
--- interface, which leads nowhere but to the host's own address; one that isn't in use; one to multicast, ff00::/8.
+-- An internal route of the kernel: to an address of this machine that isn't on the loopback interface; to an anycast
+-- address; a cached one; the unreachable one at the end of each table; one to a network of the loopback interface,
+-- which reaches only the host's own address; one not in use; one to multicast, ff00::/8.
 unfoldable pub is_internal : RouteLine → Option Link → Bool
 is_internal read link =
     (has read.flags LOCAL && not (is_loopback link))
@@ -46,7 +47,7 @@ route_on read prefix (Some link) =
       carrier = link.carrier;
     })
 
--- the route to a prefix, by the line's flags: no route for one that leads nowhere
+-- the route to a prefix, by the line's flags; none for one that leads nowhere
 abbrev pub route_to : RouteLine → Option Link → Option PrefixBits → Result Metered Why
 route_to read link None = Err whys.Unclear
 route_to read link (Some prefix) =

@@ -1,5 +1,5 @@
--- Where the host's IPv4 addresses are. No file tells their interfaces and the lengths of their links' prefixes: an
--- address is where the longest connected route is that holds it, which is the first of several.
+-- The interfaces and prefix lengths of the host's IPv4 addresses. No file has them: they are those of the longest
+-- connected route that contains the address, the first of several.
 use Rattle.std.specs.Prelude.{◌-◌, ◌/◌, ◌^◌, ◌==◌, ◌&&◌, Bool, false, not, List, [], ◌∷◌, Option, Some, None, Result, Ok, Err, nat_le, if◌then◌else◌}
 use Rattle.he_addr.specs.declared.ip.Ip.{Ip}
 use Rattle.he_addr.specs.declared.ip.Ip.TheVariants.{V4, V6}
@@ -26,11 +26,11 @@ abbrev pub is_loopback : Ip → Bool
 is_loopback (V4 number) = number / 2 ^ 24 == 127
 is_loopback (V6 number) = false
 
--- a connected route holds the address: one with a prefix of IPv4 addresses that isn't 0.0.0.0/0
+-- a connected route contains the address: its prefix is an IPv4 one other than 0.0.0.0/0
 abbrev pub holds : Ip → Metered → Bool
 holds ip metered = metered.connected && not (nat_le metered.route.prefix.len 96) && contains metered.route.prefix ip
 
--- the longer one of two routes, the first of two that are as long
+-- the longer of two routes, the first if they are equally long
 abbrev pub longer_route : Route → Route → Route
 longer_route kept other = if nat_le other.prefix.len kept.prefix.len then kept else other
 
@@ -38,7 +38,7 @@ abbrev pub longest_route : Option Route → Route → Route
 longest_route None route = route
 longest_route (Some best) route = longer_route best route
 
--- the longest route, with one more that may hold the address
+-- the longest route, after one more that may contain the address
 abbrev pub longer : Ip → Option Route → Metered → Option Route
 longer ip best metered = if holds ip metered then Some (longest_route best metered.route) else best
 
@@ -46,12 +46,12 @@ abbrev pub longer_read : Ip → Option Route → Result Metered Why → Option R
 longer_read ip best (Err why) = best
 longer_read ip best (Ok metered) = longer ip best metered
 
--- the longest route that holds the address, where `best` is the longest of those before
+-- the longest route that contains the address, where `best` is the longest before these
 abbrev pub connected_from : Ip → Option Route → List FoundRoute → Option Route
 connected_from ip best [] = best
 connected_from ip best (found ∷ more) = connected_from ip (longer_read ip best found.read) more
 
--- where the kernel says that the address is
+-- the place of the address by the kernel's answers
 abbrev pub asked_for : Ip → List InterfaceAnswer → Option Place
 asked_for ip [] = None
 asked_for ip (told ∷ more) =
@@ -70,7 +70,7 @@ abbrev pub connected_place : Option Place → Option Route → Result Place Why
 connected_place told None = asked_place told
 connected_place told (Some route) = Ok (record { plen = route.prefix.len - 96; interface = route.interface })
 
--- where an IPv4 address is: on the loopback interface, where its connected route is, or else where the kernel says
+-- the place of an IPv4 address: the loopback interface, that of its connected route, or else the kernel's answer
 unfoldable pub place_of : List Interface → List FoundRoute → List InterfaceAnswer → Ip → Result Place Why
 place_of interfaces routes asked ip =
     if is_loopback ip then loopback_place (loopback_of interfaces)
@@ -93,7 +93,7 @@ unfoldable pub read_own : List Interface → List FoundRoute → List InterfaceA
 read_own interfaces routes asked None = Err whys.Unclear
 read_own interfaces routes asked (Some ip) = usable_source interfaces routes asked ip
 
--- what an address of /proc/net/fib_trie says
+-- the result for an address of /proc/net/fib_trie
 abbrev pub found_own : List Interface → List FoundRoute → List InterfaceAnswer → OwnAddress → FoundSource
 found_own interfaces routes asked address =
     record { file = files.FibTrie; line = address.line; read = read_own interfaces routes asked address.ip }

@@ -1,4 +1,4 @@
--- The machine of the files: what each says, and what is kept of it.
+-- The machine by the files: the result for each line, and which are kept.
 use Rattle.std.specs.Prelude.{◌≡◌, ◌++◌, false, true, List, [], Option, Some, None, Ok, drop, length, map, min, take, option_to_list}
 use Rattle.he_select.specs.HostFaults.{host_of}
 use Rattle.he_select.specs.Hosts.{HostLists}
@@ -19,7 +19,7 @@ use Rattle.he_host.specs.Interfaces.{loopback_of}
 use Rattle.he_kernel.specs.Lines.{numbered}
 use Rattle.he_host.specs.Placing.{found_own}
 
--- the route to the loopback's IPv4 addresses, 127.0.0.0/8, which is in no file
+-- the route to the loopback's IPv4 addresses, 127.0.0.0/8, which no file has
 abbrev pub loopback_found : Option Link → Option FoundRoute
 loopback_found None = None
 loopback_found (Some link) =
@@ -39,18 +39,18 @@ loopback_found (Some link) =
           });
     })
 
--- what is found of routes
+-- the routes found
 unfoldable pub routes_in : Files → List Interface → List FoundRoute
 routes_in given interfaces =
     option_to_list (loopback_found (loopback_of interfaces))
     ++ map (found_v6_route interfaces) (numbered given.ipv6_route.now)
     ++ map (found_v4_route interfaces) (numbered given.route.now)
 
--- what is found of IPv6 sources
+-- the IPv6 sources found
 unfoldable pub v6_sources_in : Files → List Interface → List FoundSource
 v6_sources_in given interfaces = map (found_v6_source interfaces) (numbered given.if_inet6.now)
 
--- what is found of IPv4 sources, whose places the routes tell
+-- the IPv4 sources found, at places by the routes
 unfoldable pub v4_sources_in : Files → List Interface → List FoundRoute → List InterfaceAnswer → List FoundSource
 v4_sources_in given interfaces routes asked =
     map (found_own interfaces routes asked) (own_addresses (numbered given.fib_trie.now))
@@ -59,13 +59,13 @@ v4_sources_in given interfaces routes asked =
 abbrev pub in_turn : List FoundSource → List FoundSource → List FoundSource
 in_turn v4 v6 = take (min (length v4) FIRST) v4 ++ v6 ++ drop (min (length v4) FIRST) v4
 
--- the machine is that of what is kept of these, and what is left out is told, of sources first
+-- the machine has the kept ones of these, and the report has those left out, sources first
 pub record HasKept (sources_found : List FoundSource) (routes_found : List FoundRoute) (host : HostLists)
     (left : List LeftOut) : Type 0 where
   pub made : Ok host ≡ host_of (sources_kept [] (map source_read sources_found)) (routes_kept [] (map route_read routes_found))
   pub told : left ≡ sources_left [] sources_found ++ routes_left [] routes_found
 
--- the machine of the files, and what is left out of it, with routes that are those of the files by rank
+-- the machine by the files, and the lines left out, with the files' routes by rank
 abbrev pub IsHostOf : Files → List Interface → List FoundRoute → List InterfaceAnswer → HostLists → List LeftOut → Type 0
 IsHostOf given interfaces routes asked host left =
     HasKept (in_turn (v4_sources_in given interfaces routes asked) (v6_sources_in given interfaces)) routes host left

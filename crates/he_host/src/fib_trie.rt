@@ -1,5 +1,5 @@
-// /proc/net/fib_trie: the tables of IPv4 routes as trees. In the part `Local:` each address of this machine stands as
-// a leaf, `|-- 192.0.2.2`, with the line `/32 host LOCAL` below.
+// /proc/net/fib_trie: the IPv4 routing tables as trees. In the part `Local:` each address of this machine is a leaf,
+// `|-- 192.0.2.2`, with the line `/32 host LOCAL` after it.
 
 ghost use Rattle.std.specs.Prelude.{◌≡◌, map, IfOk};
 ghost use Rattle.he_host.specs.FibTrie.{trie_line, is_own, step, told, own_from, nowhere, own_addresses};
@@ -10,26 +10,26 @@ use he_kernel::lines::NumberedLine;
 use he_kernel::parts::field;
 use std::alloc::Allocator;
 
-/// What a line says.
+/// The meaning of a line.
 #[derive(Clone, Copy, Debug, PartialEq, Eq)]
 pub enum TrieLine {
-    /// A table begins; whether it is that of this machine's own addresses.
+    /// The start of a table, and whether it has this machine's own addresses.
     Heading(bool),
-    /// A leaf: an address, or the first one of a network; None where it isn't understood.
+    /// A leaf: an address, or the first one of a network; None if it can't be parsed.
     Leaf(Option<Ip>),
-    /// The leaf above is an address of this machine.
+    /// The last leaf is an address of this machine.
     Own,
     Other,
 }
 
-/// Where a walk through the file stands: whether in the part `Local:`, and below which leaf.
+/// The position in the file: whether in the part `Local:`, and the last leaf.
 #[derive(Clone, Copy, Debug, PartialEq, Eq)]
 pub struct TrieState {
     pub is_local: bool,
     pub leaf: Option<Ip>,
 }
 
-/// An IPv4 address of this machine, with the number of its line; None where it isn't understood.
+/// An IPv4 address of this machine, with its line number; None if it can't be parsed.
 #[derive(Clone, Copy, Debug, PartialEq, Eq)]
 pub struct OwnAddress {
     pub line: u64,
@@ -46,7 +46,7 @@ fn is_own(line: &[u8]) -> Option<bool>
     Some(length == b"/32".as_slice() && scope == b"host".as_slice() && kind == b"LOCAL".as_slice())
 }
 
-/// What a line says.
+/// The meaning of a line.
 #[tactic(auto, unfolding(crate::specs::FibTrie::trie_line))]
 pub fn read_trie_line(line: &[u8]) -> TrieLine
     ensures { result ≡ trie_line line.now }
@@ -103,11 +103,11 @@ impl TrieState {
     }
 }
 
-/// This machine's addresses of all lines.
+/// This machine's addresses in all lines.
 ///
 /// # Errors
 ///
-/// [`Memory`]: an allocation was refused.
+/// [`Memory`] if an allocation fails.
 #[tactic(auto, unfolding(crate::specs::FibTrie::own_addresses))]
 pub fn read_own_addresses<A: Allocator + Copy>(
     alloc: A,

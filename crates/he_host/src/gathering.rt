@@ -1,4 +1,4 @@
-// All files together: the machine, and what it has no place for.
+// Gathers all files: the machine, and the lines that it leaves out.
 
 ghost use Rattle.std.specs.Prelude.{◌≡◌, ◌++◌, OnOk, map};
 ghost use Rattle.he_host.specs.Gathering.{family_len, rank, usable_route, source_read, route_read, sources_left, routes_left, IsRanked};
@@ -11,11 +11,11 @@ use he_addr::{Memory, Prefix};
 use he_kernel::keeping::{judge_route, judge_source};
 use he_kernel::why::Why;
 use he_select::{Route, Source};
-use std::alloc::{AllocError, Allocator};
+use std::alloc::Allocator;
 
 const METRICS: u128 = 0x1_0000_0000_0000_0000;
 
-// The length of a prefix among those of its family, of which 0 holds all addresses.
+// The length of a prefix in its family, 0 for all addresses.
 fn family_len(prefix: Prefix) -> u8
     ensures { result ≡ family_len prefix }
 {
@@ -26,8 +26,8 @@ fn family_len(prefix: Prefix) -> u8
     }
 }
 
-// Routes are kept by the length of the prefix, then by the metric: a wider route stands in for a longer one that there
-// is no place for, and many routes of one family leave the other its wide ones.
+// Routes are kept by prefix length, then by metric: a wider route replaces a longer one that exceeds the limit, and
+// many routes of one family leave room for the other's wide ones.
 fn rank(read: Result<Metered, Why>) -> u128
     ensures { result ≡ rank read }
 {
@@ -44,18 +44,18 @@ fn rank_of(found: &FoundRoute) -> u128
     rank(found.read)
 }
 
-/// Puts routes in the order in which they are kept.
+/// Sorts routes into the order in which they are kept.
 ///
 /// # Errors
 ///
-/// [`AllocError`]: an allocation was refused.
-pub fn rank_routes<A: Allocator>(found: &mut Vec<FoundRoute, A>) -> Result<(), AllocError>
+/// [`Memory`] if an allocation fails.
+pub fn rank_routes<A: Allocator>(found: &mut Vec<FoundRoute, A>) -> Result<(), Memory>
     ensures { OnOk result (IsRanked found.old.items found.new.items) }
 {
     found.sort_by_key(|found| rank_of(found))
 }
 
-// A route whose interface has a carrier; the others are of no use.
+// A route whose interface has a carrier; others are not used.
 fn usable_route(read: Result<Metered, Why>) -> Result<Route, Why>
     ensures { result ≡ usable_route read }
 {
@@ -66,11 +66,11 @@ fn usable_route(read: Result<Metered, Why>) -> Result<Route, Why>
     }
 }
 
-/// Keeps sources after those that are kept already, and reports which lines are left out.
+/// Keeps sources after those in `kept`, and reports the lines that are left out.
 ///
 /// # Errors
 ///
-/// [`Memory`]: an allocation was refused.
+/// [`Memory`] if an allocation fails.
 pub fn keep_sources<A: Allocator + Copy>(
     found: &[FoundSource],
     kept: &mut Vec<Source, A>,
@@ -92,11 +92,11 @@ pub fn keep_sources<A: Allocator + Copy>(
     Ok(())
 }
 
-/// Keeps routes after those that are kept already, and reports which lines are left out.
+/// Keeps routes after those in `kept`, and reports the lines that are left out.
 ///
 /// # Errors
 ///
-/// [`Memory`]: an allocation was refused.
+/// [`Memory`] if an allocation fails.
 pub fn keep_routes<A: Allocator + Copy>(
     found: &[FoundRoute],
     kept: &mut Vec<Route, A>,

@@ -1,4 +1,4 @@
-// The machine of the files.
+// The machine by the files.
 
 ghost use Rattle.std.specs.Prelude.{◌≡◌, IfOk};
 ghost use Rattle.he_host.specs.Gathering.{IsRanked};
@@ -18,16 +18,16 @@ use he_kernel::lines::read_lines;
 use he_select::{Host, Route, Source};
 use std::alloc::Allocator;
 
-/// The IPv4 addresses that are kept before the IPv6 ones. The others come after these, so that of many addresses of
-/// one family there is place for some of the other.
+/// The number of IPv4 addresses kept before the IPv6 ones. The others come after those, so that many addresses of one
+/// family leave room for the other.
 pub const FIRST: usize = 32;
 
-/// 127.0.0.0/8 as a prefix of mapped addresses.
+/// 127.0.0.0/8 as an IPv4-mapped prefix.
 const LOOPBACK_BITS: u128 = 0xffff_7f00_0000;
 
 const LOOPBACK_LEN: u8 = 104;
 
-/// The bytes of the files below `/proc/net`; empty where one isn't there.
+/// The bytes of the files in `/proc/net`; empty for one that doesn't exist.
 #[derive(Clone, Copy, Debug)]
 pub struct Files<'t> {
     pub if_inet6: &'t [u8],
@@ -36,14 +36,14 @@ pub struct Files<'t> {
     pub route: &'t [u8],
 }
 
-/// A machine and the lines that it has no place for.
+/// A machine and the lines that it leaves out.
 #[derive(Drop)]
 pub struct FoundHost<A: Allocator> {
     pub host: Host<A>,
     pub left_out: Vec<LeftOut, A>,
 }
 
-// The route to the loopback's IPv4 addresses, which is in no file; of no line, so that its line is 0.
+// The route to the loopback's IPv4 addresses, which no file has; its line is 0.
 fn find_own_route(interfaces: &[Interface<'_>]) -> Option<FoundRoute>
     ensures { result ≡ loopback_found (loopback_of interfaces.now) }
 {
@@ -66,7 +66,7 @@ fn find_own_route(interfaces: &[Interface<'_>]) -> Option<FoundRoute>
     })
 }
 
-// The routes that the files tell, in their order.
+// The routes of the files, in order.
 #[tactic(auto, unfolding(crate::specs::Whole::routes_in))]
 fn read_routes<A: Allocator + Copy>(
     alloc: A,
@@ -86,11 +86,11 @@ fn read_routes<A: Allocator + Copy>(
     Ok(found)
 }
 
-/// The routes that the files have, by rank.
+/// The routes of the files, by rank.
 ///
 /// # Errors
 ///
-/// [`Memory`]: an allocation was refused.
+/// [`Memory`] if an allocation fails.
 pub fn find_routes<A: Allocator + Copy>(
     alloc: A,
     files: Files<'_>,
@@ -103,7 +103,7 @@ pub fn find_routes<A: Allocator + Copy>(
     Ok(found)
 }
 
-// What the lines of `/proc/net/if_inet6` say.
+// The sources of `/proc/net/if_inet6`.
 #[tactic(auto, unfolding(crate::specs::Whole::v6_sources_in))]
 fn find_v6<A: Allocator + Copy>(
     alloc: A,
@@ -116,7 +116,7 @@ fn find_v6<A: Allocator + Copy>(
     find_v6_sources(alloc, interfaces, &lines)
 }
 
-// What the addresses of `/proc/net/fib_trie` say.
+// The sources of `/proc/net/fib_trie`.
 #[tactic(auto, unfolding(crate::specs::Whole::v4_sources_in))]
 fn find_v4<A: Allocator + Copy>(
     alloc: A,
@@ -146,8 +146,8 @@ fn put_in_turn<A: Allocator + Copy>(
     Ok(turn)
 }
 
-// The machine that keeps of these sources and routes what there is place for. What is kept is a machine's, so that
-// nothing but memory is refused.
+// The machine that keeps these sources and routes up to the limit. The kept ones are valid for a machine, so only
+// memory can fail.
 fn keep<A: Allocator + Copy>(
     alloc: A,
     turn: &[FoundSource],
@@ -164,12 +164,12 @@ fn keep<A: Allocator + Copy>(
     Ok(FoundHost { host, left_out })
 }
 
-/// The machine of the files, and the lines that are left out. `around` has the interfaces, the routes as
-/// [`find_routes`] gives them, and where IPv4 addresses are whose place is in no file.
+/// The machine by the files, and the lines that are left out. `around` has the interfaces, the routes as from
+/// [`find_routes`], and the interfaces of IPv4 addresses that no file locates.
 ///
 /// # Errors
 ///
-/// [`Memory`]: an allocation was refused.
+/// [`Memory`] if an allocation fails.
 pub fn find_host<A: Allocator + Copy>(
     alloc: A,
     files: Files<'_>,

@@ -13,7 +13,7 @@ pub struct Interface<'t> {
     pub link: Link,
 }
 
-/// The first interface of this name that is up and has a number.
+/// The first interface with this name that is up and has an index.
 pub fn find_link(interfaces: &[Interface<'_>], name: &[u8]) -> Option<Link>
     ensures { result ≡ link_of name.now interfaces.now }
 {
@@ -25,7 +25,7 @@ pub fn find_link(interfaces: &[Interface<'_>], name: &[u8]) -> Option<Link>
     None
 }
 
-/// The link of the interface whose name is the field of the line at this place.
+/// The link of the interface named in the field of the line at this place.
 #[tactic(auto, unfolding(crate::specs::Interfaces::link_at))]
 pub fn read_link(interfaces: &[Interface<'_>], line: &[u8], place: usize) -> Option<Link>
     ensures { result ≡ link_at interfaces.now place line.now }
@@ -33,7 +33,7 @@ pub fn read_link(interfaces: &[Interface<'_>], line: &[u8], place: usize) -> Opt
     find_link(interfaces, field(line, place)?)
 }
 
-/// The first loopback interface that is up and has a number.
+/// The first loopback interface that is up and has an index.
 pub fn find_loopback(interfaces: &[Interface<'_>]) -> Option<Link>
     ensures { result ≡ loopback_of interfaces.now }
 {

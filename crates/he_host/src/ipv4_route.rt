@@ -11,7 +11,7 @@ use he_kernel::link::Link;
 use he_kernel::why::Why;
 use he_select::Route;
 
-/// The prefix of an IPv4 network and its mask; None where a bit is set past the mask, or the mask has a gap.
+/// The prefix of an IPv4 network and its mask; None if a bit is set after the mask, or the mask has a gap.
 #[tactic(auto, unfolding(crate::specs::Ipv4Route::masked))]
 pub fn read_mask(number: u32, mask: u32) -> Option<Prefix>
     ensures { result ≡ masked number mask }
@@ -21,7 +21,7 @@ pub fn read_mask(number: u32, mask: u32) -> Option<Prefix>
     Prefix::try_new(Ip::V4(number).mapped(), len)
 }
 
-/// The route of a line whose interface has this link, or why there is none.
+/// The route of a line, by the link of its interface, or why there is none.
 ///
 /// # Errors
 ///

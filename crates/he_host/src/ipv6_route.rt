@@ -20,7 +20,7 @@ const CACHED: u128 = 0x0100_0000;
 
 const LOCAL: u128 = 0x8000_0000;
 
-// The metric of the route that leads nowhere with which the kernel ends each table.
+// The metric of the unreachable route at the end of each of the kernel's tables.
 const LAST_METRIC: u64 = 0xffff_ffff;
 
 // The metric of the kernel's routes to the networks of addresses: those on the loopback interface lead nowhere.
@@ -35,7 +35,7 @@ pub struct RouteLine {
     pub flags: u128,
 }
 
-/// The numbers of a line; None where it isn't understood.
+/// The numbers of a line; None if it can't be parsed.
 #[tactic(auto, unfolding(crate::specs::Ipv6Route::route_line))]
 pub fn read_route_line(line: &[u8]) -> Option<RouteLine>
     ensures { result ≡ route_line line.now }
@@ -52,7 +52,7 @@ pub fn read_route_line(line: &[u8]) -> Option<RouteLine>
     })
 }
 
-// Whether the interface is the loopback: an address on it has no other route than that to itself.
+// Whether the interface is the loopback: an address on it has no route but that to itself.
 fn is_loopback(link: Option<Link>) -> bool
     ensures { result ≡ is_loopback link }
 {
@@ -62,9 +62,9 @@ fn is_loopback(link: Option<Link>) -> bool
     }
 }
 
-/// Whether the route is one of the kernel's own: to an address of this machine that is not on the loopback interface,
-/// to an anycast address, to multicast, cached, not in use, the end of a table, or to a network of the loopback
-/// interface.
+/// Whether the route is an internal one of the kernel: to an address of this machine that is not on the loopback
+/// interface, to an anycast address, to multicast, cached, not in use, the end of a table, or to a network of the
+/// loopback interface.
 #[tactic(auto, unfolding(crate::specs::Ipv6Route::is_internal))]
 pub fn is_internal(read: RouteLine, link: Option<Link>) -> bool
     ensures { result ≡ is_internal read link }
@@ -77,7 +77,7 @@ pub fn is_internal(read: RouteLine, link: Option<Link>) -> bool
         || read.bits >> 120 == 0xff
 }
 
-/// The route of a line whose interface has this link, or why there is none.
+/// The route of a line, by the link of its interface, or why there is none.
 ///
 /// # Errors
 ///

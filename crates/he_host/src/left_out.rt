@@ -1,8 +1,8 @@
-// What a race has no place for, and why.
+// The lines that a race leaves out, and why.
 
 use he_kernel::why::Why;
 
-/// The file in which a line stands.
+/// The file of a line.
 #[derive(Clone, Copy, Debug, PartialEq, Eq)]
 pub enum File {
     /// `/proc/net/if_inet6`
@@ -15,7 +15,7 @@ pub enum File {
     Ipv4Route,
 }
 
-/// A line that is left out; lines are counted from 1.
+/// A line that is left out; lines count from 1.
 #[derive(Clone, Copy, Debug, PartialEq, Eq)]
 pub struct LeftOut {
     pub file: File,

@@ -1,6 +1,6 @@
-// This machine: its files read, what they leave open asked of the kernel, and its lines written.
+// This machine: reads its files, asks the kernel what they leave open, and writes the lines.
 //
-// Proved is that it is safe and ends; what the system answers is in no contract.
+// Proved: this is safe and ends. No contract has the system's answers.
 
 use crate::fib_trie::{OwnAddress, read_own_addresses};
 use crate::found::FoundRoute;
@@ -26,21 +26,21 @@ use std::fs;
 use std::net::Net;
 use std::rt::Files as FileSystem;
 
-// An interface with its name, before it is lent.
+// An interface with its own copy of its name.
 #[derive(Drop)]
 struct Named {
     name: Vec<u8>,
     link: Link,
 }
 
-// The name in a line of `/proc/net/dev`, which stands before a colon.
+// The name in a line of `/proc/net/dev`, before a colon.
 fn name_in<'t>(line: &'t [u8]) -> Option<&'t str> {
     let first = field(line, 0)?;
     let end = first.iter().position(|byte| *byte == b':')?;
     std::str::from_utf8(&first[..end]).ok()
 }
 
-// The interfaces that `/proc/net/dev` names.
+// The interfaces of `/proc/net/dev`.
 fn read_interfaces<R: FileSystem + AllocGlobal>(
     rt: &R,
     remarks: &mut Vec<u8>,
@@ -58,7 +58,7 @@ fn read_interfaces<R: FileSystem + AllocGlobal>(
     Ok(interfaces)
 }
 
-// An IPv4 address to which the route leads: the first one after that of the network, where it has more than one.
+// An IPv4 address that the route leads to: the first after the network's address, if it has more than one.
 fn destination_of(route: Route) -> Option<u32> {
     if !route.prefix.is_v4() {
         return None;
@@ -71,7 +71,7 @@ fn destination_of(route: Route) -> Option<u32> {
     }
 }
 
-// The source that the kernel takes for the destinations of a route, with the route's interface.
+// The source that the kernel selects for the destinations of a route, with the route's interface.
 fn ask_route<R: Net>(rt: &R, found: FoundRoute) -> Option<InterfaceAnswer> {
     let metered = found.read.ok()?;
     let ip = ask_source(rt, Ip::V4(destination_of(metered.route)?), NO_SCOPE)?;
@@ -81,7 +81,7 @@ fn ask_route<R: Net>(rt: &R, found: FoundRoute) -> Option<InterfaceAnswer> {
     })
 }
 
-// Whether there is an address that no connected route holds.
+// Whether an address is in no connected route.
 fn is_open(around: Around<'_, '_, '_>, own: &[OwnAddress]) -> bool {
     for address in own {
         if let Err(Why::Unconnected) = make_v4_source(around, address.ip) {
@@ -91,8 +91,7 @@ fn is_open(around: Around<'_, '_, '_>, own: &[OwnAddress]) -> bool {
     false
 }
 
-// Asks for each route, where there is an address that no connected route holds: once a route, however many of these
-// there are.
+// Asks once for each route, if any address is in no connected route.
 fn ask<R: Net + AllocGlobal>(
     rt: &R,
     around: Around<'_, '_, '_>,
@@ -110,7 +109,8 @@ fn ask<R: Net + AllocGlobal>(
     Ok(asked)
 }
 
-// Whether the kernel takes the address for others of its connected route: then it is on the interface of that route.
+// Whether the kernel selects the address for others of its connected route: then it is on the interface of that
+// route.
 fn is_taken<R: Net>(rt: &R, ip: Ip, route: Route) -> bool {
     match destination_of(route) {
         Some(other) => {
@@ -121,8 +121,8 @@ fn is_taken<R: Net>(rt: &R, ip: Ip, route: Route) -> bool {
     }
 }
 
-// Whether it is a guess on which interface an address is: its network is on several, and the kernel takes another
-// address there.
+// Whether the interface of an address is a guess: its network is on several interfaces, and the kernel selects
+// another address there.
 fn is_guess<R: Net>(rt: &R, routes: &[FoundRoute], source: Source) -> bool {
     match find_connected(routes, source.ip) {
         Some(route) => is_elsewhere(routes, source) && !is_taken(rt, source.ip, route),
@@ -130,8 +130,8 @@ fn is_guess<R: Net>(rt: &R, routes: &[FoundRoute], source: Source) -> bool {
     }
 }
 
-// Whether the interface of a source is the one of a route for which the kernel takes it, since no connected route
-// holds it.
+// Whether the source's interface is that of a route for which the kernel selects it, since no connected route
+// contains it.
 fn is_asked_place(routes: &[FoundRoute], source: Source) -> bool {
     match source.ip {
         Ip::V4(bits) => bits >> 24 != 127 && find_connected(routes, source.ip).is_none(),
@@ -139,7 +139,7 @@ fn is_asked_place(routes: &[FoundRoute], source: Source) -> bool {
     }
 }
 
-// Tells of which sources the interface is a guess.
+// Appends a remark for each source whose interface is a guess.
 fn tell_guesses<R: Net>(
     rt: &R,
     routes: &[FoundRoute],
@@ -164,7 +164,7 @@ fn tell_guesses<R: Net>(
     Ok(())
 }
 
-// An address that the prefix contains: that of a root name server, or the first one after that of the network.
+// An address in the prefix: that of a root name server, or the first after the network's address.
 fn probe_of(prefix: Prefix) -> Option<Ip> {
     for ip in [ROOT_SERVER_V4, ROOT_SERVER_V6] {
         if prefix.contains(ip) {
@@ -188,8 +188,8 @@ fn leads(route: Route, routes: &[Route], to: Ip) -> bool {
     !routes.iter().any(|other| other.prefix.len() > route.prefix.len() && other.prefix.contains(to))
 }
 
-// Tells for which routes the kernel takes another source than the rules do by these lines: rules of policy routing or
-// a source that the route names decide there.
+// Appends a remark for each route for which the kernel selects another source than the rules do with these lines:
+// policy routing or a source named by the route decides there.
 fn tell_other_sources<R: Net + AllocGlobal>(
     rt: &R,
     machine: &Host<Global>,
@@ -213,7 +213,7 @@ fn tell_other_sources<R: Net + AllocGlobal>(
     Ok(())
 }
 
-// The machine of the files, where the kernel is asked for what they leave open.
+// The machine by the files, and by the kernel for what they leave open.
 fn ask_host<R: Net + AllocGlobal>(
     rt: &R,
     files: Files<'_>,
@@ -240,12 +240,12 @@ fn ask_host<R: Net + AllocGlobal>(
     Ok(found)
 }
 
-/// Appends the lines of this machine, and a line for each thing that it has no place for or that is a guess, and for
-/// each file that is there and can't be read.
+/// Appends the lines of this machine, and a remark for each thing that is left out or is a guess, and for each file
+/// that exists but can't be read.
 ///
 /// # Errors
 ///
-/// [`MachineFault::NoFiles`]: `/proc/net` can't be read. [`MachineFault::Memory`]: an allocation was refused.
+/// [`MachineFault::NoFiles`] if `/proc/net` can't be read. [`MachineFault::Memory`] if an allocation fails.
 pub fn write_machine<R: FileSystem + Net + AllocGlobal>(
     rt: &R,
     lines: &mut Vec<u8>,

@@ -1,4 +1,4 @@
-// The interfaces of IPv4 addresses, which no file tells: an address is where its connected route is.
+// The interfaces of IPv4 addresses. No file has them: an address is on the interface of its connected route.
 
 ghost use Rattle.std.specs.Prelude.{◌≡◌, map, IfOk};
 ghost use Rattle.he_host.specs.Placing.{holds, is_loopback, longer, longer_route, longest_route, connected_from, asked_for, loopback_place, place_of, source_at, found_own, read_own};
@@ -14,24 +14,24 @@ use he_kernel::why::Why;
 use he_select::{Route, Source};
 use std::alloc::Allocator;
 
-/// The length of the prefix of the loopback addresses, 127.0.0.0/8.
+/// The prefix length of the loopback addresses, 127.0.0.0/8.
 pub const LOOPBACK_LEN: u8 = 8;
 
-/// The interface of an address as the kernel gave it; 0 for none.
+/// The interface of an address by the kernel's answer; 0 for none.
 #[derive(Clone, Copy, Debug, PartialEq, Eq)]
 pub struct InterfaceAnswer {
     pub ip: Ip,
     pub interface: u16,
 }
 
-/// Where an address is: the length of its link's prefix, and its interface.
+/// The place of an address: its link's prefix length, and its interface.
 #[derive(Clone, Copy, Debug, PartialEq, Eq)]
 pub struct Place {
     pub plen: u8,
     pub interface: u16,
 }
 
-/// What says where addresses are.
+/// The input for locating addresses.
 #[derive(Clone, Copy, Debug)]
 pub struct Around<'i, 'n, 't> {
     pub interfaces: &'i [Interface<'n>],
@@ -48,7 +48,7 @@ fn is_loopback(ip: Ip) -> bool
     }
 }
 
-// The longer one of two routes, the first of two that are as long.
+// The longer of two routes, the first if they are equally long.
 fn longer_route(kept: Route, other: Route) -> Route
     ensures { result ≡ longer_route kept other }
 {
@@ -59,7 +59,7 @@ fn longer_route(kept: Route, other: Route) -> Route
     }
 }
 
-/// Whether a connected route holds the address: one with a prefix of IPv4 addresses that isn't 0.0.0.0/0.
+/// Whether a connected route contains the address: its prefix is an IPv4 one other than 0.0.0.0/0.
 pub fn holds(metered: Metered, ip: Ip) -> bool
     ensures { result ≡ holds ip metered }
 {
@@ -67,7 +67,7 @@ pub fn holds(metered: Metered, ip: Ip) -> bool
     metered.connected && prefix.len() > MAPPED_LEN && prefix.contains(ip)
 }
 
-// The longest route of two, where there are two.
+// The longer of the best route so far, if any, and this one.
 fn longest_route(best: Option<Route>, route: Route) -> Route
     ensures { result ≡ longest_route best route }
 {
@@ -77,7 +77,7 @@ fn longest_route(best: Option<Route>, route: Route) -> Route
     }
 }
 
-// The connected route that is kept after one more.
+// The best connected route after one more.
 fn take_longer(best: Option<Route>, metered: Metered, ip: Ip) -> Option<Route>
     ensures { result ≡ longer ip best metered }
 {
@@ -89,7 +89,7 @@ fn take_longer(best: Option<Route>, metered: Metered, ip: Ip) -> Option<Route>
     }
 }
 
-/// The connected route that holds the address: of several the longest, of these the first.
+/// The connected route that contains the address: the longest, the first of several.
 pub fn find_connected(routes: &[FoundRoute], ip: Ip) -> Option<Route>
     ensures { result ≡ connected_from ip None routes.now }
 {
@@ -128,11 +128,11 @@ fn on_loopback(link: Option<Link>) -> Result<Place, Why>
     }
 }
 
-/// Where an IPv4 address is: on the loopback interface, where its connected route is, or where the kernel says.
+/// The place of an IPv4 address: the loopback interface, that of its connected route, or the kernel's answer.
 ///
 /// # Errors
 ///
-/// [`Why::Down`]: no loopback interface is up. [`Why::Unconnected`]: nothing says.
+/// [`Why::Down`] if no loopback interface is up. [`Why::Unconnected`] if the place isn't known.
 #[tactic(auto, unfolding(crate::specs::Placing::place_of))]
 pub fn find_place(around: Around<'_, '_, '_>, ip: Ip) -> Result<Place, Why>
     ensures { result ≡ place_of around.entry.interfaces.now around.entry.routes.now around.entry.asked.now ip }
@@ -182,11 +182,11 @@ pub fn make_v4_source(around: Around<'_, '_, '_>, ip: Option<Ip>) -> Result<Sour
     }
 }
 
-/// What the addresses of `/proc/net/fib_trie` say.
+/// The sources of the addresses in `/proc/net/fib_trie`.
 ///
 /// # Errors
 ///
-/// [`Memory`]: an allocation was refused.
+/// [`Memory`] if an allocation fails.
 pub fn find_v4_sources<A: Allocator + Copy>(
     alloc: A,
     around: Around<'_, '_, '_>,

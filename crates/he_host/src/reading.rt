@@ -1,4 +1,4 @@
-// What all lines of a file say.
+// Reads all lines of a file.
 
 ghost use Rattle.std.specs.Prelude.{◌≡◌, ◌++◌, map, IfOk, OnOk};
 ghost use Rattle.he_host.specs.Found.{found_v6_source, found_v6_route, found_v4_route, v6_source, v6_route, v4_route_read};
@@ -17,7 +17,7 @@ use he_kernel::why::Why;
 use he_select::Source;
 use std::alloc::Allocator;
 
-/// The number of the line of `/proc/net/route` that names its fields.
+/// The number of the line of `/proc/net/route` with the field names.
 pub const HEADING: u64 = 1;
 
 /// The source of a line of `/proc/net/if_inet6`, or why there is none.
@@ -56,11 +56,11 @@ pub fn read_v4_route(interfaces: &[Interface<'_>], number: u64, line: &[u8]) -> 
     make_v4_route(read, read_link(interfaces, line, 0))
 }
 
-/// What the lines of `/proc/net/if_inet6` say.
+/// The sources of the lines of `/proc/net/if_inet6`.
 ///
 /// # Errors
 ///
-/// [`Memory`]: an allocation was refused.
+/// [`Memory`] if an allocation fails.
 pub fn find_v6_sources<A: Allocator + Copy>(
     alloc: A,
     interfaces: &[Interface<'_>],
@@ -79,11 +79,11 @@ pub fn find_v6_sources<A: Allocator + Copy>(
     Ok(found)
 }
 
-/// Appends what the lines of `/proc/net/ipv6_route` say.
+/// Appends the routes of the lines of `/proc/net/ipv6_route`.
 ///
 /// # Errors
 ///
-/// [`Memory`]: an allocation was refused.
+/// [`Memory`] if an allocation fails.
 pub fn find_v6_routes<A: Allocator + Copy>(
     interfaces: &[Interface<'_>],
     lines: &[NumberedLine<'_>],
@@ -102,11 +102,11 @@ pub fn find_v6_routes<A: Allocator + Copy>(
     Ok(())
 }
 
-/// Appends what the lines of `/proc/net/route` say.
+/// Appends the routes of the lines of `/proc/net/route`.
 ///
 /// # Errors
 ///
-/// [`Memory`]: an allocation was refused.
+/// [`Memory`] if an allocation fails.
 pub fn find_v4_routes<A: Allocator + Copy>(
     interfaces: &[Interface<'_>],
     lines: &[NumberedLine<'_>],

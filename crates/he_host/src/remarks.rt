@@ -1,4 +1,4 @@
-// What a race has no place for, and what is a guess in it, told in plain words: a line for each.
+// Remarks on lines that a race leaves out, and on guesses: one line each.
 
 use crate::fib_trie::{OwnAddress, read_own_addresses};
 use crate::found::{FoundRoute, Metered};
@@ -26,7 +26,7 @@ fn file_name(file: File) -> &'static [u8] {
     }
 }
 
-// Why a line is left out; None where nobody needs to know.
+// Why a line is left out; None if it needs no remark.
 fn reason(why: Why) -> Option<&'static [u8]> {
     match why {
         Why::Unclear => Some(b"is not understood"),
@@ -43,7 +43,7 @@ fn reason(why: Why) -> Option<&'static [u8]> {
     }
 }
 
-// What is left out.
+// The subject of a remark.
 #[derive(Clone, Copy)]
 enum Subject {
     Address(Ip),
@@ -51,7 +51,7 @@ enum Subject {
     Route(u128, u8),
 }
 
-// The line with this number. It is the line at its place, but after an empty one.
+// The line with this number. It is the line at its place, unless an empty line precedes it.
 fn line_at<'t>(lines: &[NumberedLine<'t>], number: u64) -> Option<&'t [u8]> {
     let place = usize::try_from(number).ok()?.checked_sub(1)?;
     let line = lines.get(place)?;
@@ -86,7 +86,7 @@ fn source_subject(line: &[u8]) -> Option<Subject> {
     Some(Subject::Address(Ip::V6(read_address_line(line)?.number)))
 }
 
-// The lines of the files, to find in them what is left out.
+// The lines of the files, to look up those that are left out.
 #[derive(Drop)]
 struct Read<'t, A: Allocator> {
     if_inet6: Vec<NumberedLine<'t>, A>,
@@ -167,7 +167,7 @@ fn write_remark<A: Allocator + Copy>(
     write_word(b"\n", out)
 }
 
-// Whether a route is that to the network of the address, over another interface than the source's.
+// Whether a route leads to the network of the address, over another interface than the source's.
 fn is_to_network(metered: Metered, source: Source) -> bool {
     let route = metered.route;
     holds(metered, source.ip)
@@ -175,7 +175,7 @@ fn is_to_network(metered: Metered, source: Source) -> bool {
         && route.interface != source.interface
 }
 
-/// Whether the network of an IPv4 address is on another interface too, so that no file says where the address is.
+/// Whether the network of an IPv4 address is also on another interface, so that no file locates the address.
 pub fn is_elsewhere(routes: &[FoundRoute], source: Source) -> bool {
     for found in routes {
         if let Ok(metered) = found.read {
@@ -187,11 +187,11 @@ pub fn is_elsewhere(routes: &[FoundRoute], source: Source) -> bool {
     false
 }
 
-/// Appends the line for a source whose interface is a guess, for this reason.
+/// Appends the remark for a source whose interface is a guess, with the reason.
 ///
 /// # Errors
 ///
-/// [`Memory`]: an allocation was refused; a part of the line may be there.
+/// [`Memory`] if an allocation fails; part of the line may have been appended.
 pub fn write_guess<A: Allocator + Copy>(
     source: Source,
     reason: &[u8],
@@ -205,11 +205,11 @@ pub fn write_guess<A: Allocator + Copy>(
     write_word(b", and nothing tells more\n", out)
 }
 
-/// Appends the line for a route whose destinations the kernel reaches from another source than the rules take.
+/// Appends the remark for a route for whose destinations the kernel selects another source than the rules.
 ///
 /// # Errors
 ///
-/// [`Memory`]: an allocation was refused; a part of the line may be there.
+/// [`Memory`] if an allocation fails; part of the line may have been appended.
 pub fn write_other_source<A: Allocator + Copy>(
     prefix: Prefix,
     said: Ip,
@@ -228,8 +228,8 @@ pub fn write_other_source<A: Allocator + Copy>(
     )
 }
 
-// The number of a table with which its part of `/proc/net/fib_trie` begins, as in `Id 51820:`; None in other lines,
-// those of the tables `main` and `local` among them.
+// The number of a table in its heading in `/proc/net/fib_trie`, as `Id 51820:`; None in other lines, those of the
+// tables `main` and `local` included.
 fn table_of(line: &[u8]) -> Option<u64> {
     if field(line, 0)? != b"Id".as_slice() {
         return None;
@@ -239,12 +239,12 @@ fn table_of(line: &[u8]) -> Option<u64> {
     read_number(&number[..end])
 }
 
-/// Appends a line for each table of IPv4 routes beside `main` and `local`, which rules of policy routing may use:
-/// Linux lists its routes in no file.
+/// Appends a remark for each IPv4 routing table other than `main` and `local`, which policy routing may use: Linux
+/// has no file of its routes.
 ///
 /// # Errors
 ///
-/// [`Memory`]: an allocation was refused; a part of the lines may be there.
+/// [`Memory`] if an allocation fails; part of the lines may have been appended.
 pub fn write_unseen_tables<A: Allocator + Copy>(
     alloc: A,
     fib_trie: &[u8],
@@ -263,12 +263,12 @@ pub fn write_unseen_tables<A: Allocator + Copy>(
     Ok(())
 }
 
-/// Appends a line for each line of the files that is left out and that a person may miss: not those for the kernel's
-/// own routes, nor for a route that is there already.
+/// Appends a remark for each line of the files that is left out, except those for the kernel's internal routes and
+/// for a route that is already there.
 ///
 /// # Errors
 ///
-/// [`Memory`]: an allocation was refused; a part of the lines may be there.
+/// [`Memory`] if an allocation fails; part of the lines may have been appended.
 pub fn write_remarks<A: Allocator + Copy>(
     alloc: A,
     files: Files<'_>,

@@ -11,7 +11,7 @@ use Rattle.he_json.specs.Json.{facts_of, object_text, objects_text}
 use Rattle.he_json.specs.declared.members.Member.{Member}
 use Rattle.he_json.specs.declared.place.Place.{Place}
 
--- where a race stands: the name of its file, where that has one, its number and its line
+-- the place of a race: the name of its file, if it has one, its number and its line
 pub record Spot : Type 0 where
   pub file : Option (List ℕ)
   pub number : ℕ
@@ -27,7 +27,7 @@ abbrev pub file_text : Option (List ℕ) → List ℕ
 file_text None = codes "null"
 file_text (Some name) = string_text name
 
--- with which each object begins
+-- the beginning of each object
 abbrev pub beginning_text : Spot → List ℕ
 beginning_text spot =
     codes "{\"file\":" ++ (file_text spot.file
@@ -55,13 +55,13 @@ pub record IsTranscriptJson (spot : Spot) (report : Report) (text : List ℕ) : 
   pub end_facts : facts_of end ≡ result_facts report.result
   pub is_text : text ≡ transcript_text spot attempts end
 
--- one for each of these addresses, in this order
+-- the text has an object for each of these addresses, in this order
 pub record IsOrderJson (spot : Spot) (sorted : List DestinationAttributes) (text : List ℕ) : Type 0 where
   pub addresses : List (List Member)
   pub address_facts : map facts_of addresses ≡ placed_facts 0 sorted
   pub is_text : text ≡ order_text spot addresses
 
--- and one for each event
+-- the text has both an object for each address and one for each event
 pub record IsExplanationJson (spot : Spot) (preferred : List Preferred) (met : List Event)
     (text : List ℕ) : Type 0 where
   pub addresses : List (List Member)

@@ -1,4 +1,4 @@
--- The facts of a race that stand in its objects, in their order: numbers, addresses, and what words say.
+-- The facts of a race in its objects, in order: numbers, addresses, and the meaning of words.
 use Rattle.std.specs.Prelude.{ℕ, ◌+◌, ◌++◌, Bool, List, [], ◌∷◌, Option, None, Some}
 use Rattle.std.specs.Option.{option_map_or}
 use Rattle.he_addr.specs.declared.ip.Family.{Family}
@@ -33,7 +33,7 @@ said_fact said = facts.Said said
 abbrev pub number_fact : ℕ → Fact Said
 number_fact number = facts.Number number
 
--- of an attempt: its place, its start, its address, what became of it, and when
+-- an attempt: its place, its start, its address, its outcome, and the tick of that
 abbrev pub end_facts : Said → ℕ → List (Fact Said)
 end_facts said tick = said_fact said ∷ number_fact tick ∷ []
 
@@ -46,7 +46,7 @@ abbrev pub attempt_facts : Line → List (Fact Said)
 attempt_facts line =
     number_fact line.place ∷ number_fact line.tick ∷ facts.Ip line.ip ∷ mark_facts line.mark
 
--- of the race's end: how it ended, the attempt that won, and when
+-- the race's end: how it ended, the attempt that won, and the tick
 abbrev pub won_facts : ℕ → ℕ → List (Fact Said)
 won_facts place tick = said_fact says.Won ∷ number_fact place ∷ number_fact tick ∷ []
 
@@ -55,12 +55,12 @@ result_facts (results.Won place tick) = won_facts place tick
 result_facts (results.Exhausted tick) = end_facts says.Exhausted tick
 result_facts (results.Limit tick) = end_facts says.Limit tick
 
--- of an address: its place, itself, and the source that the host uses for it
+-- an address: its place, itself, and the source that the host uses for it
 abbrev pub place_facts : ℕ → DestinationAttributes → List (Fact Said)
 place_facts place attributes =
     number_fact place ∷ facts.Ip attributes.ip ∷ address_or_nothing (sourced_from attributes).source
 
--- of sorted addresses
+-- sorted addresses
 abbrev pub placed_facts : ℕ → List DestinationAttributes → List (List (Fact Said))
 placed_facts place [] = []
 placed_facts place (first ∷ more) = place_facts place first ∷ placed_facts (place + 1) more
@@ -69,7 +69,7 @@ placed_facts place (first ∷ more) = place_facts place first ∷ placed_facts (
 abbrev pub values_facts : Option ℕ → Option ℕ → List (Fact Said)
 values_facts own other = number_or_nothing own ++ number_or_nothing other
 
--- a value of its source; 0 where it has none
+-- a value of its source; 0 if it has none
 abbrev pub of_source : (LabelledSource → ℕ) → DestinationAttributes → ℕ
 of_source value attributes = option_map_or value attributes.source 0
 
@@ -86,7 +86,7 @@ compared_facts rules.LowerRoundTripTime before own = values_facts own.rtt before
 compared_facts rules.LongestPrefix before own = values_facts (Some own.common) (Some before.common)
 compared_facts _ before own = []
 
--- the rule that puts it after the one before, by its number and its name, and what that compares
+-- the rule that sorts it after the one before, by its number and its name, and the values that the rule compares
 abbrev pub reason_facts : Option DestinationRule → Option DestinationAttributes → DestinationAttributes
     → List (Fact Said)
 reason_facts None before own = []
@@ -94,7 +94,7 @@ reason_facts (Some rule) None own = []
 reason_facts (Some rule) (Some before) own =
     said_fact (says.Rule rule) ∷ said_fact (says.Rule rule) ∷ compared_facts rule before own
 
--- of sorted addresses, after the one before them
+-- sorted addresses, given the one before them
 abbrev pub preferred_facts : ℕ → Option DestinationAttributes → List Preferred → List (List (Fact Said))
 preferred_facts place before [] = []
 preferred_facts place before (first ∷ more) =
@@ -113,8 +113,8 @@ delay_of _ = []
 abbrev pub cause_facts : Cause → List (Fact Said)
 cause_facts cause = said_fact (says.Cause cause) ∷ delay_of cause
 
--- whether a pause held the attempt back; the place of its address in the interlaced list of so many, and whose turn it
--- was there
+-- whether a pause held the attempt back; the place of its address in the interlaced list, the length of that list,
+-- and whose turn it was there
 abbrev pub listed_facts : Bool → Listed → List (Fact Said)
 listed_facts held listed =
     said_fact (says.Truth held) ∷ number_fact listed.place ∷ number_fact listed.count
@@ -146,6 +146,6 @@ kind_facts kinds.Exhausted = said_fact says.Exhausted ∷ []
 kind_facts kinds.Limit = said_fact says.Limit ∷ []
 kind_facts (kinds.Cancelled place) = of_attempt_facts says.Cancelled place
 
--- of an event: its tick, and what happens
+-- an event: its tick, and its kind
 abbrev pub event_facts : Event → List (Fact Said)
 event_facts event = number_fact event.tick ∷ kind_facts event.kind

@@ -1,4 +1,4 @@
--- Objects and arrays as JSON has them (RFC 8259), without spaces, and the facts that stand in them.
+-- JSON objects and arrays (RFC 8259), without spaces, and their facts.
 use Rattle.std.specs.Prelude.{ℕ, ◌++◌, Bool, true, false, List, [], ◌∷◌, codes, decimal, map, Option, None, Some}
 use Rattle.std.specs.List.{flat_map}
 use Rattle.he_addr.specs.declared.ip.Ip.{Ip}
@@ -47,7 +47,7 @@ object_text members = codes "{" ++ (parted [] (map member_text members) ++ codes
 abbrev pub objects_text : List (List Member) → List ℕ
 objects_text rows = codes "[" ++ (parted [] (map object_text rows) ++ codes "]")
 
--- what a member says
+-- the facts of a member
 abbrev pub number_or_nothing : Option ℕ → List (Fact Said)
 number_or_nothing None = facts.Said Nothing ∷ []
 number_or_nothing (Some number) = facts.Number number ∷ []

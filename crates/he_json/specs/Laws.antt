@@ -1,4 +1,4 @@
--- What follows from the definitions.
+-- Consequences of the definitions.
 use Rattle.std.specs.Prelude.{ℕ, ◌≡◌, ◌++◌, not, IsTrue, List, [], ◌∷◌, Option}
 use Rattle.std.specs.Borrow.{Bor}
 use Rattle.std.specs.List.{list_all}
@@ -10,7 +10,7 @@ use Rattle.he_json.specs.Machine.{machine_text}
 use Rattle.he_json.specs.Names.{names_text}
 use Rattle.he_json.specs.declared.members.Member.{Member}
 
--- a line: characters that are no control characters, and a line end
+-- a line: no control characters, then a line end
 abbrev pub IsLine : List ℕ → Type 0
 IsLine text = (line : List ℕ) × (text ≡ line ++ 10 ∷ []) × IsTrue (list_all (λ byte. not (is_control byte)) line)
 

@@ -12,18 +12,18 @@ use Rattle.he_json.specs.declared.members.Said.{Said}
 use Rattle.he_json.specs.declared.members.Said.TheVariants as says
 use Rattle.he_json.specs.Json.{facts_of, objects_text}
 
--- of a source: its address, the length of its prefix, its interface, whether it is deprecated and temporary
+-- a source: its address, the length of its prefix, its interface, whether it is deprecated and temporary
 abbrev pub source_facts : Source → List (Fact Said)
 source_facts source =
     facts.Ip source.ip ∷ facts.Number source.plen ∷ facts.Number source.interface
     ∷ facts.Said (says.Truth source.deprecated) ∷ facts.Said (says.Truth source.temporary) ∷ []
 
--- the first address of a prefix and its length, those of IPv4 where it has IPv4 addresses alone
+-- the first address of a prefix and its length, in IPv4's terms if it has IPv4 addresses alone
 abbrev pub prefix_parts : PrefixBits → Ip × ℕ
 prefix_parts prefix =
     if is_inside_mapped prefix then (V4 (prefix.bits % 2 ^ 32), prefix.len - 96) else (V6 prefix.bits, prefix.len)
 
--- of a route: its prefix, its interface, whether it leads through a tunnel
+-- a route: its prefix, its interface, whether it leads through a tunnel
 abbrev pub route_facts : Route → List (Fact Said)
 route_facts route =
     facts.Ip (prefix_parts route.prefix).0 ∷ facts.Number (prefix_parts route.prefix).1 ∷ facts.Number route.interface

@@ -13,7 +13,7 @@ abbrev pub given_text : ℕ → List Ip → List ℕ
 given_text tick ips =
     codes "{\"tick\":" ++ (decimal tick ++ (codes ",\"addresses\":" ++ (addresses_text ips ++ codes "}")))
 
--- that of a family; null where there is none
+-- the answer of a family; null if there is none
 abbrev pub answer_text : Option (ℕ × Bor (List Ip)) → List ℕ
 answer_text None = codes "null"
 answer_text (Some answer) = given_text answer.0 answer.1.now

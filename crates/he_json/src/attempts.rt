@@ -6,17 +6,18 @@ ghost use Rattle.he_json.specs.Facts.{attempt_facts, end_facts, mark_facts, resu
 ghost use Rattle.he_json.specs.Json.{fact_of};
 
 use crate::members::{Member, Said, Value, push};
+use he_addr::Memory;
 use he_plan::{Line, Mark, Outcome3};
-use std::alloc::{AllocError, Allocator};
+use std::alloc::Allocator;
 
-// No object of an attempt or of an end has more members.
+// The most members that an object of an attempt or of an end has.
 const MOST_MEMBERS: usize = 5;
 
 // An object for each attempt.
 pub(crate) fn attempt_rows<A: Allocator + Copy>(
     alloc: A,
     lines: &[Line],
-) -> Result<Vec<Vec<Member, A>, A>, AllocError>
+) -> Result<Vec<Vec<Member, A>, A>, Memory>
     ensures { IfOk result (λ rows. map (λ row. flat_map fact_of row.items) rows.items ≡ map attempt_facts lines.now) }
 {
     let mut rows = Vec::with_capacity(alloc, lines.len())?;
@@ -26,7 +27,7 @@ pub(crate) fn attempt_rows<A: Allocator + Copy>(
     Ok(rows)
 }
 
-fn attempt_row<A: Allocator + Copy>(alloc: A, line: &Line) -> Result<Vec<Member, A>, AllocError>
+fn attempt_row<A: Allocator + Copy>(alloc: A, line: &Line) -> Result<Vec<Member, A>, Memory>
     ensures { IfOk result (λ row. flat_map fact_of row.items ≡ attempt_facts line.now) }
 {
     let mut row = Vec::with_capacity(alloc, MOST_MEMBERS)?;
@@ -40,7 +41,7 @@ fn attempt_row<A: Allocator + Copy>(alloc: A, line: &Line) -> Result<Vec<Member,
     Ok(row)
 }
 
-fn push_mark<A: Allocator>(mark: Mark, row: &mut Vec<Member, A>) -> Result<(), AllocError>
+fn push_mark<A: Allocator>(mark: Mark, row: &mut Vec<Member, A>) -> Result<(), Memory>
     ensures { OnOk result (flat_map fact_of row.new.items ≡ flat_map fact_of row.old.items ++ mark_facts mark) }
 {
     match mark {
@@ -50,13 +51,13 @@ fn push_mark<A: Allocator>(mark: Mark, row: &mut Vec<Member, A>) -> Result<(), A
     }
 }
 
-// How it ended, in a word, and when.
+// The way it ended, in a word, and the tick.
 fn push_end<A: Allocator>(
     said: Said,
     words: &'static [u8],
     tick: u64,
     row: &mut Vec<Member, A>,
-) -> Result<(), AllocError>
+) -> Result<(), Memory>
     ensures { OnOk result (flat_map fact_of row.new.items ≡ flat_map fact_of row.old.items ++ end_facts said tick) }
 {
     let members = [
@@ -67,10 +68,7 @@ fn push_end<A: Allocator>(
 }
 
 // An object for the end of the race.
-pub(crate) fn result_row<A: Allocator>(
-    alloc: A,
-    ending: Outcome3,
-) -> Result<Vec<Member, A>, AllocError>
+pub(crate) fn result_row<A: Allocator>(alloc: A, ending: Outcome3) -> Result<Vec<Member, A>, Memory>
     ensures { IfOk result (λ row. flat_map fact_of row.items ≡ result_facts ending) }
 {
     let mut row = Vec::with_capacity(alloc, MOST_MEMBERS)?;
@@ -82,11 +80,7 @@ pub(crate) fn result_row<A: Allocator>(
     Ok(row)
 }
 
-fn push_won<A: Allocator>(
-    place: usize,
-    tick: u64,
-    row: &mut Vec<Member, A>,
-) -> Result<(), AllocError>
+fn push_won<A: Allocator>(place: usize, tick: u64, row: &mut Vec<Member, A>) -> Result<(), Memory>
     ensures { OnOk result (flat_map fact_of row.new.items ≡ flat_map fact_of row.old.items ++ won_facts place tick) }
 {
     let members = [

@@ -87,7 +87,7 @@ fn write_explanation<A: Allocator + Copy>(
     write_words(b"}\n", text)
 }
 
-// Each text is made by itself first, so that nothing is appended of one that memory does not suffice for.
+// Each text is made apart first: if memory runs out, nothing of it is appended.
 fn transcript_of<A: Allocator + Copy>(
     alloc: A,
     place: Place<'_>,
@@ -139,12 +139,12 @@ fn explanation_of<A: Allocator + Copy>(
 /// "end":"won","tick":55}],"result":{"end":"won","attempt":0,"tick":55}}
 /// ```
 ///
-/// (It stands on one line.)
+/// (On one line.)
 ///
-/// `file` is null where the race's text has no name. `attempts` has each attempt by its place, with the tick at which
-/// it started, its address, what became of it (`won`, `failed` or `cancelled`) and the tick of that; `result` how the
-/// race ended, `won` by an attempt, `exhausted` or at its `limit`, and the tick of that. After `Memory` the vector
-/// holds what it held.
+/// `file` is null if the race's text has no name. `attempts` has each attempt by its place, with the tick at which it
+/// started, its address, its outcome (`won`, `failed` or `cancelled`) and the tick of that; `result` has the race's
+/// end, `won` by an attempt, `exhausted` or at its `limit`, and the tick of that. After `Memory` the vector is
+/// unchanged.
 pub fn write_transcript_json<A: Allocator + Copy, B: Allocator, T: Allocator>(
     alloc: A,
     place: Place<'_>,
@@ -155,20 +155,20 @@ pub fn write_transcript_json<A: Allocator + Copy, B: Allocator, T: Allocator>(
     ensures err { OnErr result (out.new.items ≡ out.old.items) }
 {
     let text = transcript_of(alloc, place, transcript.attempts(), transcript.result())?;
-    out.extend_from_slice(&text).map_err(|_| Memory)
+    out.extend_from_slice(&text)
 }
 
-/// Appends the sorted addresses of a race as one JSON object and a line end, in the order in which they would be tried
-/// if all of them were there (RFC 6724 section 6):
+/// Appends the sorted addresses of a race as one JSON object and a line end, in the order in which they are tried if
+/// all of them are known (RFC 6724 section 6):
 ///
 /// ```text
 /// {"file":null,"race":1,"line":1,"order":[{"place":0,"address":"198.51.100.1","source":"192.0.2.2"},
 /// {"place":1,"address":"2001:db8:1::1","source":null}]}
 /// ```
 ///
-/// (It stands on one line.)
+/// (On one line.)
 ///
-/// `source` is null where the host can't reach the address. After `Memory` the vector holds what it held.
+/// `source` is null if the host can't reach the address. After `Memory` the vector is unchanged.
 pub fn write_order_json<A: Allocator + Copy, T: Allocator>(
     alloc: A,
     place: Place<'_>,
@@ -179,11 +179,11 @@ pub fn write_order_json<A: Allocator + Copy, T: Allocator>(
     ensures err { OnErr result (out.new.items ≡ out.old.items) }
 {
     let text = order_of(alloc, place, sorted)?;
-    out.extend_from_slice(&text).map_err(|_| Memory)
+    out.extend_from_slice(&text)
 }
 
-/// Appends what explains the race as one JSON object and a line end: its usable addresses in order of preference,
-/// each with what puts it after the one before, and its events up to its end in order of ticks. (It stands on one
+/// Appends the explanation of a race as one JSON object and a line end: its usable addresses in order of preference,
+/// each with the reason that sorts it after the one before, and its events up to its end in order of ticks. (On one
 /// line.)
 ///
 /// ```text
@@ -197,24 +197,25 @@ pub fn write_order_json<A: Allocator + Copy, T: Allocator>(
 /// ```
 ///
 /// An address of `order` from the second on has the first `rule` of RFC 6724 section 6 (8a and 8b of RFC 8305 section
-/// 4) that puts it after the one before, with its name, `why`. Where the rule compares values, `own` is that of the
-/// address, and `before` that of the one before it: precedences (6), scopes (8), round trip times in milliseconds (8a;
-/// null where unknown), common prefix lengths in bits (9). Rules 2 and 5 compare the scope or the label of the
+/// 4) that sorts it after the one before, with its name, `why`. If the rule compares values, `own` is that of the
+/// address, and `before` that of the one before it: precedences (6), scopes (8), round trip times in milliseconds
+/// (8a; null if unknown), common prefix lengths in bits (9). Rules 2 and 5 compare the scope or the label of the
 /// address, `own`, with that of its source, `of_source`.
 ///
 /// The events, by `event`:
 ///
 /// - `pause`, `until` a tick;
-/// - `answer` of a `family`, `aaaa` or `a`, with so many `usable` addresses;
+/// - `answer` of a `family`, `aaaa` or `a`, with the number of `usable` addresses;
 /// - `wait` for the answer of the `family` `aaaa`, `until` the Resolution Delay ends; `delay over`, without one;
 /// - `attempt`, by its place, with its `address` and its `cause`: `aaaa answer`, `both answers`, `resolution delay`;
-///   `attempt delay` or, as all have failed, `floor`, a `delay` of so many milliseconds `after` the attempt of a
-///   place; `last failure`, after the floor; `later aaaa answer`, `later a answer`. `held` says whether it was due
-///   earlier and a pause held it back; `listed` is the place of its address in the interlaced list `of` so many, and
-///   `turn` whose turn it was there: its family `leads`, it was `in turn`, or `other run out` (RFC 8305 section 4);
+///   `attempt delay` or, as all have failed, `floor`, with the milliseconds of the `delay` `after` the attempt of a
+///   place; `last failure`, after the floor; `later aaaa answer`, `later a answer`. `held` is true if it was due
+///   earlier and a pause held it back; `listed` is the place of its address in the interlaced list, `of` the length
+///   of that list, and `turn` whose turn it was there: its family `leads`, it was `in turn`, or `other run out` (RFC
+///   8305 section 4);
 /// - `failed`, an `attempt`; `won` by an `attempt`, `exhausted` or `limit`, the end; `cancelled` by it, an `attempt`.
 ///
-/// After `Memory` the vector holds what it held.
+/// After `Memory` the vector is unchanged.
 pub fn write_explanation_json<A: Allocator + Copy, B: Allocator, T: Allocator>(
     alloc: A,
     course: &Course<B>,
@@ -232,5 +233,5 @@ pub fn write_explanation_json<A: Allocator + Copy, B: Allocator, T: Allocator>(
         line: course.line,
     };
     let text = explanation_of(alloc, place, &course.addresses, &course.events)?;
-    out.extend_from_slice(&text).map_err(|_| Memory)
+    out.extend_from_slice(&text)
 }

@@ -6,18 +6,18 @@ ghost use Rattle.he_json.specs.Facts.{answered_facts, cause_facts, delay_facts, 
 ghost use Rattle.he_json.specs.Json.{fact_of};
 
 use crate::members::{Member, Said, Value, push};
-use he_addr::Family;
+use he_addr::{Family, Memory};
 use he_course::{Cause, Event, EventKind, Listed, Start, Turn};
-use std::alloc::{AllocError, Allocator};
+use std::alloc::Allocator;
 
-// No object of an event has more members.
+// The most members that an object of an event has.
 const MOST_MEMBERS: usize = 11;
 
 // An object for each event.
 pub(crate) fn event_rows<A: Allocator + Copy>(
     alloc: A,
     events: &[Event],
-) -> Result<Vec<Vec<Member, A>, A>, AllocError>
+) -> Result<Vec<Vec<Member, A>, A>, Memory>
     ensures { IfOk result (λ rows. map (λ row. flat_map fact_of row.items) rows.items ≡ map event_facts events.now) }
 {
     let mut rows = Vec::with_capacity(alloc, events.len())?;
@@ -27,7 +27,7 @@ pub(crate) fn event_rows<A: Allocator + Copy>(
     Ok(rows)
 }
 
-fn event_row<A: Allocator + Copy>(alloc: A, event: &Event) -> Result<Vec<Member, A>, AllocError>
+fn event_row<A: Allocator + Copy>(alloc: A, event: &Event) -> Result<Vec<Member, A>, Memory>
     ensures { IfOk result (λ row. flat_map fact_of row.items ≡ event_facts event.now) }
 {
     let mut row = Vec::with_capacity(alloc, MOST_MEMBERS)?;
@@ -36,7 +36,7 @@ fn event_row<A: Allocator + Copy>(alloc: A, event: &Event) -> Result<Vec<Member,
     Ok(row)
 }
 
-fn push_kind<A: Allocator>(kind: EventKind, row: &mut Vec<Member, A>) -> Result<(), AllocError>
+fn push_kind<A: Allocator>(kind: EventKind, row: &mut Vec<Member, A>) -> Result<(), Memory>
     ensures { OnOk result (flat_map fact_of row.new.items ≡ flat_map fact_of row.old.items ++ kind_facts kind) }
 {
     match kind {
@@ -60,19 +60,19 @@ fn push_event<A: Allocator>(
     said: Said,
     words: &'static [u8],
     row: &mut Vec<Member, A>,
-) -> Result<(), AllocError>
+) -> Result<(), Memory>
     ensures { OnOk result (flat_map fact_of row.new.items ≡ flat_map fact_of row.old.items ++ said_fact said ∷ []) }
 {
     push(&[Member(b"event", Value::Says(said, words))], row)
 }
 
-// What happens to the attempt of this place.
+// An event of the attempt of this place.
 fn push_of_attempt<A: Allocator>(
     said: Said,
     words: &'static [u8],
     place: usize,
     row: &mut Vec<Member, A>,
-) -> Result<(), AllocError>
+) -> Result<(), Memory>
     ensures { OnOk result (flat_map fact_of row.new.items ≡ flat_map fact_of row.old.items ++ of_attempt_facts said
         place) }
 {
@@ -84,7 +84,7 @@ fn push_answered<A: Allocator>(
     family: Family,
     usable: usize,
     row: &mut Vec<Member, A>,
-) -> Result<(), AllocError>
+) -> Result<(), Memory>
     ensures { OnOk result (flat_map fact_of row.new.items ≡ flat_map fact_of row.old.items ++ answered_facts family
         usable) }
 {
@@ -96,7 +96,7 @@ fn push_answered<A: Allocator>(
     push(&members, row)
 }
 
-fn push_waits<A: Allocator>(until: u64, row: &mut Vec<Member, A>) -> Result<(), AllocError>
+fn push_waits<A: Allocator>(until: u64, row: &mut Vec<Member, A>) -> Result<(), Memory>
     ensures { OnOk result (flat_map fact_of row.new.items ≡ flat_map fact_of row.old.items ++ waits_facts until) }
 {
     let members = [
@@ -117,7 +117,7 @@ fn family_member(family: Family) -> Member
     Member(b"family", Value::Says(Said::Family(family), words))
 }
 
-fn push_start<A: Allocator>(start: &Start, row: &mut Vec<Member, A>) -> Result<(), AllocError>
+fn push_start<A: Allocator>(start: &Start, row: &mut Vec<Member, A>) -> Result<(), Memory>
     ensures { OnOk result (flat_map fact_of row.new.items ≡ flat_map fact_of row.old.items ++ start_facts start.now) }
 {
     push_of_attempt(Said::Started, b"attempt", start.place, row)?;
@@ -126,7 +126,7 @@ fn push_start<A: Allocator>(start: &Start, row: &mut Vec<Member, A>) -> Result<(
     push_listed(start.held, start.listed, row)
 }
 
-fn push_cause<A: Allocator>(cause: Cause, row: &mut Vec<Member, A>) -> Result<(), AllocError>
+fn push_cause<A: Allocator>(cause: Cause, row: &mut Vec<Member, A>) -> Result<(), Memory>
     ensures { OnOk result (flat_map fact_of row.new.items ≡ flat_map fact_of row.old.items ++ cause_facts cause) }
 {
     let words = cause_words(cause);
@@ -160,7 +160,7 @@ fn push_delay<A: Allocator>(
     delay: u64,
     place: usize,
     row: &mut Vec<Member, A>,
-) -> Result<(), AllocError>
+) -> Result<(), Memory>
     ensures { OnOk result (flat_map fact_of row.new.items ≡ flat_map fact_of row.old.items ++ delay_facts delay place) }
 {
     let members = [
@@ -170,12 +170,12 @@ fn push_delay<A: Allocator>(
     push(&members, row)
 }
 
-// Whether a pause held the attempt back, and where its address stands in the list.
+// Whether a pause held the attempt back, and the place of its address in the list.
 fn push_listed<A: Allocator>(
     held: bool,
     listed: Listed,
     row: &mut Vec<Member, A>,
-) -> Result<(), AllocError>
+) -> Result<(), Memory>
     ensures { OnOk result (flat_map fact_of row.new.items ≡ flat_map fact_of row.old.items ++ listed_facts held
         listed) }
 {

@@ -1,10 +1,10 @@
-//! Laws of the definitions. Each is the contract of a function that does nothing.
+//! Laws of the definitions. Each is the contract of an empty function.
 
 ghost use Rattle.he_json.specs.Laws.{AddressesArePlain, ExplanationsAreLines, MachinesAreLines, NamesAreLines, OrdersAreLines, TranscriptsAreLines};
 
 use he_print::laws::strings_end;
 
-/// Each text is one line, without control characters in it, whatever the name of the file or the host.
+/// Each text is one line without control characters, whatever the name of the file or the host.
 pub fn texts_are_lines()
     ensures transcripts { TranscriptsAreLines }
     ensures orders { OrdersAreLines }

@@ -1,19 +1,19 @@
-//! What `he` writes of a race, as one JSON object on one line.
+//! A race as `he` prints it in JSON, one object on one line.
 //!
 //! [`write_transcript_json`] writes the race's attempts and how it ended, [`write_order_json`] its addresses in order
-//! of preference, and [`write_explanation_json`] that order with its reasons and the events of the race. Each of these
-//! begins with the name of the race's file, its number and its line ([`Place`]). Attempts and places are counted from
-//! 0, ticks are milliseconds. [`write_machine_json`] writes the addresses and routes of a machine, and
+//! of preference, and [`write_explanation_json`] that order with its reasons and the events of the race. Each object
+//! of a race begins with the name of the race's file, its number and its line ([`Place`]). Attempts and places are
+//! counted from 0, ticks are milliseconds. [`write_machine_json`] writes the addresses and routes of a machine, and
 //! [`write_names_json`] the addresses of a host.
 //!
 //! The texts are JSON (RFC 8259) without spaces between their parts.
 //!
-//! Proved: which facts stand in a text and in which order (`specs/Facts`), numbers, addresses and what its words say;
-//! that it is made of objects and arrays with their brackets, and of strings that nothing in them can end
-//! (`specs/Json`, and `specs/Escaping` of he_print); that it is one line ([`laws`]); and that the vector is as it was
-//! where memory is refused. Words and the names of members are no facts.
+//! Proved: the facts of a text and their order (`specs/Facts`), numbers, addresses and the meaning of its words; that
+//! it is made of objects and arrays with their brackets, and of strings that nothing in them can end (`specs/Json`,
+//! and `specs/Escaping` of he_print); that it is one line ([`laws`]); and that the vector is unchanged if memory is
+//! refused. Words and the names of members are no facts.
 //!
-//! Not proved: that a reader of JSON takes the text, and that a call succeeds where memory is granted.
+//! Not proved: that a reader of JSON takes the text, and that a call succeeds if memory is granted.
 #![tactic(auto)]
 
 mod attempts;

@@ -9,12 +9,12 @@ ghost use Rattle.he_json.specs.Machine.{IsMachineJson, machine_text, prefix_part
 use crate::members::{Member, Value, push, write_objects, write_words};
 use he_addr::{Ip, Memory, Prefix};
 use he_select::{Route, Source};
-use std::alloc::{AllocError, Allocator};
+use std::alloc::Allocator;
 
-// No object of a source or a route has more members.
+// The most members that an object of a source or a route has.
 const MOST_MEMBERS: usize = 5;
 
-// The bits of an IPv4 address, and the length of the prefix of all of them as IPv6 has them.
+// The number of IPv4 addresses, and the length of the prefix ::ffff:0:0/96 that has all of them in IPv6.
 const V4_NUMBERS: u128 = 0x1_0000_0000;
 
 const MAPPED_LEN: u8 = 96;
@@ -23,7 +23,7 @@ const MAPPED_LEN: u8 = 96;
 fn source_rows<A: Allocator + Copy>(
     alloc: A,
     sources: &[Source],
-) -> Result<Vec<Vec<Member, A>, A>, AllocError>
+) -> Result<Vec<Vec<Member, A>, A>, Memory>
     ensures { IfOk result (λ rows. map (λ row. flat_map fact_of row.items) rows.items ≡ map source_facts sources.now) }
 {
     let mut rows = Vec::with_capacity(alloc, sources.len())?;
@@ -33,7 +33,7 @@ fn source_rows<A: Allocator + Copy>(
     Ok(rows)
 }
 
-fn source_row<A: Allocator + Copy>(alloc: A, source: &Source) -> Result<Vec<Member, A>, AllocError>
+fn source_row<A: Allocator + Copy>(alloc: A, source: &Source) -> Result<Vec<Member, A>, Memory>
     ensures { IfOk result (λ row. flat_map fact_of row.items ≡ source_facts source.now) }
 {
     let mut row = Vec::with_capacity(alloc, MOST_MEMBERS)?;
@@ -52,7 +52,7 @@ fn source_row<A: Allocator + Copy>(alloc: A, source: &Source) -> Result<Vec<Memb
 fn route_rows<A: Allocator + Copy>(
     alloc: A,
     routes: &[Route],
-) -> Result<Vec<Vec<Member, A>, A>, AllocError>
+) -> Result<Vec<Vec<Member, A>, A>, Memory>
     ensures { IfOk result (λ rows. map (λ row. flat_map fact_of row.items) rows.items ≡ map route_facts routes.now) }
 {
     let mut rows = Vec::with_capacity(alloc, routes.len())?;
@@ -62,7 +62,7 @@ fn route_rows<A: Allocator + Copy>(
     Ok(rows)
 }
 
-fn route_row<A: Allocator + Copy>(alloc: A, route: &Route) -> Result<Vec<Member, A>, AllocError>
+fn route_row<A: Allocator + Copy>(alloc: A, route: &Route) -> Result<Vec<Member, A>, Memory>
     ensures { IfOk result (λ row. flat_map fact_of row.items ≡ route_facts route.now) }
 {
     let mut row = Vec::with_capacity(alloc, MOST_MEMBERS)?;
@@ -77,7 +77,7 @@ fn route_row<A: Allocator + Copy>(alloc: A, route: &Route) -> Result<Vec<Member,
     Ok(row)
 }
 
-// The first address of a prefix and its length, those of IPv4 where it has IPv4 addresses alone.
+// The first address of a prefix and its length, in IPv4's terms if it has IPv4 addresses alone.
 fn prefix_parts(prefix: Prefix) -> (Ip, u8)
     ensures { result ≡ prefix_parts prefix }
 {
@@ -128,7 +128,7 @@ fn machine_of<A: Allocator + Copy>(
 /// "routes":[{"address":"0.0.0.0","length":0,"interface":2,"tunnel":false}]}
 /// ```
 ///
-/// (It stands on one line.) After `Memory` the vector holds what it held.
+/// (On one line.) After `Memory` the vector is unchanged.
 pub fn write_machine_json<A: Allocator + Copy, T: Allocator>(
     alloc: A,
     sources: &[Source],
@@ -139,5 +139,5 @@ pub fn write_machine_json<A: Allocator + Copy, T: Allocator>(
     ensures err { OnErr result (out.new.items ≡ out.old.items) }
 {
     let text = machine_of(alloc, sources, routes)?;
-    out.extend_from_slice(&text).map_err(|_| Memory)
+    out.extend_from_slice(&text)
 }

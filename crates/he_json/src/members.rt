@@ -8,12 +8,12 @@ use he_addr::{Family, Ip, Memory, write_ip, write_number};
 use he_course::{Cause, Turn};
 use he_print::write_string;
 use he_select::DestinationRule;
-use std::alloc::{AllocError, Allocator};
+use std::alloc::Allocator;
 
-/// What a word of an object says.
+/// The meaning of a word of an object.
 #[derive(Clone, Copy)]
 pub enum Said {
-    // What happens in a race, what becomes of an attempt, and how a race ends.
+    // An event of a race, the outcome of an attempt, and the end of a race.
     Paused,
     Answered,
     Waits,
@@ -31,7 +31,7 @@ pub enum Said {
     Rule(DestinationRule),
     Truth(bool),
 
-    /// It is not known, or there is none.
+    /// Unknown, or none.
     Nothing,
 }
 
@@ -44,7 +44,7 @@ pub(crate) enum Value {
     AddressOrNull(Option<Ip>),
     Truth(bool),
 
-    // A word that says this.
+    // A word with this meaning.
     Says(Said, &'static [u8]),
 }
 
@@ -52,11 +52,8 @@ pub(crate) enum Value {
 #[derive(Clone, Copy)]
 pub(crate) struct Member(pub(crate) &'static [u8], pub(crate) Value);
 
-// Puts members after others.
-pub(crate) fn push<A: Allocator>(
-    members: &[Member],
-    row: &mut Vec<Member, A>,
-) -> Result<(), AllocError>
+// Appends members to a row.
+pub(crate) fn push<A: Allocator>(members: &[Member], row: &mut Vec<Member, A>) -> Result<(), Memory>
     ensures { OnOk result (flat_map fact_of row.new.items ≡ flat_map fact_of row.old.items ++ flat_map fact_of
         members.now) }
 {

@@ -80,7 +80,7 @@ fn write_names<A: Allocator + Copy>(
 /// {"host":"www.example.com","aaaa":{"tick":31,"addresses":["2001:db8:1::1"]},"a":{"tick":12,"addresses":[]}}
 /// ```
 ///
-/// A family without an answer is null. After `Memory` the vector holds what it held.
+/// A family without an answer is null. After `Memory` the vector is unchanged.
 pub fn write_names_json<A: Allocator + Copy, T: Allocator>(
     alloc: A,
     host: &str,
@@ -93,5 +93,5 @@ pub fn write_names_json<A: Allocator + Copy, T: Allocator>(
 {
     let mut text = Vec::new(alloc);
     write_names(host, aaaa, a, &mut text)?;
-    out.extend_from_slice(&text).map_err(|_| Memory)
+    out.extend_from_slice(&text)
 }

@@ -7,18 +7,19 @@ ghost use Rattle.he_json.specs.Json.{fact_of};
 
 use crate::members::{Member, Value, push};
 use crate::reasons::push_reason;
+use he_addr::Memory;
 use he_course::Preferred;
 use he_select::DestinationAttributes;
-use std::alloc::{AllocError, Allocator};
+use std::alloc::Allocator;
 
-// No object of an address has more members.
+// The most members that an object of an address has.
 const MOST_MEMBERS: usize = 7;
 
-// An object for each of sorted addresses.
+// An object for each of the sorted addresses.
 pub(crate) fn place_rows<A: Allocator + Copy>(
     alloc: A,
     sorted: &[DestinationAttributes],
-) -> Result<Vec<Vec<Member, A>, A>, AllocError>
+) -> Result<Vec<Vec<Member, A>, A>, Memory>
     ensures { IfOk result (λ rows. map (λ row. flat_map fact_of row.items) rows.items ≡ placed_facts 0 sorted.now) }
 {
     let mut rows = Vec::with_capacity(alloc, sorted.len())?;
@@ -28,11 +29,11 @@ pub(crate) fn place_rows<A: Allocator + Copy>(
     Ok(rows)
 }
 
-// The same, each with the rule that puts it after the one before.
+// An object for each address, with the rule that sorts it after the one before.
 pub(crate) fn preferred_rows<A: Allocator + Copy>(
     alloc: A,
     addresses: &[Preferred],
-) -> Result<Vec<Vec<Member, A>, A>, AllocError>
+) -> Result<Vec<Vec<Member, A>, A>, Memory>
     ensures { IfOk result (λ rows. map (λ row. flat_map fact_of row.items) rows.items ≡ preferred_facts 0 None
         addresses.now) }
 {
@@ -51,7 +52,7 @@ fn place_row<A: Allocator + Copy>(
     alloc: A,
     place: usize,
     attributes: &DestinationAttributes,
-) -> Result<Vec<Member, A>, AllocError>
+) -> Result<Vec<Member, A>, Memory>
     ensures { IfOk result (λ row. flat_map fact_of row.items ≡ place_facts place attributes.now) }
 {
     let mut row = Vec::with_capacity(alloc, MOST_MEMBERS)?;

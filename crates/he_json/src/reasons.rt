@@ -1,4 +1,4 @@
-// What puts an address after the one before it.
+// The reason that sorts an address after the one before it.
 
 ghost use Rattle.std.specs.Prelude.{◌≡◌, ◌++◌, Some, OnOk};
 ghost use Rattle.std.specs.List.{flat_map};
@@ -6,16 +6,17 @@ ghost use Rattle.he_json.specs.Facts.{compared_facts, of_source, reason_facts, v
 ghost use Rattle.he_json.specs.Json.{fact_of};
 
 use crate::members::{Member, Said, Value, push};
+use he_addr::Memory;
 use he_select::{DestinationAttributes, DestinationRule};
-use std::alloc::{AllocError, Allocator};
+use std::alloc::Allocator;
 
-// The rule, and what it compares.
+// The rule, and the values that it compares.
 pub(crate) fn push_reason<A: Allocator>(
     rule: Option<DestinationRule>,
     before: Option<DestinationAttributes>,
     own: &DestinationAttributes,
     row: &mut Vec<Member, A>,
-) -> Result<(), AllocError>
+) -> Result<(), Memory>
     ensures { OnOk result (flat_map fact_of row.new.items ≡ flat_map fact_of row.old.items ++ reason_facts rule before
         own.now) }
 {
@@ -37,7 +38,7 @@ fn push_compared<A: Allocator>(
     before: &DestinationAttributes,
     own: &DestinationAttributes,
     row: &mut Vec<Member, A>,
-) -> Result<(), AllocError>
+) -> Result<(), Memory>
     ensures { OnOk result (flat_map fact_of row.new.items ≡ flat_map fact_of row.old.items ++ compared_facts rule
         before.now own.now) }
 {
@@ -62,24 +63,16 @@ fn push_compared<A: Allocator>(
     }
 }
 
-// A value of the address, and that of the address before it.
-fn push_after<A: Allocator>(
-    own: u64,
-    before: u64,
-    row: &mut Vec<Member, A>,
-) -> Result<(), AllocError>
+// A value of the address, and the one of the address before it.
+fn push_after<A: Allocator>(own: u64, before: u64, row: &mut Vec<Member, A>) -> Result<(), Memory>
     ensures { OnOk result (flat_map fact_of row.new.items ≡ flat_map fact_of row.old.items ++ values_facts (Some own)
         (Some before)) }
 {
     push_values(Some(own), b"before", Some(before), row)
 }
 
-// A value of the address, and that of its own source.
-fn push_unlike<A: Allocator>(
-    own: u64,
-    source: u64,
-    row: &mut Vec<Member, A>,
-) -> Result<(), AllocError>
+// A value of the address, and the one of its source.
+fn push_unlike<A: Allocator>(own: u64, source: u64, row: &mut Vec<Member, A>) -> Result<(), Memory>
     ensures { OnOk result (flat_map fact_of row.new.items ≡ flat_map fact_of row.old.items ++ values_facts (Some own)
         (Some source)) }
 {
@@ -91,7 +84,7 @@ fn push_values<A: Allocator>(
     name: &'static [u8],
     other: Option<u64>,
     row: &mut Vec<Member, A>,
-) -> Result<(), AllocError>
+) -> Result<(), Memory>
     ensures { OnOk result (flat_map fact_of row.new.items ≡ flat_map fact_of row.old.items ++ values_facts own other) }
 {
     let members = [
@@ -130,7 +123,7 @@ fn number_of(rule: DestinationRule) -> &'static [u8] {
     }
 }
 
-// And its name there.
+// The name of the rule there.
 fn name_of(rule: DestinationRule) -> &'static [u8] {
     match rule {
         DestinationRule::AvoidUnusable => b"avoid unusable destinations",

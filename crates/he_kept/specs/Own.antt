@@ -1,4 +1,4 @@
--- Each answer in a cache lies where its own host, family and time say.
+-- Each answer in a cache is at the place of its own host and family, with its own time.
 use Rattle.std.specs.Prelude.{ℕ, ◌≡◌, List, Some}
 use Rattle.he_addr.specs.declared.ip.Family.{Family}
 use Rattle.he_cache.specs.Keeping.{kept_of, seconds_for}

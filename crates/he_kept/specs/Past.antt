@@ -1,4 +1,4 @@
--- What a table holds, after the answers that were kept in its past.
+-- The answers in a table, in terms of those that were kept in its past.
 use Rattle.std.specs.Prelude.{ℕ, ◌≡◌, List, Some}
 use Rattle.std.specs.List.{Contains}
 use Rattle.he_addr.specs.declared.ip.Family.{Family}
@@ -8,12 +8,12 @@ use Rattle.he_kept.specs.Answers.{Serves}
 use Rattle.he_kept.specs.declared.answer.KeptAnswer.{KeptAnswer}
 use Rattle.he_kept.specs.declared.table.KeptTable.{KeptTable}
 
--- all that it holds was kept
+-- all answers in the table were kept
 abbrev pub Explains : List KeptAnswer → KeptTable → Type 0
 Explains past table =
     (host : List ℕ) → (family : Family) → (kept : Kept KeptAnswer) → kept_of table.cache host family ≡ Some kept
     → Contains past kept.answer
 
--- it was kept, for this family of the host, less than its TTL ago
+-- the answer was kept, for this family of the host, less than its TTL ago
 abbrev pub WasKept : List KeptAnswer → ℕ → List ℕ → Family → KeptAnswer → Type 0
 WasKept past now host family answer = Contains past answer × Serves answer now host family

@@ -1,11 +1,11 @@
-//! What is asked for, and what was answered.
+//! Questions to name servers, and their answers.
 ghost use Rattle.std.specs.Prelude.{◌≡◌, ◌++◌, IfOk, IsTrue, OnOk, string_bytes};
 ghost use Rattle.he_kept.specs.Answers.{IsAbout, IsCopy, ips_in};
 
-use he_addr::{Family, Ip};
-use std::alloc::{AllocError, Global};
+use he_addr::{Family, Ip, Memory};
+use std::alloc::Global;
 
-/// A family of a host.
+/// A question: a family of a host's addresses.
 #[derive(Drop)]
 pub struct Question {
     pub host: String,
@@ -13,12 +13,12 @@ pub struct Question {
 }
 
 impl Question {
-    /// The family of this host.
+    /// The question for this family of the host.
     ///
     /// # Errors
     ///
-    /// `AllocError` where an allocation was refused.
-    pub fn of(alloc: Global, host: &str, family: Family) -> Result<Question, AllocError>
+    /// `Memory` if an allocation failed.
+    pub fn of(alloc: Global, host: &str, family: Family) -> Result<Question, Memory>
         ensures { IfOk result (λ question. (string_bytes question.host ≡ host.now) × (question.family ≡ family)) }
     {
         Ok(Question {
@@ -27,7 +27,7 @@ impl Question {
         })
     }
 
-    /// Whether it is that family of the host. Hosts differ only if they do so without regard to the case of ASCII
+    /// Whether the question is for that family of the host. Hosts are compared without regard to the case of ASCII
     /// letters (RFC 4343).
     pub fn is_of(&self, host: &str, family: Family) -> bool
         ensures { IsTrue result → IsAbout self.now host.now family }
@@ -36,16 +36,16 @@ impl Question {
     }
 }
 
-/// Since when an answer is kept, and for how many seconds it counts as its name server says.
+/// The second in which an answer was kept, and its TTL.
 #[derive(Clone, Copy, Debug, PartialEq, Eq)]
 pub struct Lifetime {
     /// The second in which it was kept.
     pub at: u64,
-    /// None where it has no TTL, as that there is no such name.
+    /// The name server's TTL, in seconds; None if there is none, as when the name doesn't exist.
     pub ttl: Option<u32>,
 }
 
-/// What name servers answered: the addresses, of which there may be none.
+/// An answer of name servers: the addresses, of which there may be none.
 #[derive(Drop)]
 pub struct KeptAnswer {
     pub question: Question,
@@ -54,12 +54,12 @@ pub struct KeptAnswer {
 }
 
 impl KeptAnswer {
-    /// The same answer once more.
+    /// A copy of the answer.
     ///
     /// # Errors
     ///
-    /// `AllocError` where an allocation was refused.
-    pub fn copied(&self, alloc: Global) -> Result<KeptAnswer, AllocError>
+    /// `Memory` if an allocation failed.
+    pub fn copied(&self, alloc: Global) -> Result<KeptAnswer, Memory>
         ensures { IfOk result (IsCopy self.now) }
     {
         Ok(KeptAnswer {
@@ -77,7 +77,7 @@ impl KeptAnswer {
     }
 }
 
-/// What is kept of a host: the answer of each family that is tried.
+/// The answers kept for a host: one for each family that is tried.
 #[derive(Drop)]
 pub struct KeptHost {
     pub six: Option<KeptAnswer>,
@@ -85,12 +85,12 @@ pub struct KeptHost {
 }
 
 impl KeptHost {
-    /// Its addresses, those of IPv6 first.
+    /// The host's addresses, those of IPv6 first.
     ///
     /// # Errors
     ///
-    /// `AllocError` where an allocation was refused.
-    pub fn ips(&self, alloc: Global) -> Result<Vec<Ip>, AllocError>
+    /// `Memory` if an allocation failed.
+    pub fn ips(&self, alloc: Global) -> Result<Vec<Ip>, Memory>
         ensures { IfOk result (λ ips. ips.items ≡ ips_in self.now.six ++ ips_in self.now.four) }
     {
         let mut ips = Vec::new(alloc);
@@ -100,7 +100,7 @@ impl KeptHost {
     }
 }
 
-fn add_ips(answer: &Option<KeptAnswer>, ips: &mut Vec<Ip>) -> Result<(), AllocError>
+fn add_ips(answer: &Option<KeptAnswer>, ips: &mut Vec<Ip>) -> Result<(), Memory>
     ensures { OnOk result (ips.new.items ≡ ips.old.items ++ ips_in answer.now) }
 {
     if let Some(answer) = answer {

@@ -1,30 +1,30 @@
-//! The answers that races share, and for which hosts name servers are being asked.
+//! The answers that races share, and the questions that name servers are being asked.
 ghost use Rattle.std.specs.Prelude.{◌≡◌, IfOk, IfSome};
 ghost use Rattle.he_kept.specs.Answers.{IsAbout, IsOfHost, Serves};
 
 use crate::answer::{KeptAnswer, KeptHost, Question};
 use crate::table::KeptTable;
 use he_addr::{Family, Memory};
-use std::alloc::{AllocError, Global};
+use std::alloc::Global;
 use std::cell::Cell;
 use std::io;
 use std::mem::drop;
 use std::time::{Clock, Instant};
 use tokio::sync::Notify;
 
-/// The answers that all races share, and what they are asking for.
+/// The answers that all races share, and the questions that they are asking.
 #[derive(Drop)]
 pub struct KeptAnswers {
     alloc: Global,
-    // From when on seconds are counted.
+    // The start from which seconds are counted.
     start: Instant,
     table: Cell<Option<KeptTable>>,
     asked: Cell<Option<Vec<Question>>>,
-    /// Fires where one of them has its answer, or goes away.
+    /// Fires when a race that asks has its answer, or goes away.
     pub answered: Notify,
 }
 
-/// That a race asks name servers for a family of a host, until this is dropped.
+/// Marks that a race asks name servers for a family of a host, until this is dropped.
 pub struct Asking<'h> {
     kept: &'h KeptAnswers,
     question: Question,
@@ -39,11 +39,11 @@ impl Drop for Asking<'_> {
 }
 
 impl KeptAnswers {
-    /// Nothing is kept.
+    /// An empty store.
     ///
     /// # Errors
     ///
-    /// Those of the clock, `OutOfMemory`.
+    /// The clock's errors; `OutOfMemory`.
     pub fn new<R: Clock>(rt: &R, alloc: Global) -> io::Result<KeptAnswers> {
         let table = match KeptTable::new(alloc) {
             Ok(table) => table,
@@ -58,13 +58,13 @@ impl KeptAnswers {
         })
     }
 
-    /// The second in which it is asked, by a clock that goes on. None where the clock fails.
+    /// The present second, by a clock that never goes back. None if the clock fails.
     pub fn second<R: Clock>(&self, rt: &R) -> Option<u64> {
         let now = Instant::now(rt).ok()?;
         Some(now.saturating_duration_since(self.start).as_secs())
     }
 
-    /// What is kept of the family of the host and counts in this second. None also where memory is refused.
+    /// The answer kept for the family of the host, if it is valid at this second. None also if an allocation fails.
     pub fn known_of(&self, now: u64, host: &str, family: Family) -> Option<KeptAnswer>
         ensures { IfSome result (λ answer. Serves answer now host.now family) }
     {
@@ -74,8 +74,8 @@ impl KeptAnswers {
         known
     }
 
-    /// What is kept of the host and counts in this second, where the answer of each family that is tried is; `only` is
-    /// the family that is tried alone.
+    /// The answers kept for the host and valid at this second, if there is one for each family that is tried. `only`
+    /// is the only family that is tried.
     pub fn known(&self, now: u64, host: &str, only: Option<Family>) -> Option<KeptHost>
         ensures { IfSome result (λ known. IsOfHost only known now host.now) }
     {
@@ -95,7 +95,7 @@ impl KeptAnswers {
         }
     }
 
-    /// Keeps an answer. Where memory is refused it is not kept.
+    /// Keeps an answer. If an allocation fails, it is not kept.
     pub fn keep(&self, answer: KeptAnswer) {
         if let Some(mut table) = self.table.take() {
             let _ = table.keep(answer);
@@ -105,8 +105,8 @@ impl KeptAnswers {
         }
     }
 
-    /// The question of a race that asks name servers for the family of the host, where one does. None also where
-    /// memory is refused.
+    /// The question of a race that is asking name servers for the family of the host, if there is one. None also if
+    /// an allocation fails.
     pub fn asked(&self, host: &str, family: Family) -> Option<Question>
         ensures { IfSome result (λ question. IsAbout question host.now family) }
     {
@@ -120,14 +120,14 @@ impl KeptAnswers {
     ///
     /// # Errors
     ///
-    /// `AllocError` where an allocation was refused: it is not noted.
-    pub fn ask(&self, host: &str, family: Family) -> Result<Asking<'_>, AllocError>
+    /// `Memory` if an allocation failed: nothing is noted.
+    pub fn ask(&self, host: &str, family: Family) -> Result<Asking<'_>, Memory>
         ensures { IfOk result (λ asking. IsAbout asking.question host.now family) }
     {
         let question = Question::of(self.alloc, host, family)?;
         let noted = Question::of(self.alloc, host, family)?;
         let Some(mut asked) = self.asked.take() else {
-            return Err(AllocError);
+            return Err(Memory);
         };
         let pushed = asked.push(noted);
         self.asked.set(Some(asked));
@@ -136,11 +136,11 @@ impl KeptAnswers {
                 kept: self,
                 question,
             }),
-            Err(_) => Err(AllocError),
+            Err(_) => Err(Memory),
         }
     }
 
-    // The race has its answer, or goes away; those that wait are woken.
+    // Notes that the race has its answer, or goes away, and wakes those that wait.
     fn remove(&self, question: &Question) {
         let Some(mut asked) = self.asked.take() else {
             return;

@@ -1,18 +1,18 @@
-//! The answers of name servers that the races of a proxy share: those that are kept, and those that are asked for now.
+//! The answers of name servers that the races of a proxy share: those kept, and those being requested.
 //!
-//! [`KeptAnswers::keep`] takes what a look-up found of a family of a host, with its TTL. [`KeptAnswers::known_of`]
-//! hands it out to other races for the host until that time is over, and [`KeptAnswers::asked`] says whether one of
-//! them asks for it now, so that others may wait.
+//! [`KeptAnswers::keep`] keeps the result of a look-up for a family of a host, with its TTL.
+//! [`KeptAnswers::known_of`] returns it to other races for the host until that time is over, and
+//! [`KeptAnswers::asked`] reports whether a race is asking for it now, so that others can wait.
 //!
 //! # What is proved
 //!
-//! Over any sequence of answers that were kept and asked for, what is handed out for a host was kept, for that host
-//! and family, less than its TTL ago ([`KeptTable`]; `Explains` and `Serves` in `specs`). What is kept of other hosts
-//! stays, as `he_cache` says. The races share the table in a cell, of whose content no clause can speak. So what is
-//! handed out of it says itself which host it is of, when it was kept and for how long it counts, and a question which
-//! host it asks for: each is proved to be the one that was asked for.
+//! For any sequence of answers kept and requested, an answer returned for a host was kept, for that host and family,
+//! less than its TTL ago ([`KeptTable`]; `Explains` and `Serves` in `specs`). The answers of other hosts are
+//! unchanged, as far as `he_cache` proves it. The races share the table in a cell, whose content no contract can
+//! describe. So each returned answer contains its host, the second in which it was kept and its TTL, and each
+//! question contains its host: both are proved to be those of the request.
 //!
-//! Only tested: that what was kept is handed out; that who waits is woken.
+//! Only tested: that a kept answer is returned, and that waiting races are woken.
 #![tactic(auto)]
 
 pub mod answer;

@@ -1,4 +1,4 @@
-//! The answers that are kept.
+//! The table of kept answers.
 ghost use Rattle.he_kept.specs.Own.{IsOwn};
 
 use crate::answer::{KeptAnswer, Lifetime};
@@ -6,7 +6,7 @@ use he_addr::{Family, Memory};
 use he_cache::AnswerCache;
 use std::alloc::Global;
 
-/// The answers that are kept, each for the host and family that it says itself.
+/// The answers kept, each for the host and family that it contains.
 #[derive(Drop)]
 pub struct KeptTable {
     alloc: Global,
@@ -22,11 +22,11 @@ impl KeptTable {
     ghost use Rattle.he_kept.specs.Answers.{Serves};
     ghost use Rattle.he_kept.specs.declared.answer.KeptAnswer.{KeptAnswer};
 
-    /// Nothing is kept.
+    /// An empty table.
     ///
     /// # Errors
     ///
-    /// `Memory`.
+    /// `Memory` if an allocation failed.
     pub fn new(alloc: Global) -> Result<KeptTable, Memory>
         ensures { IfOk result (Explains []) }
     {
@@ -36,11 +36,11 @@ impl KeptTable {
         })
     }
 
-    /// What was kept last of this family of the host, where it counts in this second.
+    /// The answer kept last for this family of the host, if it is valid at this second.
     ///
     /// # Errors
     ///
-    /// `Memory`.
+    /// `Memory` if an allocation failed.
     pub fn answer(
         &self,
         now: u64,
@@ -55,12 +55,12 @@ impl KeptTable {
         self.cache.answer(now, host, family)
     }
 
-    /// Keeps an answer in place of what was kept of its host and family. What is kept of other hosts stays; but where
-    /// there are as many of them as may be, the one that was kept longest ago is forgotten.
+    /// Keeps an answer, and replaces an earlier one for its host and family. The answers of other hosts are
+    /// unchanged; but if their number is at its maximum, the host that was kept longest ago is forgotten.
     ///
     /// # Errors
     ///
-    /// `Memory`: all is as it was.
+    /// `Memory` if an allocation failed; nothing has changed.
     pub fn keep(&mut self, answer: KeptAnswer) -> Result<(), Memory>
         ensures past { (past : List KeptAnswer) → Explains past self.old → Explains (answer ∷ past) self.new }
         ensures kept { OnOk result (kept_of self.new.cache (string_bytes answer.question.host) answer.question.family

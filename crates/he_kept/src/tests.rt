@@ -1,4 +1,4 @@
-// That what was kept is handed out.
+// That a kept answer is returned.
 
 use crate::answer::{KeptAnswer, Lifetime, Question};
 use crate::kept::KeptAnswers;

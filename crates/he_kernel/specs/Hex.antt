@@ -4,7 +4,7 @@ use Rattle.std.specs.Char.{digit_value}
 use Rattle.he_addr.specs.Reading.{◌>>=◌}
 use Rattle.he_kernel.specs.Parts.{field_of}
 
--- the number that the hexadecimal digits write when they follow those of value; none if a byte is no digit
+-- the number of these hexadecimal digits after those of value; none if a byte is not a digit
 abbrev pub hex_after : ℕ → List ℕ → Option ℕ
 hex_after value [] = Some value
 hex_after value (c ∷ cs) = if nat_lt (digit_value c) 16 then hex_after (value * 16 + digit_value c) cs else None
@@ -19,6 +19,6 @@ hex_field most place line = do
   text ← field_of place line
   hex_in most text
 
--- one of the bits of the mask is set
+-- a bit of the mask is set
 abbrev pub has : ℕ → ℕ → Bool
 has flags mask = not (bit_and flags mask == 0)

@@ -1,4 +1,4 @@
--- /proc/net/if_inet6: one line for each IPv6 address, of six fields: address, interface number, prefix length, scope
+-- /proc/net/if_inet6: one line for each IPv6 address, with six fields: address, interface index, prefix length, scope
 -- and flags, all in hexadecimal, and the interface's name.
 use Rattle.std.specs.Prelude.{ℕ, ◌||◌, not, List, Option, Some, None, Result, Ok, Err, nat_lt, if◌then◌else◌}
 use Rattle.he_addr.specs.declared.ip.Ip.TheVariants.{V6}
@@ -31,8 +31,8 @@ source_on read (Some link) =
       temporary = has read.flags TEMPORARY;
     })
 
--- the source of a line, by its interface; an address that is tentative or that was found twice on its link is not in
--- use
+-- the source of a line, by its interface; an address that is tentative or that failed duplicate address detection is
+-- not in use
 unfoldable pub source_of : AddressLine → Option Link → Result Source Why
 source_of read link =
     if nat_lt 128 read.len then Err whys.Unclear

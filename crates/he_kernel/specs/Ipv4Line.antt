@@ -1,6 +1,6 @@
--- /proc/net/route: a heading, then one line for each IPv4 route of the main table, of eleven fields: the interface's
--- name, destination, gateway and flags in hexadecimal, two counts, the metric in decimal, the mask in hexadecimal, and
--- three more numbers. The four bytes of an address stand as the number that a little-endian machine makes of them.
+-- /proc/net/route: a heading, then one line for each IPv4 route of the main table, with eleven fields: the
+-- interface's name, destination, gateway and flags in hexadecimal, two counts, the metric in decimal, the mask in
+-- hexadecimal, and three more numbers. The four bytes of an address are printed as a little-endian number.
 use Rattle.std.specs.Prelude.{ℕ, ◌||◌, codes, List, Option, Some}
 use Rattle.std.specs.Int.{swap_bytes, w32}
 use Rattle.std.specs.Str.{bytes_eq}
@@ -15,7 +15,7 @@ v4_field place line = do
   number ← hex_field 8 place line
   Some (swap_bytes w32 number)
 
--- The numbers of a line. An unreachable or prohibited route has a flag, and these and a blackhole have the interface
+-- The numbers of a line. An unreachable or prohibited route has a flag; those and blackhole routes have the interface
 -- `*`.
 unfoldable pub v4_line : List ℕ → Option V4Line
 v4_line line = do

@@ -1,4 +1,4 @@
--- The lines of a text that aren't empty, with their numbers: lines are counted from 1, the empty ones too.
+-- The non-empty lines of a text with their numbers: lines count from 1, empty ones included.
 use Rattle.std.specs.Prelude.{ℕ, ◌+◌, ◌==◌, List, [], ◌∷◌, length, if◌then◌else◌}
 use Rattle.he_kernel.specs.declared.lines.NumberedLine.{NumberedLine}
 use Rattle.he_kernel.specs.declared.parts.Cut.TheVariants.{Lines}

@@ -1,4 +1,4 @@
--- Why the kernel's source is taken where each source has an interface of its own (RFC 6724 section 5).
+-- Why the kernel's source is selected where each source has an interface of its own (RFC 6724 section 5).
 use Rattle.std.specs.Prelude.{◌≡◌, ◌⊎◌, ◌==◌, false, List, [], ◌∷◌, Some}
 use Rattle.std.specs.Ordering.{is_lt}
 use Rattle.he_addr.specs.declared.ip.Ip.{Ip}
@@ -17,7 +17,7 @@ Among x (y ∷ ys) = (x ≡ y) ⊎ Among x ys
 abbrev pub early_rules : Ip → List (Rule Source)
 early_rules ip = prefers_same_address ip ∷ prefers_appropriate_scope ip ∷ avoids_deprecated ∷ []
 
--- the route of a destination leads over the interface of a source of its family, which no other source has, and none
+-- the route to a destination leads over the interface of a source of its family, which no other source has, and none
 -- of the early rules prefers another source to it
 pub record IsAloneOnWay (input : SelectionInput) (ip : Ip) (route : Route) (source : Source) : Type 0 where
   pub routed : route_of input ip ≡ Some route
@@ -28,7 +28,7 @@ pub record IsAloneOnWay (input : SelectionInput) (ip : Ip) (route : Route) (sour
       ⊎ ((other.interface == route.interface) ≡ false)
   pub early : (other : Source) → Among other input.sources → is_lt (first_of (early_rules ip) other source) ≡ false
 
--- then it is the destination's source, whatever the later rules say
+-- then it is the destination's source, whatever the later rules prefer
 abbrev pub OwnInterfaceDecides : Type 0
 OwnInterfaceDecides =
     (input : SelectionInput) (ip : Ip) (route : Route) (source : Source) → IsAloneOnWay input ip route source

@@ -1,4 +1,4 @@
--- The machine by which the rules take the sources that the kernel takes (RFC 6724 section 5).
+-- A machine for which the rules select the kernel's sources (RFC 6724 section 5).
 use Rattle.std.specs.Prelude.{◌≡◌, ◌++◌, Bool, true, false, not, if◌then◌else◌, List, [], ◌∷◌, count_by, find, map, nat_le, Option, Some, None, Result, Ok, Err, option_map}
 use Rattle.std.specs.List.{list_any}
 use Rattle.std.specs.Option.{option_map_or}
@@ -17,15 +17,15 @@ use Rattle.he_kernel.specs.declared.ways.TakenSource.{TakenSource}
 use Rattle.he_kernel.specs.declared.ways.Way.{Way}
 use Rattle.he_kernel.specs.Keeping.{routes_kept, sources_kept}
 
--- what is known of a source
+-- the properties of a source
 abbrev pub own_of : Ip → List TakenSource → Option TakenSource
 own_of ip own = find (λ one. same_ip one.source.ip ip) own
 
--- one address alone
+-- a prefix of one address
 abbrev pub one_address : Ip → PrefixBits
 one_address to = record { bits = mapped_of to; len = 128 }
 
--- the route to a destination, over the interface of the source
+-- the route to a destination, over the source's interface
 abbrev pub route_over : PrefixBits → TakenSource → Route
 route_over prefix taken = record { prefix = prefix; interface = taken.source.interface; tunnel = taken.tunnel }
 
@@ -37,15 +37,15 @@ abbrev pub route_from : List TakenSource → PrefixBits → Option Ip → Result
 route_from own prefix None = Err whys.Unreachable
 route_from own prefix (Some from) = route_of_own prefix (own_of from own)
 
--- the route of a way; none where the kernel has no way
+-- the route of a way; none if the kernel has no way
 unfoldable pub way_route : List TakenSource → Way → Result Route Why
 way_route own way = route_from own (one_address way.to) way.from
 
--- what is known of a source that the kernel takes
+-- the properties of a source that the kernel selects
 abbrev pub source_taken : TakenSource → Result Source Why
 source_taken taken = Ok taken.source
 
--- the machine that has these sources, and for each of these ways a route
+-- the machine with these sources, and a route for each of these ways
 abbrev pub IsHostTo : List TakenSource → List Way → HostLists → Type 0
 IsHostTo own ways host =
     Ok host ≡ host_of (sources_kept [] (map source_taken own)) (routes_kept [] (map (way_route own) ways))
@@ -55,7 +55,7 @@ same_source (Some said) (Some taken) = same_ip said taken
 same_source None None = true
 same_source said taken = false
 
--- the rules take another source than the kernel
+-- the rules select another source than the kernel
 abbrev pub is_unsaid : List Row → HostLists → Way → Bool
 is_unsaid rows host way =
     not (same_source (option_map (λ source. source.ip) (source_of (selection_input rows host) way.to)) way.from)
@@ -67,24 +67,24 @@ abbrev pub with_source : List Ip → Option Ip → List Ip
 with_source taken None = taken
 with_source taken (Some ip) = if list_any (λ other. same_ip other ip) taken then taken else taken ++ ip ∷ []
 
--- the sources of these ways after those that there are, each once
+-- the sources of these ways after those in `taken`, each once
 abbrev pub sources_after : List Ip → List Way → List Ip
 sources_after taken [] = taken
 sources_after taken (way ∷ ways) = sources_after (with_source taken way.from) ways
 
--- the machine by which the rules take the sources of these ways: what is known of each, and the routes
+-- the machine for which the rules select the sources of these ways: their sources, and the routes
 abbrev pub IsMachineOf : List Way → HostLists → Type 0
 IsMachineOf ways host =
     (own : List TakenSource) × (map ip_of own ≡ sources_after [] ways) × IsHostTo own ways host
 
--- the machine of what the kernel answered for these destinations
+-- the machine for the kernel's answers for these destinations
 abbrev pub IsMachineTo : List Ip → HostLists → Type 0
 IsMachineTo ips host = (ways : List Way) × (map (λ way. way.to) ways ≡ ips) × IsMachineOf ways host
 
--- the kernel takes an IPv4 source, which it does for IPv4 destinations alone
+-- the kernel selects an IPv4 source, which it does only for IPv4 destinations
 abbrev pub is_v4_way : Way → Bool
 is_v4_way way = option_map_or (λ ip. not (is_v6 ip)) way.from false
 
--- Rule 9 (RFC 6724 section 6) compares destinations of one family with their sources: two of IPv4 have one.
+-- Rule 9 (RFC 6724 section 6) compares destinations of one family by their sources: two IPv4 destinations have one.
 abbrev pub compares_v4 : List Way → Bool
 compares_v4 ways = nat_le 2 (count_by is_v4_way ways)

@@ -1,4 +1,4 @@
--- The `source` and `route` lines of a machine, as a race has them.
+-- The `source` and `route` lines of a machine.
 use Rattle.std.specs.Prelude.{ℕ, ◌++◌, Bool, List, [], ◌∷◌, codes, decimal, true, if◌then◌else◌}
 use Rattle.he_addr.specs.Printing.{prefix_text, source_text}
 use Rattle.he_select.specs.declared.host.Route.{Route}
@@ -18,7 +18,7 @@ abbrev pub source_line : Source → List ℕ
 source_line source =
     codes "source " ++ source_text source.ip source.plen ++ codes " " ++ decimal source.interface ++ source_end source
 
--- route PREFIX INTERFACE [tunnel], IPv4 prefixes in IPv4 form
+-- route PREFIX INTERFACE [tunnel]; IPv4 prefixes in IPv4 notation
 abbrev pub route_line : Route → List ℕ
 route_line route =
     codes "route " ++ prefix_text true route.prefix ++ codes " " ++ decimal route.interface
@@ -32,6 +32,6 @@ abbrev pub written_routes : List Route → List ℕ
 written_routes [] = []
 written_routes (route ∷ more) = route_line route ++ written_routes more
 
--- the sources' lines, and then the routes'
+-- the sources' lines, then the routes'
 abbrev pub host_lines : HostLists → List ℕ
 host_lines host = written_sources host.sources ++ written_routes host.routes

@@ -1,7 +1,6 @@
-// The kernel's answers in one race, so that it is asked for each destination once.
+// The kernel's answers in one race, so that each destination is looked up once.
 //
-// Proved is that an answer is that for the destination and the interface it is asked for; what the system answers is
-// in no contract.
+// Proved: an answer is for its destination and interface. No contract has the system's answers.
 
 ghost use Rattle.std.specs.Prelude.{◌≡◌, IfOk, IfSome, find, true};
 ghost use Rattle.he_kernel.specs.Asked.{is_for};
@@ -10,14 +9,14 @@ use crate::remarks::write_unasked;
 use crate::sockets::try_source;
 use crate::ways::Way;
 use he_addr::{Ip, Memory};
-use std::alloc::{AllocError, AllocGlobal, Global};
+use std::alloc::{AllocGlobal, Global};
 use std::cell::Cell;
 use std::io;
 use std::net::Net;
 use std::rc::Rc;
 
-/// What the kernel answered for the destinations of one race, for all that want to know it in that race. It is not
-/// for another race: routes change.
+/// The kernel's answers for the destinations of one race, for all its holders. Don't keep it for another race: routes
+/// change.
 #[derive(Drop)]
 pub struct AskedWays {
     answers: Rc<Cell<Option<Vec<Answered>>>>,
@@ -26,13 +25,13 @@ pub struct AskedWays {
 /// An answer of the kernel.
 #[derive(Clone, Copy, Debug, PartialEq, Eq)]
 pub struct Answered {
-    /// The interface over which a link-local destination is reached.
+    /// The interface to a link-local destination.
     pub scope: u32,
     pub way: Way,
 }
 
 impl Answered {
-    // Whether it is that for the destination, over the interface.
+    // Whether it is for the destination, over the interface.
     fn is_for(self, to: Ip, scope: u32) -> bool
         ensures { result ≡ is_for to scope self }
     {
@@ -41,41 +40,41 @@ impl Answered {
 }
 
 impl AskedWays {
-    /// Nothing is asked yet.
+    /// No answers.
     ///
     /// # Errors
     ///
-    /// `AllocError` where an allocation was refused.
-    pub fn new(alloc: Global) -> Result<AskedWays, AllocError> {
+    /// `Memory` if an allocation fails.
+    pub fn new(alloc: Global) -> Result<AskedWays, Memory> {
         Ok(AskedWays {
             answers: Rc::new(alloc, Cell::new(Some(Vec::new(alloc))))?,
         })
     }
 
-    /// The same answers, for another holder.
+    /// Another handle to these answers.
     ///
     /// # Errors
     ///
-    /// `AllocError` where there are too many holders.
-    pub fn share(&self) -> Result<AskedWays, AllocError> {
+    /// `Memory` if there are too many handles.
+    pub fn share(&self) -> Result<AskedWays, Memory> {
         Ok(AskedWays {
             answers: self.answers.clone()?,
         })
     }
 
-    /// The way to a destination, to a link-local one of IPv6 over the interface of this number: what the kernel
-    /// answered before in this race, or answers now. There is none where it can't be asked.
+    /// The way to a destination: the kernel's earlier answer in this race, or a new one. A link-local IPv6
+    /// destination is reached over the interface `scope`. If the kernel can't be asked, there is no way.
     pub fn way<R: Net>(&self, rt: &R, to: Ip, scope: u32) -> Way
         ensures { result.to ≡ to }
     {
         self.ask(rt, to, scope).unwrap_or(Way { to, from: None })
     }
 
-    /// The same; where the kernel can't be asked, a remark is appended.
+    /// As [`way`](AskedWays::way); appends a remark if the kernel can't be asked.
     ///
     /// # Errors
     ///
-    /// [`Memory`]: an allocation was refused.
+    /// [`Memory`] if an allocation fails.
     pub fn way_or_remark<R: Net + AllocGlobal>(
         &self,
         rt: &R,
@@ -124,7 +123,7 @@ impl AskedWays {
         kept
     }
 
-    // Where memory is refused, the kernel is asked again.
+    // If the allocation fails, the kernel is asked again next time.
     fn keep(&self, answer: Answered) {
         let mut answers = self.answers.take();
         if let Some(answers) = &mut answers {

@@ -1,6 +1,6 @@
-// Which families this machine can use.
+// The families that this machine can use.
 //
-// Proved is that it is safe and ends; what the system answers is in no contract.
+// Proved: this is safe and ends. No contract has the system's answers.
 
 use crate::asked::AskedWays;
 use crate::fault::MachineFault;
@@ -18,13 +18,13 @@ use std::io::Read;
 use std::net::Net;
 use std::rt::Files as FileSystem;
 
-// How many bytes of a file of routes or addresses are read: those of a machine that has some stand at its head.
+// The bytes read of a file of routes or addresses: if there are any, they are in its first lines.
 const MOST_BYTES: u64 = 8_192;
 
 // The scope of a link and of the loopback interface (RFC 6724 section 3.1).
 const LINK_SCOPE: u8 = 2;
 
-// The first bytes of a file, up to a line's end; none where it isn't there, and None where it can't be read.
+// The first bytes of a file, up to the end of a line; empty if the file doesn't exist, None if it can't be read.
 fn read_head<R: FileSystem + AllocGlobal>(
     rt: &R,
     path: &str,
@@ -46,7 +46,7 @@ fn is_wide(ip: Ip) -> bool {
     ip.is_usable() && ip.scope() > LINK_SCOPE
 }
 
-// Whether an IPv6 address beyond the scope of a link is in use, on a network, or may be: a file can't be read.
+// Whether an IPv6 address of more than link scope is in use on a network; true if a file can't be read.
 fn has_v6_network<R: FileSystem + AllocGlobal>(rt: &R) -> Result<bool, MachineFault> {
     let Some(text) = read_head(rt, "/proc/net/if_inet6")? else {
         return Ok(true);
@@ -63,7 +63,7 @@ fn has_v6_network<R: FileSystem + AllocGlobal>(rt: &R) -> Result<bool, MachineFa
     Ok(!remarks.is_empty())
 }
 
-// Whether there is an IPv4 route that leads to a network, or may be: the file can't be read.
+// Whether an IPv4 route leads to a network; true if the file can't be read.
 fn has_v4_network<R: FileSystem + AllocGlobal>(rt: &R) -> Result<bool, MachineFault> {
     let Some(text) = read_head(rt, "/proc/net/route")? else {
         return Ok(true);
@@ -78,14 +78,14 @@ fn has_v4_network<R: FileSystem + AllocGlobal>(rt: &R) -> Result<bool, MachineFa
     Ok(false)
 }
 
-/// Whether this machine can use a family: it has a source of it beyond loopback and the scope of a link, and a way
-/// (AI_ADDRCONFIG of RFC 3493 section 6.1, with a route beside the address). The kernel is asked from where it reaches
-/// the internet, which sends nothing; where it does not, a network of this machine's own will do. Where the files of
-/// these can't be read, it counts as one that can be used.
+/// Whether this machine can use a family: it has a source of more than loopback and link scope, and a route
+/// (AI_ADDRCONFIG of RFC 3493 section 6.1, and a route too). The kernel is asked for its source to an internet
+/// address, which sends nothing; without one, a network of this machine suffices. If its files can't be read, the
+/// family counts as usable.
 ///
 /// # Errors
 ///
-/// [`MachineFault::Memory`]: an allocation was refused.
+/// [`MachineFault::Memory`] if an allocation fails.
 pub fn can_use<R: FileSystem + Net + AllocGlobal>(
     rt: &R,
     asked: &AskedWays,

@@ -1,22 +1,23 @@
-// Why a machine isn't found.
+// Why a machine has no lines.
 
-use std::alloc::{AllocError, AllocFailed};
+use he_addr::Memory;
+use std::alloc::AllocFailed;
 use std::io;
 use thiserror::Error;
 
-/// Why the lines of this machine aren't written.
+/// Why the lines of this machine are not written.
 #[derive(Clone, Copy, Debug, PartialEq, Eq, Error)]
 pub enum MachineFault {
     /// `/proc/net/route` or `/proc/net/fib_trie` can't be read.
     #[error("cannot read /proc/net")]
     NoFiles,
-    /// An allocation was refused.
+    /// An allocation failed.
     #[error("out of memory")]
     Memory,
 }
 
-impl From<AllocError> for MachineFault {
-    fn from(_refused: AllocError) -> MachineFault {
+impl From<Memory> for MachineFault {
+    fn from(_refused: Memory) -> MachineFault {
         MachineFault::Memory
     }
 }

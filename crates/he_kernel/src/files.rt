@@ -1,6 +1,6 @@
-// The files of the kernel, read where they are there.
+// Reads the kernel's files, where they exist.
 //
-// Proved is that it is safe and ends; what the system answers is in no contract.
+// Proved: this is safe and ends. No contract has the system's answers.
 
 use crate::fault::MachineFault;
 use crate::link::Link;
@@ -9,8 +9,8 @@ use std::alloc::AllocGlobal;
 use std::rt::Files as FileSystem;
 use std::{fs, io};
 
-// Linux's numbers of the errors for which a file has nothing to say: it isn't there, its interface isn't there any
-// more, a part of its path is no directory, and the interface is down, so that it has no carrier.
+// Linux's error numbers for a file without contents: it doesn't exist, its interface doesn't exist any more, a part
+// of its path is no directory, or the interface is down and so has no carrier.
 const ENOENT: i32 = 2;
 
 const ENODEV: i32 = 19;
@@ -19,7 +19,7 @@ const ENOTDIR: i32 = 20;
 
 const EINVAL: i32 = 22;
 
-// Whether there is no such file, or it has nothing to say.
+// Whether the file doesn't exist or has no contents.
 pub(crate) fn is_absent(error: &io::Error) -> bool {
     matches!(
         error.raw_os_error(),
@@ -27,11 +27,12 @@ pub(crate) fn is_absent(error: &io::Error) -> bool {
     )
 }
 
-/// The bytes of a file; none where it isn't there. A file that is there and can't be read has none, and a remark.
+/// The bytes of a file; empty if it doesn't exist. For a file that exists but can't be read, they are empty and a
+/// remark is appended.
 ///
 /// # Errors
 ///
-/// [`MachineFault::Memory`]: an allocation was refused.
+/// [`MachineFault::Memory`] if an allocation fails.
 pub fn read_if_there<R: FileSystem + AllocGlobal>(
     rt: &R,
     path: &str,
@@ -61,11 +62,11 @@ fn read_sysfs<R: FileSystem + AllocGlobal>(
     read_if_there(rt, path.as_str(), remarks)
 }
 
-/// The link of the interface of this name, by its files below `/sys/class/net`, each as [`read_if_there`] reads it.
+/// The link of the interface with this name, by its files in `/sys/class/net`, each read as by [`read_if_there`].
 ///
 /// # Errors
 ///
-/// [`MachineFault::Memory`]: an allocation was refused.
+/// [`MachineFault::Memory`] if an allocation fails.
 pub fn read_link_of<R: FileSystem + AllocGlobal>(
     rt: &R,
     name: &str,

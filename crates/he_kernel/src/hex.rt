@@ -7,10 +7,10 @@ use crate::parts::field;
 
 const HEXADECIMAL: u32 = 16;
 
-/// The most digits of a number that is read here.
+/// The most digits of a number.
 pub const HEX_DIGITS: usize = 32;
 
-/// The number that one to `most` hexadecimal digits write; None for every other text.
+/// The number of one to `most` hexadecimal digits; None for any other text.
 #[tactic(auto, unfolding(crate::specs::Hex::hex_in))]
 pub fn read_hex(text: &[u8], most: usize) -> Option<u128>
     requires { most ≤ HEX_DIGITS }
@@ -28,7 +28,7 @@ pub fn read_hex(text: &[u8], most: usize) -> Option<u128>
     Some(value)
 }
 
-/// The number in the field at this place, of one to `most` hexadecimal digits.
+/// The number of one to `most` hexadecimal digits in the field at this place.
 #[tactic(auto, unfolding(crate::specs::Hex::hex_field))]
 pub fn read_hex_field(line: &[u8], place: usize, most: usize) -> Option<u128>
     requires { most ≤ HEX_DIGITS }
@@ -38,7 +38,7 @@ pub fn read_hex_field(line: &[u8], place: usize, most: usize) -> Option<u128>
     read_hex(field(line, place)?, most)
 }
 
-/// Whether one of the bits of the mask is set.
+/// Whether a bit of the mask is set.
 pub fn has(flags: u128, mask: u128) -> bool
     ensures { result ≡ has flags mask }
 {

@@ -10,7 +10,7 @@ use he_addr::Ip;
 use he_addr::prefix::V6_BITS;
 use he_select::Source;
 
-// The places of the fields of a line, and how many digits each has at most.
+// The places of a line's fields, and the most digits of each.
 const ADDRESS: usize = 0;
 
 const ADDRESS_DIGITS: usize = 32;
@@ -42,7 +42,7 @@ pub struct AddressLine {
     pub flags: u128,
 }
 
-/// The numbers of a line; None where it isn't understood.
+/// The numbers of a line; None if it can't be parsed.
 #[tactic(auto, unfolding(crate::specs::IfInet6::address_line))]
 pub fn read_address_line(line: &[u8]) -> Option<AddressLine>
     ensures { result ≡ address_line line.now }
@@ -57,7 +57,7 @@ pub fn read_address_line(line: &[u8]) -> Option<AddressLine>
     })
 }
 
-/// The source of a line whose interface has this link, or why there is none.
+/// The source of a line, by the link of its interface, or why there is none.
 ///
 /// # Errors
 ///

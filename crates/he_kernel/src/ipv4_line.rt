@@ -7,7 +7,7 @@ use crate::hex::{has, read_hex_field};
 use crate::parts::field;
 use he_addr::read_number;
 
-// The places of the fields of a line, and how many digits an address and the flags have at most.
+// The places of a line's fields, and the most digits of an address and of the flags.
 const INTERFACE: usize = 0;
 
 const DESTINATION: usize = 1;
@@ -29,14 +29,13 @@ const REJECT: u128 = 0x0200;
 pub struct V4Line {
     pub destination: u32,
     pub gateway: u32,
-    /// The route leads nowhere, as its flag for a refusal or the interface `*` says.
+    /// The route leads nowhere, by its reject flag or the interface `*`.
     pub nowhere: bool,
     pub metric: u64,
     pub mask: u32,
 }
 
-/// The address in the field at this place: eight hexadecimal digits of the four bytes in the order of a little-endian
-/// machine.
+/// The address in the field at this place: up to eight hexadecimal digits of a little-endian number.
 #[tactic(auto, unfolding(crate::specs::Ipv4Line::v4_field))]
 fn read_v4_field(line: &[u8], place: usize) -> Option<u32>
     ensures { result ≡ v4_field place line.now }
@@ -45,7 +44,7 @@ fn read_v4_field(line: &[u8], place: usize) -> Option<u32>
     Some((number as u32).swap_bytes())
 }
 
-/// The numbers of a line; None where it isn't understood.
+/// The numbers of a line; None if it can't be parsed.
 #[tactic(auto, unfolding(crate::specs::Ipv4Line::v4_line))]
 pub fn read_v4_line(line: &[u8]) -> Option<V4Line>
     ensures { result ≡ v4_line line.now }

@@ -1,4 +1,4 @@
-// The sources and routes that a machine keeps of those that are found.
+// Which of the sources and routes found a machine keeps.
 
 ghost use Rattle.std.specs.Prelude.{◌≡◌, None, Ok};
 ghost use Rattle.std.specs.List.{list_any};
@@ -25,7 +25,7 @@ fn judge_new_source(kept: &[Source], source: Source) -> Result<Source, Why>
     Ok(source)
 }
 
-/// A source to be kept after these, or why not.
+/// The source, if it is to be kept after these, or why not.
 ///
 /// # Errors
 ///
@@ -40,7 +40,7 @@ pub fn judge_source(kept: &[Source], read: Result<Source, Why>) -> Result<Source
     }
 }
 
-// Whether the machine has a route to the prefix over the same interface.
+// Whether the prefix has a route over the same interface.
 fn is_known(route: Route, kept: &[Route]) -> bool
     ensures { result ≡ list_any (same_way route) kept.now }
 {
@@ -70,7 +70,7 @@ fn judge_new_route(kept: &[Route], route: Route) -> Result<Route, Why>
     Ok(route)
 }
 
-/// A route to be kept after these, or why not.
+/// The route, if it is to be kept after these, or why not.
 ///
 /// # Errors
 ///
@@ -85,7 +85,7 @@ pub fn judge_route(kept: &[Route], read: Result<Route, Why>) -> Result<Route, Wh
     }
 }
 
-/// The machine of lists that are a machine's, as those are that [`judge_source`] and [`judge_route`] let in.
+/// The machine of valid lists: [`judge_source`] and [`judge_route`] allow only such.
 pub fn make_host<A: Allocator + Copy>(sources: Vec<Source, A>, routes: Vec<Route, A>) -> Host<A>
     requires { host_fault sources.items routes.items ≡ None }
     ensures { Ok result ≡ host_of sources.items routes.items }

@@ -7,18 +7,18 @@ use crate::parts::{Cut, Parts};
 use he_addr::Memory;
 use std::alloc::Allocator;
 
-/// A line of a text; lines are counted from 1.
+/// A line of a text; lines count from 1.
 #[derive(Clone, Copy, Debug)]
 pub struct NumberedLine<'t> {
     pub number: u64,
     pub text: &'t [u8],
 }
 
-/// The lines of a text that aren't empty.
+/// The non-empty lines of a text.
 ///
 /// # Errors
 ///
-/// [`Memory`]: an allocation was refused.
+/// [`Memory`] if an allocation fails.
 #[tactic(auto, unfolding(crate::specs::Lines::numbered), using(crate::proofs::Cutting::few_parts))]
 pub fn read_lines<'t, A: Allocator + Copy>(
     alloc: A,

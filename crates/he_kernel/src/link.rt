@@ -1,16 +1,16 @@
 // An interface of this machine.
 
-/// What `/sys/class/net` says of an interface.
+/// The properties of an interface in `/sys/class/net`.
 #[derive(Clone, Copy, Debug, PartialEq, Eq)]
 pub struct Link {
-    /// Its number in its lines: where it is 0 the interface isn't known.
+    /// Its index, as in lines; 0 if it isn't known.
     pub number: u16,
-    /// The flag `IFF_UP` (1) of `flags`.
+    /// `IFF_UP` (1) of `flags`.
     pub up: bool,
-    /// What `carrier` says.
+    /// The value of `carrier`.
     pub carrier: bool,
-    /// The flag `IFF_LOOPBACK` (8) of `flags`.
+    /// `IFF_LOOPBACK` (8) of `flags`.
     pub loopback: bool,
-    /// It encapsulates, by `type` and `tun_flags`.
+    /// Whether it encapsulates, by `type`.
     pub tunnel: bool,
 }

@@ -1,9 +1,9 @@
-// What a text is cut into: lines, and the fields of a line.
+// Cuts a text into lines, and a line into fields.
 
 ghost use Rattle.std.specs.Prelude.{◌≡◌, ◌∷◌, [], MatchOption, option_map, position};
 ghost use Rattle.he_kernel.specs.Parts.{is_mark, parts_of, parts_left, field_of};
 
-/// Where a text is cut: at each line end, or at the blanks between the fields of a line.
+/// Where to cut a text: at newlines, or at the blanks between the fields of a line.
 #[derive(Clone, Copy, Debug, PartialEq, Eq)]
 pub enum Cut {
     Lines,
@@ -11,7 +11,7 @@ pub enum Cut {
 }
 
 impl Cut {
-    /// Whether a text is cut at this byte.
+    /// Whether to cut at this byte.
     pub fn is_mark(self, byte: u8) -> bool
         ensures { result ≡ is_mark self byte }
     {
@@ -28,7 +28,7 @@ fn find(cut: Cut, text: &[u8]) -> Option<usize>
     text.iter().position(|byte| cut.is_mark(*byte))
 }
 
-/// The parts of a text that are still to come.
+/// The remaining parts of a text.
 #[derive(Clone, Copy, Debug)]
 pub struct Parts<'t> {
     cut: Cut,
@@ -65,7 +65,7 @@ impl<'t> Parts<'t> {
     }
 }
 
-/// The field at this place of the line, counted from 0.
+/// The field of the line at this place, from 0.
 #[tactic(auto, unfolding(crate::specs::Parts::field_of))]
 pub fn field<'t>(line: &'t [u8], place: usize) -> Option<&'t [u8]>
     ensures { option_map (λ found. found.now) result ≡ field_of place line.now }

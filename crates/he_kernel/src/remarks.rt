@@ -1,4 +1,4 @@
-// Remarks on destinations, in plain words: a line for each.
+// Remarks on destinations: one line each.
 
 use crate::ways::Way;
 use he_addr::{Ip, Memory, write_ip};
@@ -19,12 +19,12 @@ pub(crate) fn write_unasked(
     Ok(())
 }
 
-/// Appends the line for a destination for which the rules take another source than the kernel, whatever lines there
+/// Appends the remark for a destination for which the rules select another source than the kernel, whatever the lines
 /// are.
 ///
 /// # Errors
 ///
-/// [`Memory`]: an allocation was refused; a part of the line may be there.
+/// [`Memory`] if an allocation fails; part of the line may have been appended.
 pub fn write_unsaid<A: Allocator + Copy>(way: Way, out: &mut Vec<u8, A>) -> Result<(), Memory> {
     out.extend_from_slice(b"he: ")?;
     write_ip(way.to, out)?;

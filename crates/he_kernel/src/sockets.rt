@@ -1,6 +1,6 @@
-// The sources that the kernel takes, as a datagram socket tells them. To connect one sends nothing.
+// The sources that the kernel selects, from connected datagram sockets. Connecting one sends nothing.
 //
-// Proved is that it is safe and ends; what the system answers is in no contract.
+// Proved: this is safe and ends. No contract has the system's answers.
 
 use he_addr::Ip;
 use he_addr::prefix::V4_BITS;
@@ -10,20 +10,20 @@ use std::net::{
     IpAddr, Ipv4Addr, Ipv6Addr, Net, SocketAddr, SocketAddrV4, SocketAddrV6, UdpSocket,
 };
 
-/// The number of no interface.
+/// The index for no interface.
 pub const NO_SCOPE: u32 = 0;
 
-// The port of a connect that sends nothing: the discard service.
+// The port for a connect that sends nothing: discard.
 const ANY_PORT: u16 = 9;
 
-/// An IPv4 address to which a machine in the internet has a way, by its default route if by any: that of the name
-/// server a.root-servers.net. Nothing is sent to it.
+/// An IPv4 address that a machine on the internet has a route to, if only by default: that of the name server
+/// a.root-servers.net. Nothing is sent to it.
 pub const ROOT_SERVER_V4: Ip = Ip::V4(0xc629_0004);
 
-/// The same for IPv6.
+/// An IPv6 address of this kind.
 pub const ROOT_SERVER_V6: Ip = Ip::V6(0x2001_0503_ba3e_0000_0000_0000_0002_0030);
 
-// The longest prefix of a network that has a broadcast address (RFC 3021).
+// The longest prefix length of a network with a broadcast address (RFC 3021).
 const LONGEST_NETWORK: u8 = 30;
 
 fn socket_address(ip: Ip, scope: u32) -> SocketAddr {
@@ -43,26 +43,25 @@ fn any_of(ip: Ip) -> IpAddr {
     }
 }
 
-// Linux's numbers of the errors of a socket that isn't made: this machine has no addresses of the family.
+// Linux's error numbers if no socket can be made because this machine has no address of the family.
 const EAFNOSUPPORT: i32 = 97;
 
 const EADDRNOTAVAIL: i32 = 99;
 
-// Linux's numbers of the errors of connect(2) that say nothing of a way: there is no port or no memory.
+// Linux's error numbers if connect(2) fails for another reason than the route: no port or no memory.
 const EAGAIN: i32 = 11;
 
 const ENOMEM: i32 = 12;
 
 const ENOBUFS: i32 = 105;
 
-/// The source that the kernel takes for an address; `None` where it has no way to it, or can't be asked. To a
-/// link-local address of IPv6 the way is over the interface of this number (RFC 4007 section 6), and without one there
-/// is none.
+/// The source that the kernel selects for an address; `None` if it has no route to it or can't be asked. A link-local
+/// IPv6 address is reached over the interface of this index (RFC 4007 section 6); without an interface there is none.
 pub fn ask_source<R: Net>(rt: &R, ip: Ip, scope: u32) -> Option<Ip> {
     try_source(rt, ip, scope).unwrap_or(None)
 }
 
-// The source, as `ask_source` says, or why the kernel can't be asked.
+// The source, as from `ask_source`, or why the kernel can't be asked.
 pub(crate) fn try_source<R: Net>(rt: &R, ip: Ip, scope: u32) -> io::Result<Option<Ip>> {
     let socket = match UdpSocket::bind(rt, (any_of(ip), 0u16)) {
         Ok(socket) => socket,
@@ -89,8 +88,8 @@ fn is_want(error: &io::Error) -> bool {
     matches!(error.raw_os_error(), Some(EAGAIN | ENOMEM | ENOBUFS))
 }
 
-// Whether it is the broadcast address of a network of this machine: the kernel connects to one only where that is
-// asked for, and a route that prohibits an address does so all the same.
+// Whether the address is the broadcast address of a network of this machine: connect(2) fails unless SO_BROADCAST is
+// set. If a route prohibits the address, connect(2) fails anyway.
 fn is_broadcast<R: Net>(rt: &R, ip: Ip) -> bool {
     let Ok(socket) = UdpSocket::bind(rt, (any_of(ip), 0u16)) else {
         return false;
@@ -104,8 +103,9 @@ fn is_broadcast<R: Net>(rt: &R, ip: Ip) -> bool {
     }
 }
 
-// Whether the address is on a network of this length: the network has a broadcast address, and for the last of its
-// other addresses, which each network with that broadcast address holds, the kernel takes this one.
+// Whether the address is on a network with this prefix length: the network has a broadcast address, and the kernel
+// selects the address for the last of the network's other addresses, which is in each network with that broadcast
+// address.
 fn is_on_network<R: Net>(rt: &R, address: u32, len: u8) -> bool {
     let hosts = u32::MAX >> len.min(LONGEST_NETWORK);
     let broadcast = address | hosts;
@@ -116,8 +116,8 @@ fn is_on_network<R: Net>(rt: &R, address: u32, len: u8) -> bool {
         && ask_source(rt, Ip::V4(other), NO_SCOPE) == Some(Ip::V4(address))
 }
 
-/// The length of the prefix that an IPv4 address of this machine shares with its link: that of the longest network
-/// that has a broadcast address and for which the kernel takes the address; 32 where there is none.
+/// The prefix length of the network of this machine's IPv4 address: that of the longest network that has a broadcast
+/// address and for which the kernel selects the address; 32 if there is none.
 pub fn ask_len<R: Net>(rt: &R, address: u32) -> u8 {
     for less in 0..LONGEST_NETWORK {
         let len = LONGEST_NETWORK - less;

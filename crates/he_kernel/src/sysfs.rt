@@ -1,4 +1,4 @@
-// What `/sys/class/net` says of an interface.
+// An interface's files in `/sys/class/net`.
 
 ghost use Rattle.std.specs.Prelude.{◌≡◌};
 ghost use Rattle.he_kernel.specs.Sysfs.{first_line, flags_of, decimal_of, index_of, is_tunnel, link_from};
@@ -12,7 +12,7 @@ const UP: u128 = 0x1;
 
 const LOOPBACK: u128 = 0x8;
 
-// Hardware types of interfaces that encapsulate: tun and WireGuard, ipip, ip6tnl, sit, gre, ip6gre.
+// Hardware types (ARPHRD) of tunnels: tun and WireGuard, ipip, ip6tnl, sit, gre, ip6gre.
 const TUN: u64 = 65534;
 
 const IPIP: u64 = 768;
@@ -25,7 +25,7 @@ const GRE: u64 = 778;
 
 const IP6_GRE: u64 = 823;
 
-/// The bytes of an interface's files; empty where one isn't there.
+/// The bytes of an interface's files; empty for one that doesn't exist.
 #[derive(Clone, Copy, Debug)]
 pub struct Sysfs<'t> {
     pub ifindex: &'t [u8],
@@ -44,7 +44,7 @@ fn first_line<'t>(text: &'t [u8]) -> &'t [u8]
     }
 }
 
-// The number of a text such as `0x1003`, whose first two bytes are passed over; 0 for every other text.
+// The number in a text like `0x1003`, after the first two bytes; 0 for any other text.
 fn read_flags(text: &[u8]) -> u128
     ensures { result ≡ flags_of text.now }
 {
@@ -53,21 +53,21 @@ fn read_flags(text: &[u8]) -> u128
     read_hex(&line[start..], 8).unwrap_or(0)
 }
 
-// The decimal number of a text; 0 for every other text.
+// The decimal number in a text; 0 for any other text.
 fn read_decimal(text: &[u8]) -> u64
     ensures { result ≡ decimal_of text.now }
 {
     read_number(first_line(text)).unwrap_or(0)
 }
 
-// The number of an interface; 0 where a race can't have it.
+// The index of an interface; 0 if it is above 65,535, which a race doesn't support.
 fn read_index(text: &[u8]) -> u16
     ensures { result ≡ index_of text.now }
 {
     u16::try_from(read_decimal(text)).unwrap_or(0)
 }
 
-// Whether an interface of this hardware type (ARPHRD) encapsulates.
+// Whether the hardware type (ARPHRD) is of a tunnel.
 fn is_tunnel(kind: u64) -> bool
     ensures { result ≡ is_tunnel kind }
 {
@@ -79,7 +79,7 @@ fn is_tunnel(kind: u64) -> bool
         || kind == IP6_GRE
 }
 
-/// What the files of an interface say.
+/// The link by an interface's files.
 pub fn make_link(files: Sysfs<'_>) -> Link
     ensures { result ≡ link_from files.entry.ifindex.now files.entry.flags.now files.entry.carrier.now
         files.entry.kind.now }

@@ -1,8 +1,7 @@
-// The machine by which the rules take the sources that the kernel takes: it is asked, and no table of routes is read
-// whole.
+// A machine for which the rules select the kernel's sources: the kernel is asked for each destination, and no routing
+// table is read.
 //
-// Proved is that what it answers becomes the machine that `find_host_to` makes of it; what it answers is in no
-// contract.
+// Proved: the kernel's answers become the machine that `find_host_to` makes of them. No contract has the answers.
 
 ghost use Rattle.std.specs.Prelude.{◌≡◌, [], IfOk, IfSome, OnOk, length, map, min, take};
 ghost use Rattle.std.specs.List.{list_any};
@@ -30,11 +29,10 @@ use std::alloc::{AllocGlobal, Global};
 use std::net::Net;
 use std::rt::Files as FileSystem;
 
-/// For how many destinations of one family a race has lines: half of its routes, so that those of the other family
-/// have place.
+/// The most destinations of one family with lines in a race: half of its routes, to leave room for the other family.
 pub const MOST_DESTINATIONS: usize = ROUTES / 2;
 
-// The name of the interface in a line of `/proc/net/if_inet6`.
+// The interface's name in a line of `/proc/net/if_inet6`.
 fn interface_in<'t>(line: &'t [u8]) -> Option<&'t str> {
     std::str::from_utf8(field(line, NAME)?).ok()
 }
@@ -51,8 +49,8 @@ pub(crate) fn read_link_in<R: FileSystem + AllocGlobal>(
     }
 }
 
-// What a line of `/proc/net/if_inet6` says of this address, which counts as on an interface of this number; None where
-// the line is of another one.
+// The properties of this address, as on the interface of this number, by a line of `/proc/net/if_inet6`. None if the
+// line is for another address or can't be used.
 fn read_v6_taken<R: FileSystem + AllocGlobal>(
     rt: &R,
     line: &[u8],
@@ -84,7 +82,7 @@ fn read_v6_taken<R: FileSystem + AllocGlobal>(
     }
 }
 
-// What `/proc/net/if_inet6` says of an IPv6 address of this machine; where it says nothing, the address alone.
+// The properties of an IPv6 address of this machine, by `/proc/net/if_inet6`; only the address if it isn't there.
 fn find_v6_taken<R: FileSystem + AllocGlobal>(
     rt: &R,
     if_inet6: &[u8],
@@ -117,22 +115,22 @@ fn taken_alone(ip: Ip, plen: u8, interface: u16) -> TakenSource
     }
 }
 
-// How the sources of a machine are found.
+// How the sources of a machine are looked up.
 #[derive(Clone, Copy)]
 struct Asking {
     numbering: Numbering,
-    // Whether the kernel is asked for the length of the prefix of an IPv4 source.
+    // Whether to ask the kernel for the prefix length of an IPv4 source.
     asks_len: bool,
 }
 
-// The same, with the text of `/proc/net/if_inet6`.
+// How the sources are looked up, with the text of `/proc/net/if_inet6`.
 #[derive(Clone, Copy)]
 struct Reading<'t> {
     if_inet6: &'t [u8],
     asking: Asking,
 }
 
-// What is known of a source that the kernel takes, which counts as on an interface of this number.
+// The properties of a source that the kernel selects, as on the interface of this number.
 fn find_source<R: FileSystem + Net + AllocGlobal>(
     rt: &R,
     reading: Reading<'_>,
@@ -153,7 +151,7 @@ fn find_source<R: FileSystem + Net + AllocGlobal>(
     }
 }
 
-// Whether rule 9 of RFC 6724 section 6 compares destinations of IPv4: two of them have a source.
+// Whether rule 9 of RFC 6724 section 6 compares IPv4 destinations: two of them have a source.
 fn compares_v4(ways: &[Way]) -> bool
     ensures { result ≡ compares_v4 ways.now }
 {
@@ -173,8 +171,8 @@ fn has_v6(ways: &[Way]) -> bool {
     ways.iter().any(|way| matches!(way.from, Some(Ip::V6(_))))
 }
 
-// The numbers of the interfaces of sources: each source counts as on an interface of its own, since Linux tells no
-// interface of an IPv4 address, and the rules ask only whether two are the same.
+// The interface numbers of sources: each source gets an interface of its own, since Linux doesn't give the interface
+// of an IPv4 address, and the rules only compare interfaces for equality.
 #[derive(Clone, Copy)]
 struct Numbering {
     first: u16,
@@ -187,7 +185,7 @@ impl Numbering {
         Numbering { first: 1, step: 1 }
     }
 
-    // The odd numbers for IPv6, and the even ones for IPv4.
+    // Odd numbers for IPv6, even ones for IPv4.
     fn of(family: Family) -> Numbering {
         let first = match family {
             Family::V6 => 1,
@@ -203,7 +201,7 @@ impl Numbering {
     }
 }
 
-// The text of `/proc/net/if_inet6`, where one of the ways has an IPv6 source.
+// The text of `/proc/net/if_inet6`, if one of the ways has an IPv6 source.
 fn read_if_inet6<R: FileSystem + AllocGlobal>(
     rt: &R,
     ways: &[Way],
@@ -216,7 +214,7 @@ fn read_if_inet6<R: FileSystem + AllocGlobal>(
     }
 }
 
-// The sources that the kernel takes, each once, in the order of the destinations.
+// The sources that the kernel selects, each once, in the order of the destinations.
 fn find_taken<R: FileSystem + Net + AllocGlobal>(
     rt: &R,
     ways: &[Way],
@@ -237,7 +235,7 @@ fn find_taken<R: FileSystem + Net + AllocGlobal>(
     Ok(taken)
 }
 
-// Adds the source of a way, where it isn't there.
+// Adds the source of a way, if it isn't there yet.
 fn add_taken<R: FileSystem + Net + AllocGlobal>(
     rt: &R,
     reading: Reading<'_>,
@@ -268,7 +266,7 @@ fn is_taken_already(taken: &[TakenSource], ip: Ip) -> bool
     false
 }
 
-// The way to each destination, as the kernel answers in this race.
+// The way to each destination, by the kernel's answers in this race.
 fn ask_ways<R: Net + AllocGlobal>(
     rt: &R,
     asked: &AskedWays,
@@ -285,7 +283,7 @@ fn ask_ways<R: Net + AllocGlobal>(
     Ok(ways)
 }
 
-// The machine whose sources the kernel takes for these ways.
+// The machine with the sources that the kernel selects for these ways.
 fn find_machine<R: FileSystem + Net + AllocGlobal>(
     rt: &R,
     ways: &[Way],
@@ -298,16 +296,16 @@ fn find_machine<R: FileSystem + Net + AllocGlobal>(
     Ok(find_host_to(rt.alloc(), &taken, ways)?)
 }
 
-/// The machine by which the rules take, for each of these destinations, the source that the kernel takes
-/// ([`find_host_to`]); link-local ones are reached over the interface of the number ([`ask_source`]). No routes are
-/// read, however many there are: the kernel is asked, once in a race for each destination ([`AskedWays`]). An IPv4
-/// source has the length of its network's prefix only where
-/// the rules may look at it, for two IPv4 destinations or more, and else 32. A line is appended to the remarks for
-/// each file that is there and can't be read, and for each destination for which the kernel can't be asked.
+/// The machine for which the rules select the kernel's source for each of these destinations ([`find_host_to`]).
+/// Link-local destinations are reached over the interface `scope` ([`ask_source`]). No routes are read, however many
+/// there are: the kernel is asked once in a race for each destination ([`AskedWays`]). An IPv4 source has its
+/// network's prefix length only if the rules may use it, for two or more IPv4 destinations, and otherwise 32. A
+/// remark is appended for each file that exists but can't be read, and for each destination that the kernel can't be
+/// asked for.
 ///
 /// # Errors
 ///
-/// [`MachineFault::Memory`]: an allocation was refused.
+/// [`MachineFault::Memory`] if an allocation fails.
 ///
 /// [`ask_source`]: crate::sockets::ask_source
 pub fn find_machine_to<R: FileSystem + Net + AllocGlobal>(
@@ -327,12 +325,12 @@ pub fn find_machine_to<R: FileSystem + Net + AllocGlobal>(
     find_machine(rt, &ways, asking, remarks)
 }
 
-/// The same for the first [`MOST_DESTINATIONS`] of these destinations, which are of one family, for a race that is to
-/// have lines for those of the other too: no interface has the number of one for the other family.
+/// As [`find_machine_to`], for the first [`MOST_DESTINATIONS`] of these destinations, which are of one family, in a
+/// race that gets lines for the other family too: the two families have no interface number in common.
 ///
 /// # Errors
 ///
-/// [`MachineFault::Memory`]: an allocation was refused.
+/// [`MachineFault::Memory`] if an allocation fails.
 pub fn find_machine_of<R: FileSystem + Net + AllocGlobal>(
     rt: &R,
     asked: &AskedWays,
@@ -351,13 +349,13 @@ pub fn find_machine_of<R: FileSystem + Net + AllocGlobal>(
     find_machine(rt, &ways, asking, remarks)
 }
 
-/// Appends the lines by which the rules take, for each of these destinations, the source that the kernel takes
-/// ([`find_machine_to`]), each IPv4 source with the length of its network's prefix, and a remark for each destination
-/// of which lines can't say it. Link-local ones of IPv6 have no interface, and so no way.
+/// Appends the lines for which the rules select the kernel's source for each of these destinations
+/// ([`find_machine_to`]), each IPv4 source with its network's prefix length, and a remark for each destination that
+/// no lines can express. Link-local IPv6 destinations have no interface, and so no way.
 ///
 /// # Errors
 ///
-/// [`MachineFault::Memory`]: an allocation was refused.
+/// [`MachineFault::Memory`] if an allocation fails.
 pub fn write_machine_to<R: FileSystem + Net + AllocGlobal>(
     rt: &R,
     destinations: &[Ip],

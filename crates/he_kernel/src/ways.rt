@@ -1,4 +1,4 @@
-// The machine by which the rules take the sources that the kernel takes, of its answers for destinations.
+// A machine for which the rules select the kernel's sources, from its answers for destinations.
 
 ghost use Rattle.std.specs.Prelude.{◌≡◌, [], filter, map, not, IfOk};
 ghost use Rattle.he_kernel.specs.Keeping.{routes_kept, sources_kept};
@@ -11,24 +11,24 @@ use he_addr::{Ip, Memory, Prefix};
 use he_select::{Host, Policy, Route, Source};
 use std::alloc::Allocator;
 
-/// A source that the kernel takes, with what the rules look at of it.
+/// A source that the kernel selects, with the properties that the rules use.
 #[derive(Clone, Copy, Debug, PartialEq, Eq)]
 pub struct TakenSource {
     pub source: Source,
-    /// Its interface encapsulates.
+    /// Whether its interface encapsulates.
     pub tunnel: bool,
 }
 
-/// What the kernel answers for a destination.
+/// The kernel's answer for a destination.
 #[derive(Clone, Copy, Debug, PartialEq, Eq)]
 pub struct Way {
-    /// The destination that the kernel is asked for.
+    /// The destination.
     pub to: Ip,
-    /// The source that the kernel takes; `None` where there is no way.
+    /// The source that the kernel selects; `None` if there is no way.
     pub from: Option<Ip>,
 }
 
-// What is known of a source.
+// The properties of a source.
 fn find_own(own: &[TakenSource], ip: Ip) -> Option<TakenSource>
     ensures { result ≡ own_of ip own.now }
 {
@@ -40,7 +40,7 @@ fn find_own(own: &[TakenSource], ip: Ip) -> Option<TakenSource>
     None
 }
 
-// The route of a way, over the interface of the source that the kernel takes.
+// The route of a way, over the interface of the kernel's source.
 #[tactic(auto, unfolding(crate::specs::Ways::way_route))]
 fn way_route(own: &[TakenSource], way: Way) -> Result<Route, Why>
     ensures { result ≡ way_route own.now way }
@@ -58,7 +58,7 @@ fn way_route(own: &[TakenSource], way: Way) -> Result<Route, Why>
     })
 }
 
-// The sources that a machine has: each address once, and no more than there is place for.
+// The sources of a machine: each address once, up to the limit.
 fn keep_sources<A: Allocator + Copy>(
     alloc: A,
     own: &[TakenSource],
@@ -74,7 +74,7 @@ fn keep_sources<A: Allocator + Copy>(
     Ok(kept)
 }
 
-// The routes of the ways: each prefix once, and no more than there is place for.
+// The routes of the ways: each prefix once, up to the limit.
 fn keep_ways<A: Allocator + Copy>(
     alloc: A,
     own: &[TakenSource],
@@ -91,16 +91,16 @@ fn keep_ways<A: Allocator + Copy>(
     Ok(kept)
 }
 
-/// The machine that has these sources, and for each way that there is a route of its own, over the interface of the
-/// source that the kernel takes: 64 of each at most, those that are first.
+/// The machine with these sources and, for each way that exists, a route of its own over the interface of the
+/// kernel's source: the first 64 of each.
 ///
-/// Where each source has an interface of its own, so that rule 5 of RFC 6724 section 5 prefers it to each other one,
-/// the rules take the kernel's source for each destination, unless one of rules 1 to 3 prefers another one.
-/// [`find_unsaid`] returns these.
+/// If each source has an interface of its own, so that rule 5 of RFC 6724 section 5 prefers it to all others, the
+/// rules select the kernel's source for each destination, unless one of rules 1 to 3 prefers another. [`find_unsaid`]
+/// returns those.
 ///
 /// # Errors
 ///
-/// [`Memory`]: an allocation was refused.
+/// [`Memory`] if an allocation fails.
 #[tactic(auto, using(crate::proofs::Kept::kept_is_host))]
 pub fn find_host_to<A: Allocator + Copy>(
     alloc: A,
@@ -114,7 +114,7 @@ pub fn find_host_to<A: Allocator + Copy>(
     Ok(make_host(sources, routes))
 }
 
-// Whether the rules take another source for the destination than the kernel.
+// Whether the rules select another source for the destination than the kernel.
 fn is_unsaid<A: Allocator, B: Allocator>(host: &Host<A>, policy: &Policy<B>, way: Way) -> bool
     ensures { result ≡ is_unsaid policy.now host.now way }
 {
@@ -131,12 +131,12 @@ fn is_same(said: Option<Ip>, taken: Option<Ip>) -> bool
     }
 }
 
-/// The destinations for which the rules take another source of the machine than the kernel, or for which just one of
-/// the two says that there is a way.
+/// The destinations for which the rules select another source of the machine than the kernel, or for which only one
+/// of the two has a way.
 ///
 /// # Errors
 ///
-/// [`Memory`]: an allocation was refused.
+/// [`Memory`] if an allocation fails.
 pub fn find_unsaid<A: Allocator + Copy, B: Allocator, C: Allocator>(
     alloc: A,
     host: &Host<B>,

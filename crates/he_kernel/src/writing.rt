@@ -1,4 +1,4 @@
-// The lines of a machine, as a race has them.
+// Writes the lines of a machine.
 
 ghost use Rattle.std.specs.Prelude.{◌++◌, OnOk, ◌≡◌};
 ghost use Rattle.he_kernel.specs.Written.{source_end, source_line, route_line, host_lines, written_sources, written_routes};
@@ -14,7 +14,7 @@ fn write_word<A: Allocator + Copy>(word: &[u8], out: &mut Vec<u8, A>) -> Result<
     Ok(())
 }
 
-// A word of the line's end, where it holds.
+// Writes a word at the end of a line, if it applies.
 fn write_mark<A: Allocator + Copy>(
     holds: bool,
     word: &[u8],
@@ -88,7 +88,7 @@ fn write_routes<A: Allocator + Copy>(routes: &[Route], out: &mut Vec<u8, A>) -> 
 ///
 /// # Errors
 ///
-/// [`Memory`]: an allocation was refused; a part of the lines may be there.
+/// [`Memory`] if an allocation fails; part of the lines may have been appended.
 pub fn write_host<A: Allocator + Copy, B: Allocator>(
     host: &Host<B>,
     out: &mut Vec<u8, A>,

@@ -1,4 +1,4 @@
--- What a race on real sockets gives, and what is written for one.
+-- The result of a race on real sockets, and the text that is written for one.
 use Rattle.std.specs.Prelude.{ℕ, ◌≡◌, ◌⊎◌, ⊤, ◌++◌, Bool, List, [], ◌∷◌, None, Result, Ok, Err}
 use Rattle.he_plan.specs.Agreement.{AreAlike}
 use Rattle.he_timeline.specs.Changes.{ChangeValues, changed}
@@ -17,19 +17,19 @@ use Rattle.he_live.specs.declared.fault.LiveFault.TheVariants as faults
 use Rattle.he_live.specs.declared.reason.Reason.{Reason}
 use Rattle.he_live.specs.declared.reason.Reason.TheVariants.{OutOfMemory, TooManyFiles, TooManyFilesInSystem}
 
--- what may go wrong with a race itself: its runtime, descriptors, or memory
+-- the faults of a race itself: of its event loop, of descriptors, or of memory
 abbrev pub IsRunFault : LiveFault → Type 0
 IsRunFault fault = (fault ≡ faults.Runtime) ⊎ ((fault ≡ faults.Files) ⊎ (fault ≡ faults.Memory))
 
--- the fault of an event loop that can't be made or fails, by the system's error
+-- the fault for an event loop that can't be made or that fails, by the system's error
 abbrev pub run_fault : Reason → LiveFault
 run_fault TooManyFiles = faults.Files
 run_fault TooManyFilesInSystem = faults.Files
 run_fault OutOfMemory = faults.Memory
 run_fault reason = faults.Runtime
 
--- the text of a race that was run, what is told of it, and how it ended: the text is a transcript and then the record,
--- which has the race's settings, policy, host, answers and what is known from earlier, and replays to this transcript
+-- the text of a race, the report of it, and its result: the text is the transcript and then the record, which has the
+-- race's settings, policy, host, answers and history, and which replays to this transcript
 pub record IsLiveText (race : Race) (text : List ℕ) (told : LiveReport) (result : Outcome3) : Type 0 where
   pub recorded : Race
   pub report : Report
@@ -40,27 +40,24 @@ pub record IsLiveText (race : Race) (text : List ℕ) (told : LiveReport) (resul
   pub failures : AreFailed report.lines told.failed.items
   pub ended : result ≡ report.result
 
--- what is wrong with the input, as the fault tells it
+-- the fault for an input that is not one race
 abbrev pub fault_of_input : NotOneRace → LiveFault
 fault_of_input (ones.Fault (inputs.Text fault)) = faults.Text fault
 fault_of_input (ones.Fault inputs.Read) = faults.Read
 fault_of_input ones.Count = faults.OneRace
 fault_of_input ones.Memory = faults.Memory
 
--- the input is one race, and this is the text of a run of it with the changes of its settings, of which this is told,
--- and which ended so
+-- the input is one race; the text, the report and the result are those of a run of it with the changed settings
 pub record GivesText (Given : List ℕ → Bool → Type 0) (changes : ChangeValues) (text : List ℕ) (told : LiveReport)
     (result : Outcome3) : Type 0 where
   pub race : Race
   pub given : GivesOne Given race
   pub run : IsLiveText (changed changes race) text told result
 
--- Given: what the input gave, and whether it broke off after that; Taken: what was taken of an input that was not read
--- further; Whole and Part: the text of which all was put into
--- the output and then flushed, or a first part until that failed; Kept: nothing was put into the output; told: what is
--- told of the run.
--- A run's text is written whole, and how it ended is told; a fault of the input, of the event loop or of memory
--- comes before any of it is.
+-- Given: the bytes that the input gave, and whether it broke off after them. Taken: the bytes taken from an input
+-- that was not read further. Whole: all of the text was written to the output and flushed. Part: a first part of it
+-- was written until the output failed. Kept: nothing was written. told: the report of the run. A fault of the input,
+-- of the event loop or of memory comes before the first byte is written.
 abbrev pub Lives : (List ℕ → Bool → Type 0) → (List ℕ → Type 0) → (List ℕ → Type 0) → (List ℕ → Type 0) → Type 0 → ChangeValues
     → LiveReport → Result Outcome3 LiveFault → Type 0
 Lives Given Taken Whole Part Kept changes told (Ok result) =
@@ -75,7 +72,7 @@ Lives Given Taken Whole Part Kept changes told (Err faults.Runtime) = (race : Ra
 Lives Given Taken Whole Part Kept changes told (Err faults.Files) = (race : Race) × GivesOne Given race × Kept
 Lives Given Taken Whole Part Kept changes told (Err faults.Memory) = Kept
 
--- after a fault before the race was run to its end, what is told is as it was
+-- a fault before the end of the race leaves the report as it was
 abbrev pub KeepsReport : LiveReport → LiveReport → Result Outcome3 LiveFault → Type 0
 KeepsReport old new (Ok result) = ⊤
 KeepsReport old new (Err faults.Write) = ⊤

@@ -1,4 +1,4 @@
--- Mirrors the code: what is told of what a run came to.
+-- Mirrors the code: the text, report and result of a run.
 use Rattle.std.specs.Prelude.{◌≡◌, ◌++◌}
 use Rattle.he_timeline.specs.Race.{Race}
 use Rattle.he_plan.specs.Transcript.{Report}

@@ -1,4 +1,4 @@
--- Why attempts of a live race failed, and what is told of them.
+-- Why attempts of a live race failed, and the lines that report them.
 use Rattle.std.specs.Prelude.{ℕ, ◌≡◌, ◌==◌, ◌+◌, ◌++◌, Bool, true, false, if◌then◌else◌, List, [], ◌∷◌, map, filter, flat_map, codes, decimal, ℤ, unsigned_abs, Option, Some, None}
 use Rattle.std.specs.IoError.{error_kind, raw_os_error}
 use Rattle.std.specs.declared.io.Error.{Error}
@@ -13,7 +13,7 @@ use Rattle.he_live.specs.declared.failures.FailedAttempt.{FailedAttempt}
 use Rattle.he_live.specs.declared.reason.Reason.{Reason}
 use Rattle.he_live.specs.declared.reason.Reason.TheVariants.{Refused, Reset, Aborted, TimedOut, HostUnreachable, NetworkUnreachable, NetworkDown, AddressNotAvailable, NoFamily, TooManyFiles, TooManyFilesInSystem, OutOfMemory, NoBuffers, Prohibited, Other}
 
--- the errors of Linux that have words of their own, by their numbers on x86-64 and aarch64
+-- the errors of Linux with words of their own, by their numbers on x86-64 and aarch64
 abbrev pub numbered : List (ℕ × Reason)
 numbered =
     (1, Prohibited) ∷ (12, OutOfMemory) ∷ (13, Prohibited) ∷ (23, TooManyFilesInSystem) ∷ (24, TooManyFiles)
@@ -40,8 +40,9 @@ reason_of_numbered None kind = reason_without_number kind
 abbrev pub reason_of : Error → Reason
 reason_of error = reason_of_numbered (raw_os_error error) (error_kind error)
 
--- this machine could make no socket, for want of descriptors, memory, buffers or the address family: that says nothing
--- of the address. What a router or a route forbids is no such error: connect(2) gives EACCES and EPERM for both
+-- this machine could not make a socket, for lack of descriptors, memory, buffers or the address family, which is no
+-- fault of the address. An error that a router or a route caused does not count: connect(2) gives EACCES and EPERM
+-- for those and for local ones
 abbrev pub is_local : Reason → Bool
 is_local NoFamily = true
 is_local TooManyFiles = true
@@ -71,7 +72,7 @@ abbrev pub reason_text : Reason → List ℕ
 reason_text (Other number) = words_of (Other number) ++ decimal number
 reason_text reason = words_of reason
 
--- people count from 1
+-- attempts are printed from 1
 abbrev pub place_text : ℕ → List ℕ
 place_text place = codes "he: attempt " ++ decimal (place + 1)
 
@@ -85,7 +86,7 @@ start_text x = place_text x.place ++ at_text x.ip
 abbrev pub fault_text : Reason → List ℕ
 fault_text reason = if is_local reason then codes " could not begin: " else codes " failed: "
 
--- failed: WORDS, and the line's end
+-- failed: WORDS, and a newline
 abbrev pub why_text : Reason → List ℕ
 why_text reason = fault_text reason ++ reason_text reason ++ 10 ∷ []
 
@@ -96,7 +97,7 @@ failure_line x = start_text x ++ why_text x.reason
 abbrev pub failure_lines : List FailedAttempt → List ℕ
 failure_lines failed = flat_map failure_line failed
 
--- the first that this machine itself could not begin
+-- the first attempt that failed to start on this machine itself
 abbrev pub first_local : List FailedAttempt → Option FailedAttempt
 first_local [] = None
 first_local (x ∷ failed) = if is_local x.reason then Some x else first_local failed
@@ -114,7 +115,7 @@ place_of x = (x.place, x.ip)
 abbrev pub place_of_line : Line → ℕ × Ip
 place_of_line line = (line.place, line.ip)
 
--- these are the attempts that failed, by place, each with its address
+-- these are the failed attempts by place, each with its address
 abbrev pub AreFailed : List Line → List FailedAttempt → Type 0
 AreFailed lines failed =
     map place_of failed ≡ map place_of_line (filter has_failed lines)

@@ -1,9 +1,9 @@
-//! A connection that was made.
+//! The connection that won.
 ghost use Rattle.std.specs.Prelude.{◌≡◌};
 
 use std::net::{SocketAddr, TcpStream};
 
-/// The connection of the attempt that won, with the address, the port and the interface that it was asked for.
+/// The winner's connection, with the address, port and interface that it was made to.
 #[derive(Drop)]
 pub struct Dialed {
     to: SocketAddr,
@@ -17,14 +17,14 @@ impl Dialed {
         Dialed { to, stream }
     }
 
-    /// The address, the port and the interface that it was asked for.
+    /// The address, port and interface that it was made to.
     pub fn to(&self) -> SocketAddr
         ensures { result ≡ self.now.to }
     {
         self.to
     }
 
-    /// The stream, whose reads and writes wait.
+    /// The stream. Its reads and writes block.
     pub fn into_stream(self) -> TcpStream
         ensures { result ≡ self.stream }
     {

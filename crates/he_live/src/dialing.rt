@@ -1,4 +1,4 @@
-//! A connection that is being made, to be taken out of the event loop.
+//! A connection attempt in progress.
 
 ghost use Rattle.std.specs.Prelude.{◌≡◌, IfOk};
 ghost use Rattle.futures.specs.Poll.{OnPending};
@@ -13,7 +13,7 @@ use std::os::fd::OwnedFd;
 use tokio::io::AsyncWrite;
 use tokio::reactor::Handle;
 
-// The event loop does not give a socket back, so it has one descriptor of it, and another one is kept.
+// The event loop doesn't give a socket back, so it has one descriptor of it, and a second one is kept here.
 #[derive(Drop)]
 pub(crate) struct Dialing {
     to: SocketAddr,
@@ -30,13 +30,13 @@ impl Dialing {
         Ok(Dialing { to, watched, kept })
     }
 
-    // Ready once the connection stands, or with why it does not.
+    // Ready once the connection is made, or with the error that it failed with.
     //
-    // The system is asked first, also where the event loop has not looked at the socket yet, as after a stop: a socket
-    // has a peer's address only where it is connected, and its error is that of a connection that failed. An ICMP
-    // error that comes during connect(2), as from this machine's own firewall, is there alone: no send reports it.
-    // Before the event loop has seen a socket it counts as writable. A send of no byte would block while the
-    // connection is being made, so that the loop waits for its end.
+    // The system is asked first, even where the event loop has not polled the socket yet, as after a SIGSTOP: only a
+    // connected socket has a peer address, and the socket's error is that of a failed connection. An ICMP error that
+    // comes during connect(2), as from this machine's own firewall, is only there: no send reports it. A socket
+    // counts as writable until the event loop has polled it. A send of no bytes would block while the connection is
+    // being made, so that the loop waits for its end.
     pub(crate) fn poll_connected(&mut self, cx: &mut Context<'_>) -> Poll<io::Result<()>>
         ensures waits { OnPending result (Covers cx.new (λ source. source ≡ stream_writable self.new.watched)) }
         ensures same { self.new.to ≡ self.old.to }
@@ -51,12 +51,12 @@ impl Dialing {
         match self.watched.poll_write(cx, &[]) {
             Poll::Pending => Poll::Pending,
             Poll::Ready(Err(error)) => Poll::Ready(Err(error)),
-            // It came to stand just now.
+            // It connected just now.
             Poll::Ready(Ok(_)) => cx.yield_now(),
         }
     }
 
-    // The connection, which blocks, out of the event loop.
+    // Takes the connection out of the event loop and makes it blocking.
     pub(crate) fn into_dialed(self) -> io::Result<Dialed>
         ensures { IfOk result (λ dialed. dialed.to ≡ self.to) }
     {

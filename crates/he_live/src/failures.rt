@@ -1,4 +1,4 @@
-//! The attempts of a live race that failed, and what is reported of them.
+//! The failed attempts of a live race, and the lines that report them.
 ghost use Rattle.std.specs.Prelude.{◌≡◌, ◌++◌, ◌∷◌, [], IfOk, OnOk};
 ghost use Rattle.he_live.specs.Reasons.{AreFailed, at_text, failure_line, failure_lines, fault_text, first_local, has_failed, place_text, reason_text, start_text, why_text};
 
@@ -7,9 +7,9 @@ use crate::steps::Steps;
 use he_addr::{Ip, Memory, write_ip, write_number};
 use he_plan::{Line, Mark};
 use itoa::Buffer;
-use std::alloc::{AllocError, Allocator, Global};
+use std::alloc::{Allocator, Global};
 
-/// An attempt of a live race that failed.
+/// A failed attempt of a live race.
 #[derive(Clone, Copy, Debug, PartialEq, Eq)]
 pub struct FailedAttempt {
     /// Its place in the race.
@@ -20,16 +20,16 @@ pub struct FailedAttempt {
     pub reason: Reason,
 }
 
-/// The attempts of a transcript that failed, by place, with why.
+/// The failed attempts of a transcript, by place, each with its reason.
 ///
 /// # Errors
 ///
-/// `AllocError` where an allocation was refused.
+/// `Memory` if an allocation fails.
 pub fn failed_attempts(
     alloc: Global,
     attempts: &[Line],
     steps: &Steps,
-) -> Result<Vec<FailedAttempt>, AllocError>
+) -> Result<Vec<FailedAttempt>, Memory>
     ensures { IfOk result (λ failed. AreFailed attempts.now failed.items) }
 {
     let mut failed = Vec::new(alloc);
@@ -51,7 +51,7 @@ fn has_failed(line: &Line) -> bool
     matches!(line.mark, Mark::Failed(_))
 }
 
-/// The first attempt that this machine itself could not begin: it could make no socket.
+/// The first attempt that failed on this machine itself: no socket could be made.
 pub fn first_local(failed: &[FailedAttempt]) -> Option<FailedAttempt>
     ensures { result ≡ first_local failed.now }
 {
@@ -63,12 +63,12 @@ pub fn first_local(failed: &[FailedAttempt]) -> Option<FailedAttempt>
     None
 }
 
-/// Appends a line for each failed attempt, as `he: attempt 3 at 198.51.100.7 failed: refused`, or `could not begin:
-/// too many open files` where this machine itself could not begin it. Attempts are counted from 1.
+/// Appends a line for each failed attempt: `he: attempt 3 at 198.51.100.7 failed: refused`, or `could not begin: too
+/// many open files` where this machine itself could not begin it. Attempts count from 1.
 ///
 /// # Errors
 ///
-/// `Memory` where an allocation was refused.
+/// `Memory` if an allocation fails.
 pub fn write_failures<A: Allocator + Copy>(
     failed: &[FailedAttempt],
     out: &mut Vec<u8, A>,
@@ -134,7 +134,7 @@ fn fault_words(reason: Reason) -> &'static [u8]
     }
 }
 
-// The words, and the line's end.
+// Writes the words and a newline.
 fn write_reason<A: Allocator + Copy>(reason: Reason, out: &mut Vec<u8, A>) -> Result<(), Memory>
     ensures { OnOk result (out.new.items ≡ out.old.items ++ reason_text reason ++ 10 ∷ []) }
 {

@@ -1,46 +1,46 @@
-//! Why a live race gave nothing.
+//! Why a live race has no result.
 ghost use Rattle.std.specs.Prelude.{◌≡◌};
 ghost use Rattle.he_live.specs.declared.fault.LiveFault.TheVariants.{Memory};
 ghost use Rattle.he_live.specs.Live.{IsRunFault, fault_of_input, run_fault};
 ghost use Rattle.he_live.specs.Reasons.{reason_of};
 
 use crate::reason::Reason;
+use he_addr::Memory;
 use he_inputs::{InputFault, NotOneRace};
 use he_words::TextFault;
-use std::alloc::AllocError;
 use std::io;
 use thiserror::Error;
 
-/// Why a live race gave nothing.
+/// Why a live race has no result.
 #[derive(Clone, Copy, Debug, PartialEq, Eq, Error)]
 pub enum LiveFault {
-    /// The input is no timeline text.
+    /// The input is not a timeline text.
     #[error(transparent)]
     Text(TextFault),
     /// The input has no race, or more than one.
     #[error("live needs one race")]
     OneRace,
-    /// A step of the input failed, or the bound of steps was reached.
+    /// A step of the input failed, or the limit of steps was reached.
     #[error("cannot read the input")]
     Read,
-    /// A step of the output failed or took no byte, the flush failed, or the bound of steps was reached.
+    /// A step of the output failed or took no byte, the flush failed, or the limit of steps was reached.
     #[error("cannot write the output")]
     Write,
-    /// The process or the machine has as many files open as it may.
+    /// The process or the machine has no descriptor left.
     #[error("too many open files")]
     Files,
-    /// The sockets' event loop could not be made or failed, or the clock did.
+    /// The event loop could not be made or failed, or the clock failed.
     #[error("cannot run the sockets")]
     Runtime,
-    /// An allocation was refused.
+    /// An allocation failed.
     #[error("out of memory")]
     Memory,
 }
 
-impl From<AllocError> for LiveFault {
+impl From<Memory> for LiveFault {
     ghost from_gives = { λ _ fault. fault ≡ Memory };
 
-    fn from(_refused: AllocError) -> LiveFault {
+    fn from(_refused: Memory) -> LiveFault {
         LiveFault::Memory
     }
 }

@@ -1,12 +1,11 @@
-//! Races of a Happy Eyeballs client on real sockets (RFC 8305): connections to the addresses of a name, staggered by
-//! the rules of a race, of which the first that is made is kept, with a record that replays to the same transcript.
+//! A Happy Eyeballs client on real sockets (RFC 8305): it connects to the addresses of a name, staggered by the rules
+//! of a race, keeps the first connection, and records the race so that it replays to the same transcript.
 //!
 //! # A connection of your own
 //!
-//! A timeline says what the client knows: the sources and routes of this machine (by which addresses are ordered, RFC
-//! 6724), and the addresses that the name has, each answer with the tick from which on it counts as known; 0 is at
-//! once.
-//! `he_inputs` reads one from a text, and `TimelineBuilder` of `he_plan` makes one.
+//! A timeline has the input: the sources and routes of this machine (which order the addresses, RFC 6724), and the
+//! addresses of the name, each answer with the tick from which it counts as known; 0 is at once. `he_inputs` reads a
+//! timeline from a text, and `TimelineBuilder` of `he_timeline` makes one.
 //!
 //! ```text
 //! fn connect<R>(rt: &R, text: &[u8], port: u16) -> Result<Option<Dialed>, LiveFault>
@@ -20,44 +19,42 @@
 //! }
 //! ```
 //!
-//! `Dialed::into_stream` gives std's stream: its reads and writes wait, and nothing of the race is left but it.
-//! `raced.transcript` says
-//! what happened, `raced.recorded` is the record, of which `write_timeline` (`he_write`) makes a text that `he replay`
-//! reads, and [`failed_attempts`] says why attempts failed.
+//! `Dialed::into_stream` gives std's stream, whose reads and writes block; nothing else of the race is left.
+//! `raced.transcript` is the course of the race. `raced.recorded` is the record, which `write_timeline` (`he_write`)
+//! turns into a text for `he replay`. [`failed_attempts`] gives the reasons of failed attempts.
 //!
-//! [`live_race`] makes and ends an event loop of its own, [`live_race_on`] takes one of the crate `tokio`. Where
-//! answers come while the race runs, as from a resolver, [`resolving_race_on`] asks a source for them, and reports
-//! each step to a [`Watcher`]. Its [`Endpoint`] has the interface of link-local addresses of IPv6 too, of which a
-//! timeline says nothing.
+//! [`live_race`] makes and ends its own event loop; [`live_race_on`] takes one of the crate `tokio`. Where answers
+//! come during the race, as from a resolver, [`resolving_race_on`] asks a source for them, and reports each step to a
+//! [`Watcher`]. Its [`Endpoint`] also has the interface for link-local IPv6 addresses, which a timeline doesn't have.
 //!
-//! A race that is one task of many in an event loop takes its parts: [`LiveTicker`], [`socket_of`] and [`Steps`], with
-//! a connector of its own.
+//! A race that is one task of several in an event loop uses its parts: [`LiveTicker`], [`socket_of`] and [`Steps`],
+//! with its own connector.
 //!
-//! [`live`] does all of it over an input and an output: `he live` is this call.
+//! [`live`] runs a race from an input to an output: `he live` is this call.
 //!
 //! # What is proved
 //!
-//! - What [`live_race`] gives replays, whatever the sockets and the clock did: its transcript is the one that the
-//!   rules of a race make of its record; the record has the given settings, policy, host, answers and what is known of
-//!   addresses from earlier; and there is a winner's stream exactly where the race was won (`Replays` of `he_turns`).
-//!   Its faults are `Runtime`, `Files` and `Memory` alone.
-//! - The winner's connection was asked for at the address of the transcript's line that won and the given port, over
-//!   the given interface where that is a link-local address of IPv6, and over none else (`goes_to` in `specs/Dials`).
-//! - What [`resolving_race_on`] gives replays likewise, for every source: its record has the given settings, policy
-//!   and answers, begins with the given host and history, and has of the other families what the source answered
+//! - The result of [`live_race`] replays, whatever the sockets and the clock did: its transcript is the one that the
+//!   rules of a race determine for its record; the record has the given settings, policy, host, answers and history;
+//!   and there is a winner's stream exactly if the race was won (`Replays` of `he_turns`). Its faults are `Runtime`,
+//!   `Files` and `Memory` only.
+//! - The winner's connection was made to the address of the transcript's winning line and the given port, over the
+//!   given interface if that address is a link-local IPv6 one, and over none otherwise (`goes_to` in `specs/Dials`).
+//! - The result of [`resolving_race_on`] replays too, for every source: its record has the given settings, policy and
+//!   answers, begins with the given host and history, and has the source's answers for the other families
 //!   (`ReplaysGiven` and `IsOfSource` of `he_turns`).
-//! - [`live`] writes the transcript's text and then the record's, of the input's one race with the given changes of
-//!   its settings, and hands out the record's text; it makes all of it before it writes the first byte, and after any
-//!   fault but `Write` nothing was written. `Text`, `Read` and `OneRace` come only where the input has this fault
-//!   (`specs/Live`). It reports each attempt of the transcript that failed, and no other, by place and address.
-//! - Which reason an error of the system is, which reasons are of this machine alone, and the lines that report failed
-//!   attempts ([`Reason::of`], [`Reason::is_local`], [`write_failures`]; `specs/Reasons`).
+//! - [`live`] writes the transcript's text and then the record's, for the input's one race with the given changes of
+//!   its settings, and returns the record's text. It makes all of it before it writes the first byte; after any fault
+//!   but `Write` nothing is written. `Text`, `Read` and `OneRace` come only if the input has this fault
+//!   (`specs/Live`). It reports each failed attempt of the transcript, and no other, by place and address.
+//! - The reason for each error of the system, which reasons concern this machine only, and the lines that report
+//!   failed attempts ([`Reason::of`], [`Reason::is_local`], [`write_failures`]; `specs/Reasons`).
 //!
-//! All promise this if they return: they wait for the system.
+//! All this holds if the call returns: it waits for the system.
 //!
-//! Tested only, on loopback: that anything connects, and when; that a wake comes when it was asked for; that `Runtime`
-//! comes only where the event loop or the clock failed; that the steps and reasons reported of an attempt are its own;
-//! that the winner's stream is connected and waits; and that no socket of a race is left but the winner's.
+//! Tested only, on loopback: that it connects, and when; that a wake comes on time; that `Runtime` comes only if the
+//! event loop or the clock failed; that reported steps and reasons belong to their attempt; that the winner's stream
+//! is connected and blocks; and that no socket of a race but the winner's is left.
 #![tactic(auto)]
 
 pub mod clock;

@@ -23,25 +23,24 @@ use std::sync::Wait;
 use std::time::Clock;
 use tokio::runtime::LocalRuntime;
 
-/// Races the addresses of the timeline's answers at the port, each connected to by TCP when the rules of a race say so
-/// (RFC 8305 sections 4 and 5), and answers the first connection, the transcript and the record.
+/// Races the addresses of the timeline's answers at the port by the rules of a race (RFC 8305 sections 4 and 5), with
+/// a TCP connection for each attempt. Returns the first connection, the transcript and the record.
 ///
-/// A tick is a millisecond since the first turn. An answer counts as come at its tick; one that is there already has
-/// tick 0. Of the timeline its settings, policy, host, answers and what is known of addresses from earlier are looked
-/// at alone: what each address does, and where the client was late, is what the record says. Replayed, the record
-/// gives the transcript. What happens to attempts is noted in `steps`, which is new for each race.
+/// A tick is a millisecond since the first turn. An answer counts from its tick on; tick 0 is at once. Only the
+/// timeline's settings, policy, host, answers and history are used: the outcomes of the addresses and the client's
+/// pauses are recorded. The record replays to the transcript. The steps of attempts are noted in `steps`, which must
+/// be new for each race.
 ///
-/// The losers are closed before the call returns. The winner goes to the address of the transcript's line that won, at
-/// the port. Its stream is the caller's as if `TcpStream::connect` had made it: its reads and writes wait.
+/// The losers are closed before the call returns. The winner's connection goes to the address of the transcript's
+/// winning line, at the port. Its stream is as from `TcpStream::connect`: reads and writes block.
 ///
 /// # Errors
 ///
-/// - `Runtime` where the event loop cannot be made or fails, or the clock fails; `Files` where no descriptor is left
-///   for it.
-/// - `Memory` where an allocation was refused, and the race cannot go on without it.
+/// - `Runtime` if the event loop cannot be made or fails, or the clock fails; `Files` if no descriptor is left for
+///   the event loop.
+/// - `Memory` if an allocation fails that the race can't go on without.
 ///
-/// A socket that cannot be made, as where no descriptor is left, is an attempt that fails, and so is a connection that
-/// is refused.
+/// A socket that cannot be made, as for lack of a descriptor, is a failed attempt, and so is a refused connection.
 pub fn live_race<R, A>(
     rt: &R,
     alloc: Global,
@@ -60,11 +59,11 @@ where
     live_race_on(rt, alloc, &mut runtime, timeline, port, steps)
 }
 
-/// The same over an event loop of the caller's.
+/// As [`live_race`], on the caller's event loop.
 ///
 /// # Errors
 ///
-/// As those of [`live_race`].
+/// Those of [`live_race`].
 pub fn live_race_on<R, A>(
     rt: &R,
     alloc: Global,
@@ -80,7 +79,7 @@ where
     ensures winner { IfOk result (WinnerGoes (goes_to (at_port port))) }
     ensures fault { IfErr result IsRunFault }
 {
-    // A handle of its own, since the run borrows the event loop.
+    // A handle of its own: the run borrows the event loop.
     let handle = runtime.handle().clone()?;
     let to = Endpoint::at_port(port);
     let connector = TcpConnector::new(rt, handle.reactor(), to, steps.share()?);
@@ -92,26 +91,25 @@ where
     }
 }
 
-/// A race whose answers come while it runs.
+/// A race whose answers come during it.
 #[derive(Drop)]
 pub struct ResolvingRequest<'t, A: Allocator, S> {
-    /// What is known before: as [`live_race`] looks at it.
+    /// The input, used as by [`live_race`].
     pub timeline: &'t Timeline<A>,
-    /// What answers for a family that has no answer in the timeline.
+    /// The source of answers for each family that has none in the timeline.
     pub source: S,
-    /// Where its connections go.
+    /// The port and the interface of the connections.
     pub to: Endpoint,
 }
 
-/// As [`live_race_on`], where answers come while the race runs (RFC 8305 section 3): a family that has no answer in
-/// the timeline is the source's to answer. What the source answers counts as come at the tick of the turn in which it
-/// does, and stands so in the record. A source that waits for sockets or timers has those of this event loop. A
-/// link-local address of IPv6 is connected to over the interface that is asked for. Each step is reported to the
-/// watcher.
+/// As [`live_race_on`], with answers that come during the race (RFC 8305 section 3): the source answers for each
+/// family that has no answer in the timeline. Its answer counts from the tick of the turn in which it comes, and is
+/// recorded at that tick. A source's sockets and timers are those of this event loop. A connection to a link-local
+/// IPv6 address goes over the endpoint's interface. Each step is reported to the watcher.
 ///
 /// # Errors
 ///
-/// As those of [`live_race`].
+/// Those of [`live_race`].
 pub fn resolving_race_on<R, A, S, W>(
     rt: &R,
     alloc: Global,

@@ -1,23 +1,23 @@
-//! Why attempts of a live race failed, as the system says.
+//! Why attempts of a live race failed, by the system's error.
 ghost use Rattle.std.specs.Prelude.{◌≡◌};
 ghost use Rattle.he_live.specs.Reasons.{is_local, reason_of, reason_of_number, words_of};
 
 use std::io;
 
-/// Why an attempt failed, as the system says.
+/// Why an attempt failed, by the system's error.
 #[derive(Clone, Copy, Debug, PartialEq, Eq)]
 pub enum Reason {
     Refused,
     Reset,
     Aborted,
     TimedOut,
-    /// The host cannot be reached: nothing on the way to it, or in its own network, takes the packets.
+    /// The host is unreachable: nothing on the way or in its own network takes the packets.
     HostUnreachable,
     NetworkUnreachable,
     NetworkDown,
-    /// The host has no address or no port for the connection.
+    /// No local address or port is left for the connection (EADDRNOTAVAIL).
     AddressNotAvailable,
-    /// The host has no sockets of the address's family.
+    /// This machine has no sockets of the address's family.
     NoFamily,
     /// The process has no descriptor left.
     TooManyFiles,
@@ -25,15 +25,14 @@ pub enum Reason {
     TooManyFilesInSystem,
     OutOfMemory,
     NoBuffers,
-    /// A filter or a route forbids it, of a router on the way or of this machine: the system's errors for both are the
-    /// same.
+    /// A filter or a route forbids it, on a router or on this machine: the system's errors for both are equal.
     Prohibited,
-    /// Another one, by the system's number; 0 where it has none.
+    /// Any other error, by its number; 0 if it has none.
     Other(u32),
 }
 
 impl Reason {
-    /// Why an attempt failed with this error.
+    /// The reason for this error.
     pub fn of(error: &io::Error) -> Reason
         ensures { result ≡ reason_of error.now }
     {
@@ -44,7 +43,7 @@ impl Reason {
         }
     }
 
-    // By Linux's number of an error, on x86-64 and aarch64.
+    // By Linux's error number on x86-64 and aarch64.
     fn of_number(number: u32) -> Reason
         ensures { result ≡ reason_of_number number }
     {
@@ -67,8 +66,8 @@ impl Reason {
         }
     }
 
-    /// Whether this machine could make no socket, which says nothing of the address: no descriptor, no memory, no
-    /// buffers, or no sockets of the family.
+    /// Whether this machine could not make a socket, for lack of a descriptor, memory, buffers or the family. This is
+    /// no fault of the address.
     pub fn is_local(self) -> bool
         ensures { result ≡ is_local self }
     {
@@ -82,7 +81,7 @@ impl Reason {
         )
     }
 
-    /// The words for it, without the number of another one.
+    /// Its words, without the number of `Other`.
     pub fn words(self) -> &'static [u8]
         ensures { result.now ≡ words_of self }
     {

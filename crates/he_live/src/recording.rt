@@ -1,4 +1,4 @@
-//! A race of an input, run on real sockets and recorded.
+//! Runs a race of an input on real sockets and records it.
 ghost use Rattle.std.specs.Prelude.{◌≡◌, [], IfErr, IfOk};
 ghost use Rattle.he_stream.specs.Input.{Gives, GivesSoFar};
 ghost use Rattle.he_stream.specs.Output.{PutsPart, PutsWhole};
@@ -24,18 +24,18 @@ use std::random::RandomSource;
 use std::sync::Wait;
 use std::time::Clock;
 
-/// What a live race leaves beside its output.
+/// The results of a live race beside its output.
 #[derive(Drop)]
 pub struct LiveReport {
-    /// The record: a timeline text that replays to the transcript. It is what the output has after the transcript,
-    /// and empty where no race was run.
+    /// The record: a timeline text that replays to the transcript, as in the output after the transcript. Empty if no
+    /// race was run.
     pub record: Vec<u8>,
-    /// The attempts that failed, by place, with why.
+    /// The failed attempts, by place, each with its reason.
     pub failed: Vec<FailedAttempt>,
 }
 
 impl LiveReport {
-    /// No race was run. It takes no memory.
+    /// The report of no race. It allocates nothing.
     pub fn new(alloc: Global) -> LiveReport
         ensures record { result.record.items ≡ [] }
         ensures failed { result.failed.items ≡ [] }
@@ -47,24 +47,23 @@ impl LiveReport {
     }
 }
 
-/// Reads one race to the end of the input, runs it with the changes of its settings on real sockets at the port
-/// ([`live_race`]), and writes its transcript and then its record, a timeline that replays to this transcript. Answers
-/// how the race ended.
+/// Reads one race to the end of the input, runs it with the changed settings on real sockets at the port
+/// ([`live_race`]), and writes its transcript and then its record, a timeline that replays to this transcript.
+/// Returns how the race ended.
 ///
-/// The input is taken step by step, and read to its end, or up to a fault that nothing mends which follows. Of its race
-/// the settings, policy, host, answers and what is known of addresses from earlier are looked at
-/// alone. The whole output is made before the first byte of it is written: after `Write` a first part was written,
-/// after any other fault nothing. It is flushed at the end. Where the race was run, also if it could not be written,
-/// `report` has then its record and its attempts that failed; else it is as it was.
+/// The input is read step by step to its end, or to a fault that no later bytes can mend. Only the race's settings,
+/// policy, host, answers and history are used. The whole output is made before its first byte is written: after
+/// `Write` a first part was written, after any other fault nothing. It is flushed at the end. If the race was run,
+/// even if it could not be written, `report` has its record and its failed attempts; otherwise it is unchanged.
 ///
 /// # Errors
 ///
-/// - `Text` where the input is no timeline text, of whatever race.
-/// - `Read` where a step of the input failed before a fault of the text was found, or the bound of 4,294,967,296 steps
+/// - `Text` if the input is not a timeline text, in whichever race.
+/// - `Read` if a step of the input failed before a fault of the text was found, or the limit of 4,294,967,296 steps
 ///   was reached.
-/// - `OneRace` where nothing is wrong with the input, but it has no race, or more than one.
-/// - `Runtime`, `Files` and `Memory` as `live_race`, and `Memory` where an allocation was refused.
-/// - `Write` where a step of the output failed or took no byte, the flush failed, or the bound of 4,294,967,296 steps
+/// - `OneRace` if the input has no fault, but no race or more than one.
+/// - `Runtime`, `Files` and `Memory` as for `live_race`, and `Memory` if an allocation fails.
+/// - `Write` if a step of the output failed or took no byte, the flush failed, or the limit of 4,294,967,296 steps
 ///   was reached.
 pub fn live<R, I, O>(
     rt: &R,
@@ -97,7 +96,7 @@ where
     }
 }
 
-// A race that was run: the text of the output, its report, and how it ended.
+// A race that was run: the output's text, the report, and the result.
 #[derive(Drop)]
 struct LiveOutput {
     text: Vec<u8>,
@@ -105,7 +104,6 @@ struct LiveOutput {
     ended: Outcome3,
 }
 
-// Runs the race.
 fn run_race<R>(
     rt: &R,
     alloc: Global,

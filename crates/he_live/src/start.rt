@@ -3,7 +3,7 @@
 use std::time::{Duration, Instant};
 use tokio::time::Handle;
 
-// How far back the last millisecond of the timers is looked for, and how often that distance is halved: to 8
+// How far back the timers' last millisecond is searched for, and the number of halvings of that distance: down to 8
 // microseconds.
 const FARTHEST_NANOS: u64 = 1 << 37;
 
@@ -11,11 +11,11 @@ const HALVINGS: u32 = 24;
 
 const NANOS_PER_MILLI: u64 = 1_000_000;
 
-// The last time by now that is a whole millisecond of the timers, or up to 8 microseconds earlier: a deadline whole
-// milliseconds after it isn't rounded up. It is now where no memory is left.
+// The last time, up to now, that is a whole millisecond of the timers, or up to 8 microseconds earlier: a deadline
+// whole milliseconds after it isn't rounded up. It is now if an allocation fails.
 //
-// The timers count from when the event loop was made, which they don't say. They say which deadlines have passed:
-// those up to the last millisecond that the event loop gave them.
+// The timers count from when the event loop was made, which they don't reveal. They report which deadlines have
+// passed: those up to the last millisecond that the event loop gave them.
 pub(crate) fn last_millisecond(timers: &Handle, now: Instant) -> Instant {
     let Ok(mut probe) = timers.sleep_until(now) else {
         return now;

@@ -1,17 +1,17 @@
-//! What happens to the attempts of a live race, reported while it runs.
+//! The steps of a live race's attempts, reported during the race.
 
 use crate::reason::Reason;
-use he_addr::Ip;
-use std::alloc::{AllocError, Global};
+use he_addr::{Ip, Memory};
+use std::alloc::Global;
 use std::cell::Cell;
 use std::rc::Rc;
 
-/// What happened to an attempt.
+/// A step of an attempt.
 #[derive(Clone, Copy, Debug, PartialEq, Eq)]
 pub enum StepKind {
     Began,
     Failed(Reason),
-    /// The connection was made. Of the attempts that are found so at one tick the first wins.
+    /// The connection was made. Of those made at one tick the first wins.
     Connected,
 }
 
@@ -22,13 +22,13 @@ pub struct Step {
     pub place: usize,
     /// The address that it connects to.
     pub ip: Ip,
-    /// The milliseconds since the race's start.
+    /// Milliseconds since the race's start.
     pub tick: u64,
     pub what: StepKind,
 }
 
-/// Who gets the steps of a live race, in order: those of a turn at the turn's end, those of the last turn before
-/// the race's call returns.
+/// Gets the steps of a live race, in order: those of a turn at its end, those of the last turn before the race's call
+/// returns.
 pub trait Watcher {
     fn tell(&self, step: Step);
 }
@@ -41,17 +41,17 @@ impl Watcher for Quiet {
     fn tell(&self, _step: Step) {}
 }
 
-// One that is the caller's still.
+// A watcher that the caller keeps.
 impl<'w, W: Watcher> Watcher for &'w W {
     fn tell(&self, step: Step) {
         (**self).tell(step);
     }
 }
 
-/// The steps of one live race. They grow with its attempts.
+/// The steps of one live race. They grow with the number of attempts.
 #[derive(Drop)]
 pub struct Steps {
-    // What the race's sockets note while the race is run.
+    // The notes of the race's sockets.
     shared: Rc<Noted>,
 }
 
@@ -59,23 +59,23 @@ pub struct Steps {
 struct Noted {
     alloc: Global,
     steps: Cell<Vec<Step>>,
-    // How many attempts have room for their steps.
+    // The number of attempts with room for their steps.
     attempts: Cell<usize>,
     told: Cell<usize>,
     // The tick at which the last attempt began.
     begun: Cell<Option<u64>>,
 }
 
-// An attempt begins, and fails or connects.
+// Each attempt starts, and fails or connects.
 const STEPS_OF_ATTEMPT: usize = 2;
 
 impl Steps {
-    /// Nothing has happened yet.
+    /// No steps.
     ///
     /// # Errors
     ///
-    /// `AllocError` where an allocation was refused.
-    pub fn new(alloc: Global) -> Result<Steps, AllocError> {
+    /// `Memory` if an allocation fails.
+    pub fn new(alloc: Global) -> Result<Steps, Memory> {
         let noted = Noted {
             alloc,
             steps: Cell::new(Vec::new(alloc)),
@@ -88,7 +88,7 @@ impl Steps {
         })
     }
 
-    /// Why the attempt of the place failed; `Other(0)` where no failure of it was noted.
+    /// Why the attempt at the place failed; `Other(0)` if no failure of it was noted.
     pub fn reason_of(&self, place: usize) -> Reason {
         let steps = self.take();
         let reason = reason_in(&steps, place);
@@ -96,23 +96,23 @@ impl Steps {
         reason
     }
 
-    /// The same steps, for another holder.
+    /// Another handle to these steps.
     ///
     /// # Errors
     ///
-    /// `AllocError` where there are too many holders.
-    pub fn share(&self) -> Result<Steps, AllocError> {
+    /// `Memory` if there are too many handles.
+    pub fn share(&self) -> Result<Steps, Memory> {
         Ok(Steps {
             shared: self.shared.clone()?,
         })
     }
 
-    /// The same steps for one more attempt, with room for all that it notes.
+    /// Another handle to these steps, with room for those of one more attempt.
     ///
     /// # Errors
     ///
-    /// `AllocError` where an allocation was refused.
-    pub fn for_attempt(&self) -> Result<Steps, AllocError> {
+    /// `Memory` if an allocation fails.
+    pub fn for_attempt(&self) -> Result<Steps, Memory> {
         let attempts = self.shared.attempts.get().saturating_add(1);
         let mut steps = self.take();
         let wanted = attempts.saturating_mul(STEPS_OF_ATTEMPT);
@@ -123,12 +123,12 @@ impl Steps {
         self.share()
     }
 
-    /// How many attempts there are so far that have room for their steps.
+    /// The number of attempts so far with room for their steps.
     pub fn attempts(&self) -> usize {
         self.shared.attempts.get()
     }
 
-    // The tick at which the last attempt began, once one did.
+    // The tick at which the last attempt started, if any.
     pub(crate) fn last_begun(&self) -> Option<u64> {
         self.shared.begun.get()
     }
@@ -143,7 +143,7 @@ impl Steps {
         self.shared.steps.set(steps);
     }
 
-    // Tells the watcher the steps that were noted since it was told.
+    // Reports the steps that are new since the last call to the watcher.
     pub(crate) fn tell_new<W: Watcher>(&self, watcher: &W) {
         let (told, count) = (self.shared.told.get(), self.count());
         self.shared.told.set(count);
@@ -168,7 +168,7 @@ impl Steps {
         step
     }
 
-    // The steps, of which none are left until they are put back.
+    // Takes the steps out; none are left until they are put back.
     fn take(&self) -> Vec<Step> {
         self.shared.steps.replace(Vec::new(self.shared.alloc))
     }

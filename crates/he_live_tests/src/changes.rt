@@ -10,7 +10,7 @@ use std::net::{Net, TcpListener, TcpStream};
 use std::test::Fail;
 use stream_fakes::FakeReader;
 
-// Two addresses, at each of which nobody listens.
+// Two addresses without a listener.
 const TWO: &[u8] = b"race 1
 set attempt 20
 source 127.0.0.1/8 1
@@ -28,7 +28,7 @@ set count 1
 set limit 4000
 ";
 
-// A floor above the delay of the race is that delay.
+// A floor above the delay of the race becomes that delay.
 const FLOOR_LINES: &[u8] = b"race 2
 set resolution 50
 set attempt 20
@@ -37,7 +37,8 @@ set limit 30000
 set floor 20
 ";
 
-// Whether the race, run with these changes, takes so long or longer, and its record begins so and replays.
+// Whether the race, run with these changes, takes at least this number of milliseconds, and its record begins with
+// these lines and replays.
 fn is_run<R: Lender + Net>(
     rt: &R,
     port: u16,

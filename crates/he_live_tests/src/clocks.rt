@@ -1,4 +1,4 @@
-// Races whose clock fails on the way.
+// Races whose clock fails during the race.
 
 use he_inputs::read_one_race;
 use he_live::{LiveFault, Steps, live_race};
@@ -14,7 +14,7 @@ use std::sync::atomic::{AtomicU64, Ordering};
 use std::test::Fail;
 use std::time::{Clock, Duration};
 
-// Lends what a runtime lends, with a clock that fails after so many readings, and from then on.
+// Lends a runtime's resources, with a clock that fails after this number of readings, and from then on.
 struct Failing<'r, R> {
     rt: &'r R,
     left: AtomicU64,
@@ -80,7 +80,8 @@ end
 // More readings than the race makes.
 const MOST_READINGS: u64 = 1000;
 
-// When the event loop is made, at the first turn and at the last one: the event loop reads the clock besides.
+// The clock is read when the event loop is made, at the first turn and at the last one: the event loop reads it
+// besides.
 const LEAST_READINGS: u64 = 3;
 
 // Whether the race is ended by its limit.
@@ -103,7 +104,8 @@ fn is_limit(end: Outcome3) -> bool {
     }
 }
 
-// How many readings of the clock the race needs, where each race with fewer is a fault of the event loop or the clock.
+// The number of clock readings that the race needs, if each race with fewer is a fault of the event loop or the
+// clock.
 fn readings_needed<R>(rt: &R, timeline: &Timeline) -> Option<u64>
 where
     R: Wait + Clock + RandomSource + AllocGlobal + Net,

@@ -1,4 +1,4 @@
-// What each fault leaves, and what is written of a race that is read and run.
+// The state that each fault leaves, and the output for a race that is read and run.
 
 use crate::homes::{Lender, ONE, REFUSED, Wanted, race_on};
 use he_live::{LiveFault, LiveReport, Reason, live};
@@ -25,7 +25,7 @@ const SECOND_IS_WRONG: &[u8] = b"race 1\nend\nrace 3\nend\n";
 
 const UNFINISHED: &[u8] = b"race 1\n";
 
-// As many files as are opened to use up the descriptors.
+// The most files that are opened to use up the descriptors.
 const MOST_FILES: usize = 65_536;
 
 // How the streams of a run behave.
@@ -34,12 +34,12 @@ enum Streams {
     Whole,
     // The input breaks after its bytes.
     BreaksOff,
-    // The output takes so many bytes.
+    // The output takes this number of bytes.
     Room(usize),
     FailsToFlush,
 }
 
-// A text, how its streams behave, what comes of it, and what the output begins with and how long it is at most.
+// A text, the behaviour of its streams, the result, the beginning of the output, and its greatest length.
 type Row = (
     &'static [u8],
     Streams,
@@ -134,7 +134,7 @@ fn faults_are_told(rt: HostRuntime) {
     }
 }
 
-// Opens files until no descriptor is left; none where so many are too few for that.
+// Opens files until no descriptor is left; none if `MOST_FILES` are too few for that.
 fn used_up(rt: &HostRuntime) -> Result<Option<Vec<File>>, Fail> {
     let mut files = Vec::new(rt.alloc());
     for _ in 0..MOST_FILES {
@@ -147,7 +147,7 @@ fn used_up(rt: &HostRuntime) -> Result<Option<Vec<File>>, Fail> {
     Ok(None)
 }
 
-// Where no descriptor is left for an event loop, `live` says so, and writes nothing.
+// Without a descriptor for an event loop, `live` reports that, and writes nothing.
 const NO_RUNTIME: Row = (EXHAUSTED, Streams::Whole, Err(LiveFault::Files), b"", 0);
 
 // An attempt that gets no descriptor.

@@ -1,4 +1,4 @@
-// Races on real sockets, and what is wanted of them.
+// Races on real sockets, and their wanted results.
 
 use he_inputs::read_one_race;
 use he_live::{Dialed, LiveFault, Reason, Steps, live_race, live_race_on};
@@ -19,7 +19,7 @@ use std::{fs, io};
 use stream_fakes::FakeReader;
 use tokio::runtime::LocalRuntime;
 
-/// What races and their replays are lent, beside the network.
+/// The resources of races and their replays, beside the network.
 pub trait Lender: Wait + Threads + Clock + RandomSource + AllocGlobal + Sync {}
 
 impl<R: Wait + Threads + Clock + RandomSource + AllocGlobal + Sync> Lender for R {}
@@ -40,8 +40,8 @@ pub enum Result3 {
     Limit,
 }
 
-/// What must come of a race: for each attempt the least tick at which it may start, and its end; and the race's end,
-/// with its least tick.
+/// The wanted result of a race: for each attempt the least tick at which it may start, and its end; and the race's
+/// end, with its least tick.
 #[derive(Clone, Copy)]
 pub struct Wanted<'a> {
     pub attempts: &'a [(u64, End)],
@@ -99,7 +99,7 @@ pub fn replays<R: Lender>(rt: &R, transcript: &[u8], record: &[u8]) -> Result<bo
     Ok(is_same)
 }
 
-/// Whether the race came to what is wanted, and its record replays.
+/// Whether the race has the wanted result, and its record replays.
 pub fn is_right<R: Lender>(
     rt: &R,
     raced: &Raced<Dialed>,
@@ -137,7 +137,7 @@ pub fn is_told(transcript: &Transcript, wanted: Reason, steps: &Steps) -> bool {
     is_told
 }
 
-/// Whether the race comes to what is wanted at the port, and its record replays.
+/// Whether the race has the wanted result at the port, and its record replays.
 pub fn race<R: Lender + Net>(
     rt: &R,
     text: &[u8],
@@ -151,7 +151,7 @@ pub fn race<R: Lender + Net>(
     is_right_of(rt, raced, wanted, &steps)
 }
 
-/// The same over an event loop that was made before.
+/// Runs the race over an event loop that was made before.
 pub fn race_on<R: Lender + Net>(
     rt: &R,
     runtime: &mut LocalRuntime,
@@ -182,7 +182,7 @@ pub const REFUSED: Wanted<'static> = Wanted {
     reason: Reason::Refused,
 };
 
-/// A listener at the address, at a free port where none is given, and its port.
+/// A listener at the address, at a free port if `port` is 0, and its port.
 pub fn listen<R: Lender + Net<Listener = TcpListener, Stream = TcpStream>>(
     rt: &R,
     ip: IpAddr,
@@ -193,7 +193,7 @@ pub fn listen<R: Lender + Net<Listener = TcpListener, Stream = TcpStream>>(
     Ok((listener, port))
 }
 
-/// A port at which nobody listens.
+/// A port without a listener.
 pub fn free_port<R: Lender + Net<Listener = TcpListener, Stream = TcpStream>>(
     rt: &R,
 ) -> Result<u16, Fail> {
@@ -202,7 +202,7 @@ pub fn free_port<R: Lender + Net<Listener = TcpListener, Stream = TcpStream>>(
     Ok(port)
 }
 
-/// How many descriptors the process has.
+/// The number of descriptors of the process.
 pub fn descriptors(rt: &HostRuntime) -> io::Result<usize> {
     let mut count: usize = 0;
     for entry in fs::read_dir(rt, "/proc/self/fd")? {

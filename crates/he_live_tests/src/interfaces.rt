@@ -1,4 +1,4 @@
-// The interface of a link-local address, as connect(2) takes it.
+// The interface of a link-local address, as passed to connect(2).
 
 use crate::homes::Lender;
 use futures::task::{Context, Poll};
@@ -18,13 +18,13 @@ a 0 none
 end
 ";
 
-// EINVAL: what connect(2) answers for a link-local address without an interface.
+// EINVAL: the error of connect(2) for a link-local address without an interface.
 const INVALID: Reason = Reason::Other(22);
 
-// The number of no interface.
+// A number that no interface has.
 const ABSENT: u32 = 99_999;
 
-// A source that is not asked, since both answers are known.
+// A source that is never asked, since both answers are known.
 #[derive(Drop)]
 struct Unasked;
 

@@ -1,7 +1,7 @@
-//! Tests of `he_live` on real sockets, of loopback alone: what races come to with servers that listen, refuse or stay
-//! silent, or whose addresses come while they run, that their records replay, that no socket of a race is left but the
-//! winner's, what each fault leaves, what changed settings do, what a clock that fails
-//! comes to, and that the interface of a link-local address reaches connect(2).
+//! Tests of `he_live` on real sockets, of loopback alone: races with servers that listen, refuse or stay silent, or
+//! whose addresses come while they run, that their records replay, that no socket of a race is left but the winner's,
+//! the state that each fault leaves, the effect of changed settings, a clock that fails, and that the interface of a
+//! link-local address reaches connect(2).
 #![tactic(auto)]
 
 #[cfg(test)]

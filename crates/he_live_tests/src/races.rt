@@ -99,7 +99,7 @@ const NOBODY: Wanted<'static> = Wanted {
     reason: Reason::Refused,
 };
 
-// The address of the server that is silent: its listener's queue is full.
+// The address of the silent server: its listener's queue is full.
 fn dead_ip() -> IpAddr {
     IpAddr::V4(Ipv4Addr::new(127, 0, 0, 2))
 }
@@ -136,7 +136,7 @@ fn servers_listen_or_refuse(rt: HostRuntime) -> Result<(), Fail> {
     Ok(())
 }
 
-// So many connections to the address, none of which is accepted.
+// `CROWD` connections to the address, none of which is accepted.
 fn crowd<R: Lender + Net<Listener = TcpListener, Stream = StdStream>>(
     rt: &R,
     runtime: &LocalRuntime,
@@ -185,7 +185,8 @@ fn a_silent_server_is_left_behind(rt: HostRuntime) -> Result<(), Fail> {
     Ok(())
 }
 
-// So many races one after the other, each of whose connections the server finds closed.
+// The number of right races of a hundred, one after the other: each is won, and the server finds its connection
+// closed.
 fn right_races<R: Lender + Net<Listener = TcpListener, Stream = StdStream>>(
     rt: &R,
     listener: &TcpListener,
@@ -211,14 +212,14 @@ fn a_hundred_races_leave_no_socket(rt: HostRuntime) -> Result<(), Fail> {
     Ok(())
 }
 
-// The failure at a port at which nobody listens.
+// The failure at a port without a listener.
 const FIRST_REFUSED: FailedAttempt = FailedAttempt {
     place: 0,
     ip: Ip::V4(0x7f00_0001),
     reason: Reason::Refused,
 };
 
-// Whether `live` tells that the race was won where it is to be, and writes a transcript with an attempt, and a record
+// Whether `live` reports that the race was won if it is to be, and writes a transcript with an attempt, and a record
 // that replays to it.
 fn is_told<R: Lender + Net<Listener = TcpListener, Stream = StdStream>>(
     rt: &R,

@@ -1,4 +1,5 @@
-// Races whose answers come while they run: what comes of them, what is told meanwhile, and the stream that is left.
+// Races whose answers come while they run: their results, the steps that are reported meanwhile, and the winner's
+// stream.
 
 use crate::homes::{
     End, Lender, Result3, Wanted, descriptors, free_port, is_right, is_told, listen,
@@ -38,10 +39,11 @@ const LOOPBACK_4: Ip = Ip::V4(0x7f00_0001);
 
 const NEVER: u64 = u64::MAX;
 
-// Of a step that is told as it happens, in milliseconds: a race here goes on for at least 200 after its last step.
+// The most milliseconds by which the report of a step may be late: a race here goes on for at least 200 after its
+// last step.
 const MOST_LATE: u128 = 150;
 
-// A source that tells the loopback address of each family at a tick.
+// A source that gives the loopback address of each family at a tick.
 #[derive(Drop)]
 struct AtTicks {
     alloc: Global,
@@ -69,7 +71,7 @@ impl AnswerSource for AtTicks {
     }
 }
 
-// Only the IPv4 answer comes: it waits for the other one as long as RFC 8305 section 3 says, 50 ms.
+// Only the IPv4 answer comes: it waits for the other one for the Resolution Delay, 50 ms (RFC 8305 section 3).
 const FOUR_ALONE: Wanted<'static> = Wanted {
     attempts: &[(50, End::Won)],
     result: Result3::Won(0),
@@ -100,7 +102,7 @@ const SIX_AT_ONCE: Wanted<'static> = Wanted {
     reason: Reason::Refused,
 };
 
-// The IPv6 answer never comes, so a failure of all others ends nothing.
+// The IPv6 answer never comes, so the race goes on after all other attempts have failed.
 const FOUR_REFUSED: Wanted<'static> = Wanted {
     attempts: &[(50, End::Failed)],
     result: Result3::Limit,
@@ -115,7 +117,7 @@ const NO_ANSWER: Wanted<'static> = Wanted {
     reason: Reason::Refused,
 };
 
-// Whether the race comes to what is wanted, and its winner's connection.
+// Whether the race has the wanted result, and its winner's connection.
 fn resolve<R: Lender + Net, W: Watcher>(
     rt: &R,
     runtime: &mut LocalRuntime,
@@ -140,7 +142,7 @@ fn resolve<R: Lender + Net, W: Watcher>(
     Ok((is_right? && is_told, raced.winner))
 }
 
-// Whether the race comes to what is wanted, where nobody is told.
+// Whether the race has the wanted result, without a watcher.
 fn resolves<R: Lender + Net>(
     rt: &R,
     (aaaa, a): (u64, u64),
@@ -172,7 +174,7 @@ fn answers_take_part_when_they_come(rt: HostRuntime) -> Result<(), Fail> {
     Ok(())
 }
 
-// Whether the steps that it is told are these, in order.
+// Whether the steps reported to it are these, in order.
 #[derive(Drop)]
 struct Expecting<'a> {
     wanted: &'a [(usize, Ip, StepKind)],
@@ -196,7 +198,7 @@ const TOLD: [(usize, Ip, StepKind); 4] = [
     (1, LOOPBACK_4, StepKind::Connected),
 ];
 
-// Whether server and winner read what the other wrote, and the winner's read waits.
+// Whether server and winner read each other's bytes, and the winner's read waits.
 fn is_connection(
     rt: &HostRuntime,
     winner: &mut TcpStream,
@@ -216,7 +218,7 @@ fn is_connection(
     Ok(addr == winner.local_addr()? && has_waited && there == *b"ping" && back == *b"pong")
 }
 
-// How late the latest step was told, in milliseconds.
+// The greatest delay of the report of a step, in milliseconds.
 #[derive(Drop)]
 struct Timing<'r, R: Clock> {
     clock: &'r R,

@@ -1,4 +1,4 @@
--- Why a session has no connection, by what failed, and what its client is answered.
+-- Why a session has no connection, and the reply to its client.
 use Rattle.std.specs.Prelude.{ℕ}
 use Rattle.he_front.specs.declared.replies.Ended.{Ended}
 use Rattle.he_front.specs.declared.replies.Ended.TheVariants as ends
@@ -11,12 +11,12 @@ use Rattle.he_settings.specs.declared.fault.NamesFault.TheVariants as faults
 use Rattle.he_log.specs.declared.lost.Lost.{Lost}
 use Rattle.he_log.specs.declared.lost.Lost.TheVariants as losses
 
--- a name server refused by RCODE 5 (RFC 1035 section 4.1.1); all else is a failure
+-- a name server refused with RCODE 5 (RFC 1035 section 4.1.1); anything else is a failure
 abbrev pub of_failure : Failure → Lost
 of_failure failures.Refused = losses.DnsRefused
 of_failure failure = losses.DnsFailed
 
--- by the fault of a look-up
+-- by the fault of its look-up
 abbrev pub of_names : NamesFault → Lost
 of_names (faults.Host fault) = losses.NotAName
 of_names (faults.Name fault) = losses.NotAName
@@ -29,7 +29,7 @@ of_names (faults.Server server) = of_failure server.failure
 of_names faults.Files = losses.NoDescriptor
 of_names fault = losses.ProxyFailed
 
--- by the system's reason why an attempt failed
+-- by the system's reason for a failed attempt
 abbrev pub of_attempt : Reason → Lost
 of_attempt reasons.Refused = losses.AllFailed
 of_attempt reasons.Reset = losses.AllFailed
@@ -43,7 +43,7 @@ of_attempt reasons.OutOfMemory = losses.ProxyFailed
 of_attempt reasons.NoBuffers = losses.ProxyFailed
 of_attempt reason = losses.Unreachable
 
--- what the client is answered: a fault of this machine is the proxy's own, and what a look-up lacks is the host's
+-- the reply to the client: a fault of this machine is the proxy's own, and a failed look-up is the host's
 abbrev pub ended_of : Lost → Ended
 ended_of losses.Forbidden = ends.Forbidden
 ended_of losses.AllFailed = ends.Refused

@@ -1,4 +1,4 @@
-//! What the log says of a session beside what its end says.
+//! The facts of a session that its end doesn't have.
 
 use crate::lost::Lost;
 use he_addr::Ip;
@@ -7,25 +7,25 @@ use std::cell::Cell;
 use std::mem::drop;
 use std::net::SocketAddr;
 
-/// What the log says of the race of a session.
+/// The log's facts of a session's race.
 #[derive(Drop)]
 pub struct Facts {
-    /// When the race began, as `stamp_now` has it.
+    /// When the race began, as from `stamp_now`.
     pub began: Option<String>,
-    /// The file of its record, below the directory of the records.
+    /// The path of its record in the records' directory.
     pub record: Option<String>,
-    /// The tick at which its first attempt began.
+    /// The tick at which its first attempt started.
     pub names: Option<u64>,
-    /// Why it has no winner, where it ended without one.
+    /// Why it has no winner, if it ended without one.
     pub lost: Option<Lost>,
-    /// The tick at which it was given up, where it was.
+    /// The tick at which it was given up, if it was.
     pub given_up: Option<u64>,
-    /// The addresses that were tried, where it has no winner.
+    /// The addresses that were tried, if it has no winner.
     pub tried: Vec<Ip>,
 }
 
 impl Facts {
-    /// Nothing is said.
+    /// No facts.
     pub fn none(alloc: Global) -> Facts {
         Facts {
             began: None,
@@ -44,7 +44,7 @@ struct Noted {
     facts: Facts,
 }
 
-/// The facts of the sessions that have not ended, by their clients.
+/// The facts of the sessions in progress, by client.
 #[derive(Drop)]
 pub struct SessionFacts {
     alloc: Global,
@@ -52,7 +52,7 @@ pub struct SessionFacts {
 }
 
 impl SessionFacts {
-    /// There is no session.
+    /// No sessions.
     pub fn new(alloc: Global) -> SessionFacts {
         SessionFacts {
             alloc,
@@ -60,14 +60,14 @@ impl SessionFacts {
         }
     }
 
-    /// Notes the facts of this client's session. Where memory is refused they are lost.
+    /// Records the facts of this client's session. They are lost if an allocation fails.
     pub fn note(&self, client: SocketAddr, facts: Facts) {
         let mut noted = self.noted.replace(Vec::new(self.alloc));
         let _ = noted.push(Noted { client, facts });
         self.noted.set(noted);
     }
 
-    /// The facts of this client's session, which has ended.
+    /// Takes the facts of this client's session, which has ended.
     pub fn take(&self, client: SocketAddr) -> Facts {
         let mut noted = self.noted.replace(Vec::new(self.alloc));
         let place = noted.iter().position(|one| one.client == client);

@@ -1,12 +1,14 @@
-//! The log of a proxy: a line for each session, and what the proxy says of itself.
+//! The log of a proxy: a line for each session, and the proxy's own messages.
 //!
-//! [`Log`] writes to standard error, which never stops a session: a line that it would not take at once is dropped and
-//! counted. [`SessionFacts`] are what a line says beside the end of its session, [`Lost`] is why a session has no
-//! connection, and [`TurnedAway`] says once a minute and network that a client is not served.
+//! [`Log`] writes to standard error, which never blocks a session: a line that it doesn't take at once is dropped and
+//! counted. [`SessionFacts`] has the facts of a line that the session's end doesn't have, [`Lost`] is why a session
+//! has no connection, and [`TurnedAway`] limits the lines for clients that are not served to one a minute and
+//! network.
 //!
-//! Proved: why a session has no connection follows from the fault of its look-up or the reason of an attempt, and what
-//! its client is answered from that (`specs/Lost`). A text in a line is a string of JSON, or stands as it is where no
-//! octet of it has a meaning there (`specs/Log`). Only tested: which facts a line has, and what is dropped.
+//! Proved: why a session has no connection follows from the fault of its look-up or the reason of an attempt, and the
+//! reply to its client follows from that (`specs/Lost`). A text in a line is a JSON string, or appears as it is if
+//! none of its octets has a meaning there (`specs/Log`). Tested only: the facts of a line, and which lines are
+//! dropped.
 #![tactic(auto)]
 
 pub mod facts;

@@ -17,7 +17,7 @@ use std::io::Write;
 use std::net::SocketAddr;
 use std::time::Clock;
 
-/// How sessions are logged.
+/// The form of the log.
 #[derive(Clone, Copy, Debug, PartialEq, Eq)]
 pub enum LogForm {
     Silent,
@@ -27,7 +27,7 @@ pub enum LogForm {
     Json,
 }
 
-/// The log, and where its lines go.
+/// The log and its output.
 #[derive(Drop)]
 pub struct Log<F: Drop> {
     alloc: Global,
@@ -44,9 +44,9 @@ impl<F: Write + Drop> Log<F> {
         }
     }
 
-    /// Writes the line of a session that has ended: `time=2026-11-26T16:34:40.123Z client=127.0.0.1:53422
-    /// host=example.org port=443 start=2026-11-26T16:34:39.871Z names=21 winner=2001:db8::1 ms=23 lost=0 sent=517
-    /// received=4096 end=closed`, or an object with the same members.
+    /// Writes the line of an ended session: `time=2026-11-26T16:34:40.123Z client=127.0.0.1:53422 host=example.org
+    /// port=443 start=2026-11-26T16:34:39.871Z names=21 winner=2001:db8::1 ms=23 lost=0 sent=517 received=4096
+    /// end=closed`, or an object with these members.
     pub fn tell<R: Clock>(&self, rt: &R, end: &SessionEnd<'_>, facts: &Facts) {
         if let Some(line) = self.begin_line(rt)
             && let Ok(line) = line_of(self.alloc, end, facts, line)
@@ -55,7 +55,7 @@ impl<F: Write + Drop> Log<F> {
         }
     }
 
-    /// Writes the line of a client that is turned away, since it is not served.
+    /// Writes the line of a client that is not served.
     pub fn tell_turned_away<R: Clock>(&self, rt: &R, client: SocketAddr) {
         if let Some(line) = self.begin_line(rt)
             && let Ok(line) = line_of_turned_away(self.alloc, client, line)
@@ -64,7 +64,7 @@ impl<F: Write + Drop> Log<F> {
         }
     }
 
-    // A line with the time now, where the clock has one. None in a log that is silent.
+    // A line with the current time, if the clock gives one. None in a silent log.
     fn begin_line<R: Clock>(&self, rt: &R) -> Option<Line> {
         let is_json = match self.form {
             LogForm::Silent => return None,
@@ -81,21 +81,21 @@ impl<F: Write + Drop> Log<F> {
         Some(line)
     }
 
-    /// Writes a line of the proxy itself, as `he: no descriptor is left`.
+    /// Writes a message of the proxy: `he: no descriptor is left`.
     pub fn say(&self, what: &str) {
         if let Ok(line) = format!(in self.alloc; "he: {what}\n") {
             self.out.write(line.as_bytes());
         }
     }
 
-    /// Says that something is not kept, and why.
+    /// Reports that something can't be kept, and why.
     pub fn tell_unkept(&self, what: &str, why: Cause) {
         if let Ok(what) = format!(in self.alloc; "cannot keep {what}: {why}") {
             self.say(&what);
         }
     }
 
-    /// Says that the file of known addresses was one of something else, and where that is now.
+    /// Reports that the history file was not a history, and where its copy is.
     pub fn tell_moved(&self, to: &str) {
         if let Ok(what) = format!(in self.alloc;
             "no line of the history was ADDRESS SOURCE MILLISECONDS SECOND: what it was is kept as {to}"
@@ -104,7 +104,7 @@ impl<F: Write + Drop> Log<F> {
         }
     }
 
-    /// Says which lines of the file of known addresses are wrong.
+    /// Reports the wrong lines of the history file.
     pub fn tell_passed_over(&self, lines: &[u64]) {
         for line in lines {
             if let Ok(what) = format!(in self.alloc;
@@ -115,7 +115,7 @@ impl<F: Write + Drop> Log<F> {
         }
     }
 
-    /// Says that as many sessions run as may.
+    /// Reports that the limit of sessions is reached.
     pub fn tell_most(&self, most: u32) {
         if let Ok(what) = format!(in self.alloc;
             "{most} sessions run, as many as --most allows: other clients wait until one ends"
@@ -124,14 +124,14 @@ impl<F: Write + Drop> Log<F> {
         }
     }
 
-    /// Says that there is room for sessions again.
+    /// Reports that there is room for sessions again.
     pub fn tell_room(&self, most: u32) {
         if let Ok(what) = format!(in self.alloc; "fewer than {most} sessions run again") {
             self.say(&what);
         }
     }
 
-    /// Says at which places the proxy listens, in a log of text.
+    /// Reports the places that the proxy listens at, in a text log.
     pub fn tell_places(&self, places: &[Place]) {
         if self.form != LogForm::Text {
             return;
@@ -150,7 +150,7 @@ impl<F: Write + Drop> Log<F> {
     }
 }
 
-// The line of a session that ended.
+// The line of an ended session.
 fn line_of(
     alloc: Global,
     end: &SessionEnd<'_>,
@@ -186,7 +186,7 @@ fn line_of_turned_away(
     line.finish()
 }
 
-// A line while it is written: `name=value name=value` or an object.
+// A line being written: `name=value name=value` or an object.
 #[derive(Drop)]
 struct Line {
     is_json: bool,
@@ -195,12 +195,12 @@ struct Line {
 
 impl Line {
     fn put_client(&mut self, alloc: Global, client: SocketAddr) -> Result<(), Memory> {
-        // An IPv4 client of an IPv6 socket has its own address.
+        // An IPv4 client of an IPv6 socket is shown with its IPv4 address.
         let client = SocketAddr::new(client.ip().to_canonical(), client.port());
         self.put_text("client", format!(in alloc; "{client}")?.as_bytes())
     }
 
-    // What asks for no tunnel, as text (UTF-8), whatever its octets are.
+    // The request for no tunnel, as UTF-8 text, whatever its octets are.
     fn put_request(&mut self, alloc: Global, request: RequestLine<'_>) -> Result<(), Memory> {
         let RequestLine { method, target } = request;
         let method = String::from_utf8_lossy(alloc, method)?;
@@ -231,7 +231,7 @@ impl Line {
         self.put_number("lost", winner.lost)
     }
 
-    // After how long a race was given up, and what was tried without a winner.
+    // When a race was given up, and the addresses that were tried without a winner.
     fn put_tried(&mut self, alloc: Global, facts: &Facts) -> Result<(), Memory> {
         if let Some(tick) = facts.given_up {
             self.put_number("ms", tick)?;
@@ -289,7 +289,7 @@ impl Line {
     }
 }
 
-// Appends a value: as a string of JSON, or, where a line of text can have it so, as it is.
+// Appends a value: as a JSON string, or as it is if a text line allows.
 fn write_value(is_json: bool, value: &[u8], text: &mut Vec<u8>) -> Result<(), Memory>
     ensures { OnOk result (text.new.items ≡ text.old.items ++ value_text is_json value.now) }
 {
@@ -300,7 +300,7 @@ fn write_value(is_json: bool, value: &[u8], text: &mut Vec<u8>) -> Result<(), Me
     Ok(())
 }
 
-// Whether a value needs no quotation marks: no space, quotation mark, backslash or control character is in it.
+// Whether a value needs no quotation marks: it has no space, quotation mark, backslash or control character.
 fn is_bare(value: &[u8]) -> bool
     ensures { result ≡ list_all is_bare_byte value.now }
 {
@@ -313,7 +313,7 @@ fn is_bare_byte(byte: u8) -> bool
     byte > b' ' && byte != b'"' && byte != b'\\' && byte != 127
 }
 
-// The word for how a session ended without a connection: that of its race, or that of the refusal.
+// The word for the end of a session without a connection: that of its race, or of the refusal.
 fn fault_of(ended: Ended, facts: &Facts) -> &'static str {
     if let Some(lost) = facts.lost {
         return lost.word();

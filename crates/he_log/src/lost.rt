@@ -11,23 +11,23 @@ use he_settings::{Failure, NamesFault};
 pub enum Lost {
     /// The client may not reach the target.
     Forbidden,
-    /// Every attempt failed, and one was refused.
+    /// No attempt connected, and one was refused or reset.
     AllFailed,
     /// No attempt had an answer by the race's limit.
     TimedOut,
-    /// Nothing on the way to the host takes the packets.
+    /// The host is unreachable: nothing on the way takes the packets.
     Unreachable,
     /// No network leads to an address of the host.
     NoNetwork,
-    /// The process or the machine has as many files open as it may.
+    /// The process or the machine has no descriptor left.
     NoDescriptor,
-    /// The text is no name of a host.
+    /// The text is not a host name.
     NotAName,
-    /// There is no such name.
+    /// The name does not exist.
     NoSuchName,
-    /// The name has no address that can be tried.
+    /// The name has no usable address.
     NoAddress,
-    /// No name server answered in its time.
+    /// No name server answered in time.
     NoAnswer,
     /// A name server refused to answer.
     DnsRefused,
@@ -49,7 +49,7 @@ impl Lost {
             NamesFault::NoAnswer => Lost::NoAnswer,
             NamesFault::Server(server) => Lost::of_failure(server.failure),
             NamesFault::Files => Lost::NoDescriptor,
-            // A fault of this machine.
+            // Faults of this machine.
             _ => Lost::ProxyFailed,
         }
     }
@@ -77,7 +77,7 @@ impl Lost {
         }
     }
 
-    /// What the client is answered.
+    /// The reply to the client.
     pub fn ended(self) -> Ended
         ensures { result ≡ ended_of self }
     {
@@ -91,7 +91,7 @@ impl Lost {
         }
     }
 
-    /// The word for it in the log.
+    /// The word in the log.
     pub fn word(self) -> &'static str {
         match self {
             Lost::Forbidden => "forbidden",

@@ -1,4 +1,4 @@
-//! Where the log's lines are written, which never waits for a reader.
+//! The output of the log, which never waits for a reader.
 
 use he_relay::takes_now;
 use std::alloc::Global;
@@ -8,11 +8,11 @@ use std::io::Write;
 // The descriptor of standard error.
 const STANDARD_ERROR: i32 = 2;
 
-// How many octets a pipe takes at once where it takes any (PIPE_BUF of pipe(7)).
+// The octets that a pipe takes at once if it takes any (PIPE_BUF, pipe(7)).
 const MOST_AT_ONCE: usize = 4_096;
 
-/// Standard error. A line that it would not take at once is dropped and counted, and the count is written before the
-/// next line that it takes.
+/// Standard error. A line that it doesn't take at once is dropped and counted; the count is written before the next
+/// line that it takes.
 #[derive(Drop)]
 pub struct Output<F: Drop> {
     alloc: Global,
@@ -42,7 +42,7 @@ impl<F: Write + Drop> Output<F> {
         }
     }
 
-    // Says how many lines were dropped, if any. False where that isn't taken either.
+    // Writes the number of dropped lines, if any. False if that isn't taken either.
     fn say_dropped(&self, out: &mut F) -> bool {
         let count = self.dropped.get();
         if count == 0 {

@@ -1,16 +1,16 @@
-//! Clients that are turned away, which the log says once a minute and network.
+//! Clients that are not served, which the log names once a minute and network.
 
 use he_addr::Ip;
 use std::alloc::Global;
 use std::cell::Cell;
 
-/// For how many seconds a network is not named again of which a client was turned away.
+/// The seconds for which a network is not named again after a client of it was refused.
 pub const TURNED_AWAY_SECONDS: u64 = 60;
 
-// How many networks are remembered at most.
+// The most networks that are remembered.
 const MOST: usize = 256;
 
-// The bits of a network: a /24 of IPv4, a /64 of IPv6 (RFC 4291 section 2.5.1).
+// The networks: a /24 of IPv4, a /64 of IPv6 (RFC 4291 section 2.5.1).
 const NETWORK_V4: u32 = 0xffff_ff00;
 
 const NETWORK_V6: u128 = 0xffff_ffff_ffff_ffff_0000_0000_0000_0000;
@@ -21,7 +21,7 @@ struct Named {
     second: u64,
 }
 
-/// The networks of clients that were turned away.
+/// The networks of refused clients.
 #[derive(Drop)]
 pub struct TurnedAway {
     alloc: Global,
@@ -29,7 +29,7 @@ pub struct TurnedAway {
 }
 
 impl TurnedAway {
-    /// Nobody was turned away.
+    /// No networks.
     pub fn new(alloc: Global) -> TurnedAway {
         TurnedAway {
             alloc,
@@ -37,8 +37,8 @@ impl TurnedAway {
         }
     }
 
-    /// Whether the client's network is to be named in this second: it was not in the last minute, and not too many
-    /// others were.
+    /// Whether the client's network is to be named in this second: it was not named in the last minute, and not too
+    /// many others were.
     pub fn is_news(&self, client: Ip, second: u64) -> bool {
         let network = network_of(client);
         let mut named = self.named.replace(Vec::new(self.alloc));

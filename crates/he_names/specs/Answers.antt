@@ -1,4 +1,4 @@
--- What is told of a name: each family's addresses, cleaned, and the lines of a timeline that tell them.
+-- The answers for a name: each family's addresses, cleaned, and the lines of a timeline that state them.
 use Rattle.std.specs.Prelude.{◌≡◌, ◌≢◌, ℕ, ◌+◌, ◌<◌, ◌≤◌, ◌==◌, List, [], ◌∷◌, ◌++◌, Option, Some, None, All, AllPairs, codes, decimal, filter, length, not, take, if◌then◌else◌}
 use Rattle.std.specs.List.{flat_map}
 use Rattle.he_addr.specs.declared.ip.Family.{Family}
@@ -12,11 +12,11 @@ abbrev pub each_once : List Ip → List Ip
 each_once [] = []
 each_once (ip ∷ ips) = ip ∷ filter (λ other. not (same_ip ip other)) (each_once ips)
 
--- the addresses of the family, each once, and of those the first 256: as many as a line has
+-- the addresses of the family, each once; of these the first 256, the maximum of a line
 abbrev pub cleaned : Family → List Ip → List Ip
 cleaned family ips = take 256 (each_once (filter (is_of family) ips))
 
--- what a family's answer is: addresses of the family, none of them twice, and at most 256
+-- a family's answer: addresses of the family, each once, at most 256
 pub record IsAnswer (family : Family) (ips : List Ip) : Type 0 where
   pub own : All (λ ip. family_of ip ≡ family) ips
   pub once : AllPairs (λ ip other. ip ≢ other) ips
@@ -35,12 +35,12 @@ pub record IsFound (answers : Answers) : Type 0 where
   pub v4 : IsAnswer families.V4 answers.v4
   pub some : 0 < length answers.v6 + length answers.v4
 
--- the answers, where one has an address; else nothing is found
+-- the answers if one has an address; otherwise None
 abbrev pub Finds : Answers → Option Answers → Type 0
 Finds answers (Some found) = found ≡ answers
 Finds answers None = (answers.v6 ≡ []) × (answers.v4 ≡ [])
 
--- the addresses, each behind a space, or that there are none
+-- the addresses, each after a space, or `none`
 abbrev pub told : List Ip → List ℕ
 told ips = if length ips == 0 then codes " none" else flat_map (λ ip. 32 ∷ printed ip) ips
 

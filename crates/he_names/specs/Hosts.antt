@@ -1,5 +1,4 @@
--- The addresses that a file of hosts has for a name (hosts(5)): on each line an address and then the names that it
--- has.
+-- The addresses that a hosts file has for a name (hosts(5)): a line has an address and then its names.
 use Rattle.std.specs.Prelude.{ℕ, List, [], ◌∷◌, Option, None, if◌then◌else◌}
 use Rattle.std.specs.List.{filter_map, list_any}
 use Rattle.std.specs.Str.{str_eq_ignore_ascii_case}
@@ -11,17 +10,17 @@ use Rattle.he_names.specs.Fields.{before, fields_of, lines_of}
 abbrev pub uncommented : List ℕ → List ℕ
 uncommented line = before 35 line
 
--- the address that a line's fields give to the name: the first is the address, of either family, and another one is
--- the name, whatever the case of its letters (RFC 4343)
+-- the address that a line's fields give the name: the first field is the address, of either family, and a later one
+-- is the name, compared case-insensitively (RFC 4343)
 abbrev pub given_by : List ℕ → List (List ℕ) → Option Ip
 given_by name [] = None
 given_by name (address ∷ names) =
     if list_any (str_eq_ignore_ascii_case name) names then ip_in address else None
 
--- the address that a line gives to the name
+-- the address that a line gives the name
 unfoldable pub line_gives : List ℕ → List ℕ → Option Ip
 line_gives name line = given_by name (fields_of (uncommented line))
 
--- the addresses that the file gives to the name, line by line
+-- the addresses that the file gives the name, line by line
 abbrev pub hosts_in : List ℕ → List ℕ → List Ip
 hosts_in name text = filter_map (line_gives name) (lines_of text)

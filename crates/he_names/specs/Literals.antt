@@ -1,5 +1,5 @@
--- Addresses as people write them for a host: alone, or one of IPv6 in brackets (RFC 3986 section 3.2.2); one of IPv6
--- may have a zone, the interface of a link-local address, after a percent sign (RFC 4007 section 11).
+-- Addresses as a user writes them for a host: alone, or an IPv6 one in brackets (RFC 3986 section 3.2.2). An IPv6
+-- address may have a zone, the interface of a link-local address, after a percent sign (RFC 4007 section 11).
 use Rattle.std.specs.Prelude.{ℕ, ◌-◌, ◌*◌, ◌^◌, ◌==◌, ◌&&◌, ◌||◌, Bool, List, Option, Some, None, false, length, nat_le, nat_lt, not, slice_index, slice_range, if◌then◌else◌}
 use Rattle.std.specs.List.{list_any}
 use Rattle.std.specs.Option.{option_map, option_map_or}
@@ -22,7 +22,7 @@ zoned_of literal = (literal.ip, option_map (λ (id : Bor (List ℕ)). id.now) li
 abbrev pub with_zone : (List ℕ × List ℕ) → Option Zoned
 with_zone cut = option_map (λ ip. (ip, Some cut.1)) (ip_of_in families.V6 cut.0)
 
--- an address: one of IPv6 before a percent sign and its zone, or one of either family without
+-- an address: an IPv6 one before a percent sign and its zone, or one of either family without
 unfoldable pub zoned_in : List ℕ → Option Zoned
 zoned_in text = option_map_or with_zone (cut_in 37 text) (option_map (λ ip. (ip, None)) (ip_in text))
 
@@ -34,7 +34,7 @@ of_v6 (V6 n, zone_id) = Some (V6 n, zone_id)
 abbrev pub is_bracketed : List ℕ → Bool
 is_bracketed text = (nat_le 2 (length text) && slice_index text 0 == 91) && slice_index text (length text - 1) == 93
 
--- what stands between the brackets
+-- the text between the brackets
 abbrev pub between : List ℕ → List ℕ
 between text = slice_range text 1 (length text - 1)
 
@@ -47,15 +47,15 @@ abbrev pub is_on_link : Ip → Bool
 is_on_link (V4 n) = false
 is_on_link (V6 n) = agrees 128 n (0xfe80 * 2 ^ 112) 10
 
--- the IPv4 address that one in ::ffff:0:0/96 stands for (RFC 4291 section 2.5.5.2); any other as it is
+-- the IPv4 address of an IPv4-mapped one (RFC 4291 section 2.5.5.2); any other address unchanged
 abbrev pub unmapped : Ip → Ip
 unmapped (V4 n) = V4 n
 unmapped (V6 n) = if is_mapped_v6 n then V4 (n - 0xffff * 2 ^ 32) else V6 n
 
--- a space, a control character or a slash, none of which an interface's name has
+-- a space, a control character or a slash; no interface name has one
 abbrev pub is_no_interface_byte : ℕ → Bool
 is_no_interface_byte byte = not (nat_lt 32 byte && not (byte == 127)) || byte == 47
 
--- what may name an interface: 1 to 15 bytes without those
+-- a zone that may name an interface: 1 to 15 bytes, none of them such a byte
 abbrev pub is_interface : List ℕ → Bool
 is_interface zone_id = (nat_le 1 (length zone_id) && nat_le (length zone_id) 15) && not (list_any is_no_interface_byte zone_id)

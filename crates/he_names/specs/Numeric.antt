@@ -1,5 +1,5 @@
--- Numbers that older software takes for an IPv4 address (inet_aton(3)): `a`, `a.b`, `a.b.c` or `a.b.c.d`, of which the
--- last number fills the bytes that the ones before it leave.
+-- Numbers that older software reads as an IPv4 address (inet_aton(3)): `a`, `a.b`, `a.b.c` or `a.b.c.d`, in which the
+-- last number fills the bytes that those before it leave.
 use Rattle.std.specs.Prelude.{ℕ, ◌+◌, ◌*◌, ◌-◌, ◌^◌, ◌==◌, ◌&&◌, ◌||◌, Bool, List, [], ◌∷◌, Option, Some, None, drop, length, nat_le, nat_lt, slice_index, take, if◌then◌else◌}
 use Rattle.std.specs.Char.{digit_value, is_ascii_digit, is_ascii_hexdigit}
 use Rattle.std.specs.List.{list_all, slice_split}
@@ -7,7 +7,7 @@ use Rattle.he_addr.specs.Reading.{◌>>=◌}
 use Rattle.he_names.specs.Conf.{last_of}
 use Rattle.he_names.specs.Order.{is_absolute}
 
--- the number below 2 ^ 32 that the digits of the radix write after those of value
+-- the number below 2 ^ 32 that the digits of `value` and then these write, in the radix
 abbrev pub digits_after : ℕ → ℕ → List ℕ → Option ℕ
 digits_after radix value [] = Some value
 digits_after radix value (byte ∷ digits) =
@@ -25,7 +25,7 @@ part_in part =
     else if slice_index part 0 == 48 then digits_after 8 0 part
     else digits_after 10 0 part
 
--- one below the limit
+-- a number below the limit
 unfoldable pub part_below : ℕ → List ℕ → Option ℕ
 part_below limit part = do
   number ← part_in part
@@ -51,14 +51,14 @@ address_of (a ∷ b ∷ c ∷ d ∷ []) = do
   Some (first * 2 ^ 24 + second * 2 ^ 16 + third * 2 ^ 8 + rest)
 address_of other = None
 
--- the name without the dot that may end it
+-- the name without a final dot
 abbrev pub body_of : List ℕ → List ℕ
 body_of name = if is_absolute name then take (length name - 1) name else name
 
 abbrev pub labels_of : List ℕ → List (List ℕ)
 labels_of name = slice_split (λ byte. byte == 46) (body_of name)
 
--- all of its digits, decimal ones or, after 0x, hexadecimal ones
+-- the label consists of digits: decimal ones or, after 0x, hexadecimal ones
 abbrev pub is_number : List ℕ → Bool
 is_number label =
     (nat_le 1 (length label) && list_all is_ascii_digit label)
@@ -68,6 +68,6 @@ is_number label =
 abbrev pub ends_in_number : List ℕ → Bool
 ends_in_number name = is_number (last_of [] (labels_of name))
 
--- the IPv4 address that the whole name is taken for
+-- the IPv4 address that the whole name is read as
 abbrev pub numeric_address : List ℕ → Option ℕ
 numeric_address name = address_of (labels_of name)

@@ -1,15 +1,15 @@
--- The names that are asked for a host, in their order (resolver(5), search and ndots).
+-- The names that are queried for a host, in order (resolver(5), search and ndots).
 use Rattle.std.specs.Prelude.{ℕ, ◌==◌, ◌-◌, Bool, List, [], ◌∷◌, ◌++◌, count_by, filter, length, map, nat_le, not, slice_index, if◌then◌else◌}
 use Rattle.std.specs.List.{list_any}
 
 abbrev pub dots : List ℕ → ℕ
 dots name = count_by (λ byte. byte == 46) name
 
--- a dot ends an absolute name, which stands in no domain
+-- a final dot makes a name absolute: it is in no domain of the search list
 abbrev pub is_absolute : List ℕ → Bool
 is_absolute name = slice_index name (length name - 1) == 46
 
--- a domain of the search list without the dot that may begin it
+-- a domain of the search list without a leading dot
 abbrev pub undotted : List ℕ → List ℕ
 undotted [] = []
 undotted (byte ∷ domain) = if byte == 46 then domain else byte ∷ domain
@@ -18,13 +18,13 @@ undotted (byte ∷ domain) = if byte == 46 then domain else byte ∷ domain
 abbrev pub is_root : List ℕ → Bool
 is_root domain = length (undotted domain) == 0
 
--- the name in a domain of the search list: in the root it is the name as it is
+-- the name in a domain of the search list; in the root it is the name itself
 abbrev pub within : List ℕ → List ℕ → List ℕ
 within name domain = if is_root domain then name else name ++ 46 ∷ undotted domain
 
--- An absolute name is asked for as it is. Any other is asked for in each domain of the search list too: after itself
--- where it has as many dots as `ndots` says, before itself where it has fewer. It is not asked for as it is both for
--- itself and for the root.
+-- an absolute name is queried only as it is; any other name also in each domain of the search list: after itself if
+-- it has at least `ndots` dots, before itself if it has fewer. It is queried as it is once, even if the search list
+-- has the root
 abbrev pub names_of : List ℕ → ℕ → List (List ℕ) → List (List ℕ)
 names_of name ndots search =
     if is_absolute name then name ∷ []

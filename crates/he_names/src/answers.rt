@@ -1,4 +1,4 @@
-//! The answers for a name: a family's addresses, and the line of a timeline that states them.
+//! The answers for a name: a family's addresses, and the timeline line that states them.
 
 ghost use Rattle.std.specs.Prelude.{◌≡◌, ◌++◌, ◌∷◌, IfOk, OnOk, filter, take};
 ghost use Rattle.std.specs.List.{flat_map, list_any};
@@ -10,12 +10,12 @@ use crate::limits::MOST_ADDRESSES;
 use he_addr::{Family, Ip, Memory, write_ip, write_number};
 use std::alloc::Allocator;
 
-/// The addresses of the family, each once, at its first place, and of those the first 256: as many as a line of a
-/// timeline has.
+/// The addresses of the family, each once, at its first place; of these the first 256, the maximum of a timeline
+/// line.
 ///
 /// # Errors
 ///
-/// [`Memory`] where an allocation was refused.
+/// [`Memory`] if an allocation failed.
 pub fn clean_of<A: Allocator + Copy>(
     alloc: A,
     family: Family,
@@ -51,7 +51,7 @@ fn is_of(family: Family, ip: Ip) -> bool
     ip.family() == family
 }
 
-// The addresses each once, and of those the first 256.
+// The addresses each once; of these the first 256.
 fn clean<A: Allocator + Copy>(alloc: A, ips: &[Ip]) -> Result<Vec<Ip, A>, Memory>
     ensures { IfOk result (λ kept. kept.items ≡ take 256 (each_once ips.now)) }
 {
@@ -71,8 +71,7 @@ fn has(ips: &[Ip], ip: Ip) -> bool
     ips.contains(&ip)
 }
 
-// Appends an answer as a line of a timeline: its word, the tick at which it came, and its addresses, or that there are
-// none.
+// Appends an answer as a line of a timeline: its word, its tick, and its addresses, or `none`.
 pub(crate) fn write_answer<A: Allocator + Copy>(
     word: &[u8],
     tick: u64,
@@ -89,7 +88,7 @@ pub(crate) fn write_answer<A: Allocator + Copy>(
     Ok(())
 }
 
-// The addresses, or that there are none.
+// The addresses, or `none`.
 fn write_told<A: Allocator + Copy>(ips: &[Ip], out: &mut Vec<u8, A>) -> Result<(), Memory>
     ensures { OnOk result (out.new.items ≡ out.old.items ++ told ips.now) }
 {
@@ -100,7 +99,7 @@ fn write_told<A: Allocator + Copy>(ips: &[Ip], out: &mut Vec<u8, A>) -> Result<(
     write_addresses(ips, out)
 }
 
-// The addresses, each behind a space.
+// The addresses, each after a space.
 fn write_addresses<A: Allocator + Copy>(ips: &[Ip], out: &mut Vec<u8, A>) -> Result<(), Memory>
     ensures { OnOk result (out.new.items ≡ out.old.items ++ flat_map (λ ip. 32 ∷ printed ip) ips.now) }
 {

@@ -1,4 +1,4 @@
-//! The file of resolver settings.
+//! The resolver configuration file.
 
 ghost use Rattle.std.specs.Prelude.{◌≡◌, IfOk, codes, map};
 ghost use Rattle.std.specs.Option.{option_map, option_to_list};
@@ -13,19 +13,19 @@ use crate::limits::{
 };
 use crate::literals::{ZonedIp, read_zoned};
 use he_addr::{Ip, Memory, read_number};
-use std::alloc::{AllocError, Allocator};
+use std::alloc::Allocator;
 
 const OWN_SERVER: ZonedIp<'static> = ZonedIp {
     ip: Ip::V4(0x7f00_0001),
     zone: None,
 };
 
-/// The name servers of a file of resolver settings: the first three of them, or 127.0.0.1 where it has none. A line
-/// that is not understood is passed over. A server on the link has its interface as its zone.
+/// The name servers of a resolver configuration file: the first three, or 127.0.0.1 if it has none. Invalid lines are
+/// ignored. A link-local server has its interface as its zone.
 ///
 /// # Errors
 ///
-/// [`Memory`] where an allocation was refused.
+/// [`Memory`] if an allocation failed.
 pub fn read_servers<'t, A: Allocator + Copy>(
     alloc: A,
     text: &'t [u8],
@@ -47,12 +47,11 @@ pub fn read_servers<'t, A: Allocator + Copy>(
     Ok(servers)
 }
 
-/// The search list of a file of resolver settings: the last `search` or `domain` line of the file counts, and of it
-/// the first 32 domains.
+/// The search list of a resolver configuration file: the first 32 domains of the last `search` or `domain` line.
 ///
 /// # Errors
 ///
-/// [`Memory`] where an allocation was refused.
+/// [`Memory`] if an allocation failed.
 pub fn read_search<'t, A: Allocator + Copy>(
     alloc: A,
     text: &'t [u8],
@@ -64,7 +63,7 @@ pub fn read_search<'t, A: Allocator + Copy>(
     Ok(search)
 }
 
-// All of the last search list.
+// The whole of the last search list.
 fn last_search<'t, A: Allocator + Copy>(
     alloc: A,
     text: &'t [u8],
@@ -84,11 +83,12 @@ fn last_search<'t, A: Allocator + Copy>(
     Ok(search)
 }
 
-/// How many dots a name has to have to be asked for as it is first, 0 to 15; 1 where the file doesn't say it.
+/// The number of dots from which on a name is first queried as it is (`ndots`), 0 to 15; 1 if the file doesn't set
+/// it.
 ///
 /// # Errors
 ///
-/// [`Memory`] where an allocation was refused.
+/// [`Memory`] if an allocation failed.
 pub fn read_ndots<A: Allocator + Copy>(alloc: A, text: &[u8]) -> Result<u64, Memory>
     ensures { IfOk result (λ ndots. ndots ≡ option_in (codes "ndots:") 0 1 15 text.now) }
 {
@@ -96,11 +96,11 @@ pub fn read_ndots<A: Allocator + Copy>(alloc: A, text: &[u8]) -> Result<u64, Mem
     Ok(ndots.min(MOST_NDOTS))
 }
 
-/// The seconds that a server has for its answer, 1 to 30; 5 where the file doesn't say it.
+/// The time that a server has for its answer (`timeout`), in seconds, 1 to 30; 5 if the file doesn't set it.
 ///
 /// # Errors
 ///
-/// [`Memory`] where an allocation was refused.
+/// [`Memory`] if an allocation failed.
 pub fn read_timeout<A: Allocator + Copy>(alloc: A, text: &[u8]) -> Result<u64, Memory>
     ensures { IfOk result (λ seconds. seconds ≡ option_in (codes "timeout:") 1 5 30 text.now) }
 {
@@ -108,11 +108,11 @@ pub fn read_timeout<A: Allocator + Copy>(alloc: A, text: &[u8]) -> Result<u64, M
     Ok(seconds.min(MOST_TIMEOUT).max(LEAST_TIMEOUT))
 }
 
-/// How often the servers are gone through, 1 to 5; 2 where the file doesn't say it.
+/// The number of rounds through the servers (`attempts`), 1 to 5; 2 if the file doesn't set it.
 ///
 /// # Errors
 ///
-/// [`Memory`] where an allocation was refused.
+/// [`Memory`] if an allocation failed.
 pub fn read_attempts<A: Allocator + Copy>(alloc: A, text: &[u8]) -> Result<u64, Memory>
     ensures { IfOk result (λ attempts. attempts ≡ option_in (codes "attempts:") 1 2 5 text.now) }
 {
@@ -120,29 +120,29 @@ pub fn read_attempts<A: Allocator + Copy>(alloc: A, text: &[u8]) -> Result<u64, 
     Ok(attempts.min(MOST_ATTEMPTS).max(LEAST_ATTEMPTS))
 }
 
-/// Whether the servers are asked over TCP alone (`use-vc`).
+/// Whether the servers are queried over TCP only (`use-vc`).
 ///
 /// # Errors
 ///
-/// [`Memory`] where an allocation was refused.
+/// [`Memory`] if an allocation failed.
 pub fn read_use_vc<A: Allocator + Copy>(alloc: A, text: &[u8]) -> Result<bool, Memory>
     ensures { IfOk result (λ set. set ≡ has_option (codes "use-vc") text.now) }
 {
     has_option(alloc, text, b"use-vc")
 }
 
-/// Whether no name server is asked for addresses of IPv6 (`no-aaaa`).
+/// Whether name servers are not queried for IPv6 addresses (`no-aaaa`).
 ///
 /// # Errors
 ///
-/// [`Memory`] where an allocation was refused.
+/// [`Memory`] if an allocation failed.
 pub fn read_no_aaaa<A: Allocator + Copy>(alloc: A, text: &[u8]) -> Result<bool, Memory>
     ensures { IfOk result (λ set. set ≡ has_option (codes "no-aaaa") text.now) }
 {
     has_option(alloc, text, b"no-aaaa")
 }
 
-// Whether the file has the option.
+// Whether the file sets the option.
 fn has_option<A: Allocator + Copy>(alloc: A, text: &[u8], name: &[u8]) -> Result<bool, Memory>
     ensures { IfOk result (λ has. has ≡ has_option name.now text.now) }
 {
@@ -164,7 +164,7 @@ fn sets(entry: &[&[u8]], name: &[u8]) -> bool
     }
 }
 
-// The last number of the file that an option of this name has.
+// The last number that the file gives for the option.
 fn last_option<A: Allocator + Copy>(
     alloc: A,
     text: &[u8],
@@ -182,9 +182,9 @@ fn last_option<A: Allocator + Copy>(
     Ok(number)
 }
 
-// The fields of a line: none where a blank begins it.
+// The fields of a line; none if it begins with a blank.
 #[tactic(auto, unfolding(crate::specs::Conf::entry_of))]
-fn entry<A: Allocator>(alloc: A, line: &[u8]) -> Result<Vec<&[u8], A>, AllocError>
+fn entry<A: Allocator>(alloc: A, line: &[u8]) -> Result<Vec<&[u8], A>, Memory>
     ensures { IfOk result (λ entry. texts entry.items ≡ entry_of line.now) }
 {
     match line {
@@ -226,7 +226,7 @@ fn domains_of<'e, 't>(entry: &'e [&'t [u8]]) -> &'e [&'t [u8]]
     }
 }
 
-// The last number that an entry of options has for the name, or else the one before.
+// The last number that an `options` entry gives for the name, or else `before`.
 fn last_number(entry: &[&[u8]], name: &[u8], before: u64) -> u64
     ensures { result ≡ last_of before (numbers_of name.now (texts entry.now)) }
 {

@@ -1,4 +1,4 @@
-//! The settings of a resolver as the environment amends them.
+//! The resolver configuration as the environment amends it.
 
 ghost use Rattle.std.specs.Prelude.{◌≡◌, IfOk, OnOk};
 ghost use Rattle.he_names.specs.Environment.{amended, domains_or_root, first_line, with_line, with_local_domain, with_res_options};
@@ -9,20 +9,20 @@ use std::alloc::Allocator;
 
 const ROOT: &[u8] = b".";
 
-/// What the environment says of a resolver (resolver(5)): the values of its variables, where they are set.
+/// The environment variables of a resolver (resolver(5)), if set.
 #[derive(Clone, Copy, Debug, PartialEq, Eq)]
 pub struct Environment<'a> {
-    /// LOCALDOMAIN: domains that take the place of the search list.
+    /// LOCALDOMAIN: domains that replace the search list.
     pub local_domain: Option<&'a str>,
-    /// RES_OPTIONS: options that count after those of the file.
+    /// RES_OPTIONS: options that are added after those of the file.
     pub res_options: Option<&'a str>,
 }
 
-/// Appends to a file of resolver settings the lines by which the environment amends it.
+/// Appends to a resolver configuration file the lines that the environment adds.
 ///
 /// # Errors
 ///
-/// [`Memory`] where an allocation was refused.
+/// [`Memory`] if an allocation failed.
 pub fn amend<A: Allocator + Copy>(
     alloc: A,
     environment: Environment<'_>,
@@ -39,7 +39,7 @@ pub fn amend<A: Allocator + Copy>(
     Ok(())
 }
 
-// Its domains take the place of the file's search list, and the list is empty where it names none (resolver(5)).
+// LOCALDOMAIN's domains replace the file's search list; if it names none, the list is empty (resolver(5)).
 fn add_local_domain<A: Allocator + Copy>(
     alloc: A,
     domains: &[u8],
@@ -51,7 +51,7 @@ fn add_local_domain<A: Allocator + Copy>(
     add_line(b"search ", domains, settings)
 }
 
-// Its options count after those of the file (resolver(5)).
+// RES_OPTIONS's options are added after those of the file (resolver(5)).
 fn add_res_options<A: Allocator + Copy>(
     options: &[u8],
     settings: &mut Vec<u8, A>,
@@ -67,7 +67,7 @@ fn first_line(text: &[u8]) -> &[u8]
     before(text, LINE_END)
 }
 
-// The domains, or the root where there are none.
+// The domains, or the root if there are none.
 fn domains_or_root<'t, A: Allocator + Copy>(alloc: A, domains: &'t [u8]) -> Result<&'t [u8], Memory>
     ensures { IfOk result (λ given. given.now ≡ domains_or_root domains.now) }
 {

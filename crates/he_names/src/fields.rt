@@ -1,11 +1,12 @@
-// The lines of a file of the system, and their fields.
+// The lines of a system file, and their fields.
 
 ghost use Rattle.std.specs.Prelude.{◌≡◌, ◌==◌, IfOk, position};
 ghost use Rattle.std.specs.List.{list_any};
 ghost use Rattle.std.specs.Str.{bytes_eq};
 ghost use Rattle.he_names.specs.Fields.{before, fields_of, is_blank, lines_of, texts};
 
-use std::alloc::{AllocError, Allocator};
+use he_addr::Memory;
+use std::alloc::Allocator;
 
 pub(crate) const LINE_END: u8 = b'\n';
 
@@ -15,7 +16,7 @@ pub(crate) fn is_text(a: &[u8], b: &[u8]) -> bool
     a == b
 }
 
-// Whether one of the others is the text.
+// Whether one of the others equals the text.
 pub(crate) fn has_text(others: &[&[u8]], text: &[u8]) -> bool
     ensures { result ≡ list_any (bytes_eq text.now) (texts others.now) }
 {
@@ -45,15 +46,15 @@ pub(crate) fn before(text: &[u8], mark: u8) -> &[u8]
 }
 
 // The lines of a text.
-pub(crate) fn lines<A: Allocator>(alloc: A, text: &[u8]) -> Result<Vec<&[u8], A>, AllocError>
+pub(crate) fn lines<A: Allocator>(alloc: A, text: &[u8]) -> Result<Vec<&[u8], A>, Memory>
     ensures { IfOk result (λ lines. texts lines.items ≡ lines_of text.now) }
 {
     text.split(|byte| *byte == LINE_END).collect(alloc)
 }
 
-// What stands between the blanks of a line.
+// The fields of a line, separated by blanks.
 #[tactic(auto, unfolding(crate::specs::Fields::fields_of))]
-pub(crate) fn fields<A: Allocator>(alloc: A, line: &[u8]) -> Result<Vec<&[u8], A>, AllocError>
+pub(crate) fn fields<A: Allocator>(alloc: A, line: &[u8]) -> Result<Vec<&[u8], A>, Memory>
     ensures { IfOk result (λ fields. texts fields.items ≡ fields_of line.now) }
 {
     line.split(|byte| is_blank(*byte))

@@ -1,4 +1,4 @@
-//! Both answers of a name.
+//! The answers of both families for a name.
 
 ghost use Rattle.std.specs.Prelude.{◌≡◌, ◌++◌, IfOk, OnOk};
 ghost use Rattle.he_addr.specs.declared.ip.Family.TheVariants as families;
@@ -9,8 +9,8 @@ use he_addr::{Family, Ip, Memory};
 use std::alloc::{Allocator, Global};
 use std::marker::Model;
 
-/// The addresses of a name that has at least one: of each family those that it has, none of them twice and at most
-/// 256, and the tick at which they came.
+/// The addresses of a name, at least one: for each family its addresses, each once and at most 256, and the tick at
+/// which they came.
 #[derive(Drop)]
 pub struct Found<A: Allocator = Global> {
     v6_tick: u64,
@@ -30,11 +30,11 @@ impl<A: Allocator> Model for Found<A> {
 }
 
 impl<A: Allocator + Copy> Found<A> {
-    /// The answers that came at these ticks, each cleaned; None where neither family has an address.
+    /// The answers that came at these ticks, each cleaned; None if neither family has an address.
     ///
     /// # Errors
     ///
-    /// [`Memory`] where an allocation was refused.
+    /// [`Memory`] if an allocation failed.
     pub fn new(
         alloc: A,
         v6_tick: u64,
@@ -66,7 +66,7 @@ impl<A: Allocator + Copy> Found<A> {
     ///
     /// # Errors
     ///
-    /// [`Memory`] where an allocation was refused; a part may have been appended.
+    /// [`Memory`] if an allocation failed; a part may have been appended.
     pub fn write(&self, out: &mut Vec<u8, A>) -> Result<(), Memory>
         ensures text { OnOk result (out.new.items ≡ out.old.items ++ answers_text self.now) }
         ensures found { IsFound self.now }

@@ -1,4 +1,4 @@
-//! The file of hosts.
+//! The hosts file.
 
 ghost use Rattle.std.specs.Prelude.{◌≡◌, IfOk};
 ghost use Rattle.std.specs.List.{list_any};
@@ -12,13 +12,13 @@ use std::alloc::Allocator;
 
 const COMMENT: u8 = b'#';
 
-/// The addresses of both families that a file of hosts has for a name, line by line (hosts(5)): an address stands
-/// first on its line, then the names that it has, and a number sign begins a comment. Names are compared without case.
-/// A line that is none is passed over, and so is an address with a zone.
+/// The addresses of both families that a hosts file has for a name, line by line (hosts(5)): a line has an address
+/// and then its names, and a number sign begins a comment. Names are compared case-insensitively. Invalid lines are
+/// ignored, and so are addresses with a zone.
 ///
 /// # Errors
 ///
-/// [`Memory`] where an allocation was refused.
+/// [`Memory`] if an allocation failed.
 pub fn read_hosts<A: Allocator + Copy>(
     alloc: A,
     text: &[u8],

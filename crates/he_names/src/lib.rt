@@ -1,18 +1,18 @@
-//! What the files of the system say of names, without sockets: addresses of the file of hosts (hosts(5)), and the
-//! settings of a resolver (resolver(5)); which names are asked for a host; and the answers as lines of a timeline.
+//! Names by the files of the system, without sockets: addresses of the hosts file (hosts(5)), and the resolver
+//! configuration (resolver(5)); which names are queried for a host; and the answers as lines of a timeline.
 //!
 //! Proved, for all bytes:
 //!
-//! - [`read_hosts`]: the addresses that a file of hosts has for a name (`specs/Hosts`).
+//! - [`read_hosts`]: the addresses that a hosts file has for a name (`specs/Hosts`).
 //! - [`read_servers`], [`read_search`], [`read_ndots`], [`read_timeout`], [`read_attempts`], [`read_use_vc`],
-//! [`read_no_aaaa`]: the servers, the search list and the options of a file of settings, with their defaults and
-//! bounds (`specs/Conf`).
-//! - [`amend`]: the lines by which the environment amends it (`specs/Environment`).
-//! - [`names_to_ask`]: which names are asked for a host, and in which order (`specs/Order`).
-//! - [`clean_of`]: a family's addresses, none of them twice, at most 256; [`Found`]: both families' answers, of which
-//! one has an address, and the two lines of a timeline that state them (`specs/Answers`).
+//!   [`read_no_aaaa`]: the servers, the search list and the options of a configuration file, with their defaults and
+//!   bounds (`specs/Conf`).
+//! - [`amend`]: the lines that the environment adds to it (`specs/Environment`).
+//! - [`names_to_ask`]: which names are queried for a host, and in which order (`specs/Order`).
+//! - [`clean_of`]: a family's addresses, each once, at most 256; [`Found`]: both families' answers, with at least one
+//!   address, and the two lines of a timeline that state them (`specs/Answers`).
 //!
-//! Only tested: that a call succeeds where memory is granted.
+//! Only tested: that a call succeeds if memory is available.
 #![tactic(auto)]
 
 pub mod answers;

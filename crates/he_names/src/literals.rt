@@ -1,4 +1,4 @@
-//! Addresses as people write them for a host.
+//! Addresses as a user writes them for a host.
 
 ghost use Rattle.std.specs.Prelude.{◌≡◌};
 ghost use Rattle.std.specs.List.{list_any};
@@ -18,7 +18,7 @@ const ZONE_MARK: u8 = b'%';
 
 const DELETE: u8 = 0x7f;
 
-// The bits after the first ten of an address, and those ten of fe80::/10.
+// The number of bits after the first ten of an address, and those ten of fe80::/10.
 const AFTER_TEN: u32 = 118;
 
 const ON_LINK: u128 = 0xfe80 >> 6;
@@ -28,15 +28,15 @@ const MAPPED: u128 = 0xffff;
 
 const MAPPED_FIRST: u128 = 0xffff_0000_0000;
 
-/// An address, and its zone where it has one: the name or the number of an interface (RFC 4007 section 11).
+/// An address with its zone, if it has one: the name or the number of an interface (RFC 4007 section 11).
 #[derive(Clone, Copy)]
 pub struct ZonedIp<'t> {
     pub ip: Ip,
     pub zone: Option<&'t [u8]>,
 }
 
-/// The address that a text spells: one of either family, or one of IPv6 with a zone after a percent sign; one of IPv6
-/// also in brackets. None for every other text.
+/// Reads an address: one of either family, or an IPv6 one with a zone after a percent sign; an IPv6 one also in
+/// brackets. None for every other text.
 #[tactic(auto, unfolding(crate::specs::Literals::literal_in))]
 pub fn read_literal(text: &[u8]) -> Option<ZonedIp<'_>>
     ensures { option_map zoned_of result ≡ literal_in text.now }
@@ -78,7 +78,7 @@ fn is_bracketed(text: &[u8]) -> bool
     text.len() >= 2 && text[0] == OPEN && text[text.len() - 1] == CLOSE
 }
 
-// What stands before the first mark, and what stands after it.
+// The text before the first mark, and the text after it.
 #[tactic(auto, unfolding(he_addr::specs::Reading::cut_in))]
 pub(crate) fn cut(text: &[u8], mark: u8) -> Option<(&[u8], &[u8])>
     ensures { option_map (λ parts. (parts.0.now, parts.1.now)) result ≡ cut_in mark text.now }
@@ -87,7 +87,7 @@ pub(crate) fn cut(text: &[u8], mark: u8) -> Option<(&[u8], &[u8])>
     Some((&text[..at], &text[at + 1..]))
 }
 
-// Whether the address lies in fe80::/10.
+// Whether the address is in fe80::/10.
 pub(crate) fn is_on_link(ip: Ip) -> bool
     ensures { result ≡ is_on_link ip }
 {
@@ -97,7 +97,7 @@ pub(crate) fn is_on_link(ip: Ip) -> bool
     }
 }
 
-// An address in ::ffff:0:0/96 as the IPv4 address that it stands for.
+// The IPv4 address of an IPv4-mapped one; any other address unchanged.
 pub(crate) fn unmapped(ip: Ip) -> Ip
     ensures { result ≡ unmapped ip }
 {
@@ -119,7 +119,7 @@ fn has_no_interface_byte(zone: &[u8]) -> bool
     zone.iter().any(|byte| is_no_interface_byte(*byte))
 }
 
-// Whether it may name an interface.
+// Whether the zone may name an interface.
 pub(crate) fn is_interface(zone: &[u8]) -> bool
     ensures { result ≡ is_interface zone.now }
 {

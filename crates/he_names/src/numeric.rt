@@ -1,4 +1,4 @@
-//! Numbers that older software takes for an IPv4 address (inet_aton(3)).
+//! Numbers that older software reads as an IPv4 address (inet_aton(3)).
 
 ghost use Rattle.std.specs.Prelude.{◌≡◌, ◌<◌, ◌≤◌, ◌==◌, [], IfOk, IfSome};
 ghost use Rattle.std.specs.Char.{is_ascii_digit, is_ascii_hexdigit};
@@ -7,7 +7,8 @@ ghost use Rattle.he_names.specs.Conf.{last_of};
 ghost use Rattle.he_names.specs.Fields.{texts};
 ghost use Rattle.he_names.specs.Numeric.{address_of, body_of, digits_after, ends_in_number, is_hexadecimal, is_number, labels_of, numeric_address, part_below, part_in};
 
-use std::alloc::{AllocError, Allocator};
+use he_addr::Memory;
+use std::alloc::Allocator;
 
 const DOT: u8 = b'.';
 
@@ -19,7 +20,7 @@ const DECIMAL: u32 = 10;
 
 const HEXADECIMAL: u32 = 16;
 
-// The name without the dot that may end it.
+// The name without a final dot.
 pub(crate) fn body_of(name: &[u8]) -> &[u8]
     ensures { result.now ≡ body_of name.now }
 {
@@ -31,14 +32,14 @@ pub(crate) fn body_of(name: &[u8]) -> &[u8]
 }
 
 // The labels of a name.
-pub(crate) fn labels<A: Allocator>(alloc: A, name: &[u8]) -> Result<Vec<&[u8], A>, AllocError>
+pub(crate) fn labels<A: Allocator>(alloc: A, name: &[u8]) -> Result<Vec<&[u8], A>, Memory>
     ensures { IfOk result (λ labels. texts labels.items ≡ labels_of name.now) }
 {
     parts(alloc, body_of(name))
 }
 
-// What stands between the dots of a text.
-fn parts<A: Allocator>(alloc: A, text: &[u8]) -> Result<Vec<&[u8], A>, AllocError>
+// The parts of a text between its dots.
+fn parts<A: Allocator>(alloc: A, text: &[u8]) -> Result<Vec<&[u8], A>, Memory>
     ensures { IfOk result (λ parts. texts parts.items ≡ slice_split (λ byte. byte == 46) text.now) }
 {
     text.split(|byte| *byte == DOT).collect(alloc)
@@ -79,7 +80,7 @@ fn is_hexadecimal(part: &[u8]) -> bool
     part.len() >= 2 && part[0] == b'0' && part[1] == b'x'
 }
 
-// The number that digits write; None where one is none, or where it is too large.
+// The number that the digits write; None if a byte is no digit of the radix, or if the number doesn't fit in 32 bits.
 fn number_of(digits: &[u8], radix: u32) -> Option<u32>
     requires least { 2 ≤ radix }
     requires most { radix ≤ 16 }

@@ -1,4 +1,4 @@
-//! The names that are asked for a host.
+//! The names that are queried for a host.
 
 ghost use Rattle.std.specs.Prelude.{◌≡◌, ◌++◌, [], ◌∷◌, IfOk, OnOk, filter, if◌then◌else◌, map, not};
 ghost use Rattle.std.specs.List.{list_any};
@@ -10,13 +10,13 @@ use std::alloc::Allocator;
 
 const DOT: u8 = b'.';
 
-/// The names that are asked for a host, in their order (resolver(5)): one that a dot ends as it is alone; any other
-/// also in each domain of the search list, before that where it has at least so many dots, else after it. A dot that
-/// begins a domain is dropped, and in the domain `.` the name is asked for as it is.
+/// The names to query for a host, in order (resolver(5)). A host that ends in a dot is queried only as it is; any
+/// other host also in each domain of the search list: after itself if it has at least `ndots` dots, otherwise before
+/// itself. A dot that begins a domain is dropped, and in the domain `.` the host is queried as it is.
 ///
 /// # Errors
 ///
-/// [`Memory`] where an allocation was refused.
+/// [`Memory`] if an allocation failed.
 pub fn names_to_ask<A: Allocator + Copy>(
     alloc: A,
     host: &[u8],
@@ -61,7 +61,7 @@ fn push_host<A: Allocator + Copy>(
     Ok(())
 }
 
-// The host as it is, unless the root is on the search list.
+// The host as it is, unless the search list has the root.
 fn push_last<A: Allocator + Copy>(
     alloc: A,
     host: &[u8],
@@ -78,7 +78,7 @@ fn push_last<A: Allocator + Copy>(
     push_host(alloc, host, names)
 }
 
-// The host in each domain but the root.
+// The host in each domain except the root.
 fn push_below<A: Allocator + Copy>(
     alloc: A,
     host: &[u8],

@@ -1,4 +1,4 @@
-//! Ports, by number or by the name of a service.
+//! Ports, by number or by service name.
 
 ghost use Rattle.std.specs.Prelude.{◌≡◌, ◌==◌, IfErr, IfOk, not, position};
 ghost use Rattle.he_names.specs.Fields.{texts};
@@ -10,8 +10,8 @@ use crate::hosts::without_comment;
 use crate::limits::{LEAST_PORT, MOST_PORT};
 use crate::literals::cut;
 use crate::numeric::are_digits;
-use he_addr::read_number;
-use std::alloc::{AllocError, AllocFailed, Allocator};
+use he_addr::{Memory, read_number};
+use std::alloc::{AllocFailed, Allocator};
 use thiserror::Error;
 
 const SLASH: u8 = b'/';
@@ -21,31 +21,32 @@ const PLUS: u8 = b'+';
 /// Why a text names no port.
 #[derive(Clone, Copy, Debug, PartialEq, Eq, Error)]
 pub enum PortFault {
-    /// A number that is no port.
+    /// A number that is not a port.
     #[error("a port is a number from 1 to 65535")]
     Range,
-    /// The file of services has no such service over TCP.
+    /// The services file has no such service over TCP.
     #[error("no such service in /etc/services: write the port's number")]
     Unknown,
-    /// An allocation was refused.
+    /// An allocation failed.
     #[error("out of memory")]
     Memory,
 }
 
-impl From<AllocError> for PortFault {
+impl From<Memory> for PortFault {
     ghost from_gives = { λ _ fault. fault ≡ faults.Memory };
 
-    fn from(_refused: AllocError) -> PortFault {
+    fn from(_refused: Memory) -> PortFault {
         PortFault::Memory
     }
 }
 
-/// The port that a text names: a number from 1 to 65535, as strtoul(3) reads it, or a service over TCP of a file of
-/// services (services(5)), by its name or another name of it; of several lines the first counts.
+/// Reads a port: a number from 1 to 65535, as strtoul(3) reads it, or a service over TCP of a services file
+/// (services(5)), by its name or an alias. Of several lines the first one decides.
 ///
 /// # Errors
 ///
-/// `Range` where the text is a number and no port; `Unknown` where no line has the service; `Memory`.
+/// `Range` if the text is a number but not a port; `Unknown` if no line has the service; `Memory` if an allocation
+/// failed.
 pub fn read_port<A: Allocator + Copy>(
     alloc: A,
     services: &[u8],
@@ -126,7 +127,7 @@ fn ports_of<A: Allocator + Copy>(
     alloc: A,
     services: &[u8],
     service: &[u8],
-) -> Result<Vec<u16, A>, AllocError>
+) -> Result<Vec<u16, A>, Memory>
     ensures { IfOk result (λ ports. ports.items ≡ ports_of service.now services.now) }
 {
     let lines = lines(alloc, services)?;
@@ -139,13 +140,13 @@ fn ports_of<A: Allocator + Copy>(
     Ok(ports)
 }
 
-// The port that a line gives to the service.
+// The port that a line gives the service.
 #[tactic(auto, unfolding(crate::specs::Ports::line_port))]
 fn line_port<A: Allocator + Copy>(
     alloc: A,
     line: &[u8],
     service: &[u8],
-) -> Result<Option<u16>, AllocError>
+) -> Result<Option<u16>, Memory>
     ensures { IfOk result (λ port. port ≡ line_port service.now line.now) }
 {
     let fields = fields(alloc, without_comment(line))?;

@@ -1,4 +1,4 @@
-//! Domain names of special use.
+//! Special-use domain names.
 
 ghost use Rattle.std.specs.Prelude.{◌≡◌, [], IfOk, codes};
 ghost use Rattle.std.specs.List.{list_any};
@@ -20,13 +20,13 @@ const LOCALHOST: &[u8] = b"localhost";
 
 const LOCAL: &[u8] = b"local";
 
-/// A domain name that no name server is asked for, by the domain that it is or lies in.
+/// A domain name for which no name server is queried, by its domain.
 #[derive(Clone, Copy, Debug, PartialEq, Eq, Error)]
 pub enum SpecialUse {
-    /// `localhost`: this machine (RFC 6761 section 6.3).
+    /// `localhost`, and names in it: this machine (RFC 6761 section 6.3).
     #[error("names in .localhost are of this machine")]
     Localhost,
-    /// `local`, or one label in it: a name on the link, which multicast DNS finds (RFC 6762 section 3).
+    /// `local`, or one label in it: a name on the link, which multicast DNS resolves (RFC 6762 section 3).
     #[error("names in .local are not asked of name servers: try --resolver system")]
     Local,
     /// `onion`: services of Tor (RFC 7686).
@@ -37,7 +37,7 @@ pub enum SpecialUse {
     Invalid,
 }
 
-// The special use of a name in small letters.
+// The special use of a name in lower case.
 #[tactic(auto, unfolding(crate::specs::Special::special_use))]
 pub(crate) fn special_use(name: &[u8]) -> Option<SpecialUse>
     ensures { result ≡ special_use name.now }
@@ -56,7 +56,7 @@ pub(crate) fn special_use(name: &[u8]) -> Option<SpecialUse>
     }
 }
 
-// Whether a name in small letters is `localhost` itself; a dot may end it.
+// Whether a name in lower case is `localhost` itself, with or without a final dot.
 pub(crate) fn is_localhost(name: &[u8]) -> bool
     ensures { result ≡ is_localhost name.now }
 {
@@ -69,12 +69,12 @@ fn is_multicast(name: &[u8]) -> bool
     is_within(name, LOCAL) && dots(name) <= 1
 }
 
-/// Whether a domain of the search list is `local` or lies in it: then the name servers know names with one label in
+/// Whether a domain of the search list is `local` or in it: then the name servers know names with one label in
 /// `local` too.
 ///
 /// # Errors
 ///
-/// [`Memory`] where an allocation was refused.
+/// [`Memory`] if an allocation failed.
 pub fn serves_local<A: Allocator + Copy>(alloc: A, search: &[&[u8]]) -> Result<bool, Memory>
     ensures { IfOk result (λ serves. serves ≡ list_any is_of_local (texts search.now)) }
 {

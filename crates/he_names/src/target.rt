@@ -1,4 +1,4 @@
-//! What a person writes for a host.
+//! The host that a user writes.
 
 ghost use Rattle.std.specs.Prelude.{◌≡◌, IfErr, IfOk, OnOk, false, string_bytes};
 ghost use Rattle.he_names.specs.Literals.{zoned_of};
@@ -9,50 +9,50 @@ ghost use Rattle.he_names.specs.declared.target.HostFault.TheVariants as faults;
 use crate::literals::{ZonedIp, is_interface, is_on_link, read_literal, unmapped};
 use crate::numeric::{address_of, ends_in_number, labels};
 use crate::special::{SpecialUse, is_localhost, special_use};
-use he_addr::Ip;
+use he_addr::{Ip, Memory};
 use idna::{AsciiDenyList, Errors, domain_to_ascii_cow};
-use std::alloc::{AllocError, Global};
+use std::alloc::Global;
 use std::fmt;
 use std::net::{Ipv4Addr, Ipv6Addr};
 
-/// What a text names that a person writes for a host.
+/// The host that a text names.
 #[derive(Drop)]
 pub enum Target {
     /// An address that needs no interface.
     Address(Ip),
-    /// A link-local address of IPv6 (RFC 4291 section 2.5.6), and the name or the number of its interface.
+    /// A link-local IPv6 address (RFC 4291 section 2.5.6), and the name or the number of its interface.
     OnLink(Ip, Vec<u8>),
     /// This machine: `localhost` (RFC 6761 section 6.3).
     Loopback,
-    /// A name in `localhost`, in ASCII and in small letters: this machine, unless the file of hosts has it. No name
-    /// server is asked (RFC 6761 section 6.3).
+    /// A name in `localhost`, in ASCII and in lower case: this machine, unless the hosts file has it. No name server
+    /// is queried (RFC 6761 section 6.3).
     InLoopback(String),
-    /// `local` or a name with one label in it, which multicast DNS finds (RFC 6762): the system's resolver may know
-    /// it, and a name server only where the search list has a domain in `local`
+    /// `local` or a name with one label in it, which multicast DNS resolves (RFC 6762): the system's resolver may
+    /// know it, and a name server only if the search list has a domain in `local`
     /// ([`serves_local`](crate::serves_local)).
     Multicast(String),
-    /// Any other name, in ASCII and in small letters (UTS 46).
+    /// Any other name, in ASCII and in lower case (UTS 46).
     Name(String),
 }
 
 /// Why a text names no host.
 #[derive(Clone, Copy, Debug, PartialEq, Eq)]
 pub enum HostFault {
-    /// A link-local address of IPv6 without its interface.
+    /// A link-local IPv6 address without its interface.
     NoInterface(Ip),
-    /// What stands after the percent sign names no interface.
+    /// The text after the percent sign names no interface.
     Interface,
-    /// An interface stands with an address that isn't link-local.
+    /// An interface with an address that isn't link-local.
     Zone(Ip),
     /// The first byte that no host name has.
     Sign(u8),
-    /// A name beyond ASCII that has no form in ASCII (UTS 46 section 4.2).
+    /// A non-ASCII name that has no ASCII form (UTS 46 section 4.2).
     NoAsciiForm,
-    /// A name that ends in a number, and the IPv4 address for which older software takes it.
+    /// A name that ends in a number, and the IPv4 address that older software reads it as.
     Numeric(Option<Ip>),
-    /// A name that is not to be asked for: in `onion` or `invalid`.
+    /// A name that must not be queried: in `onion` or `invalid`.
     Special(SpecialUse),
-    /// An allocation was refused.
+    /// An allocation failed.
     Memory,
 }
 
@@ -92,7 +92,7 @@ impl fmt::Display for HostFault {
 
 impl std::error::Error for HostFault {}
 
-// An address as std writes it.
+// An address as std prints it.
 #[derive(Clone, Copy)]
 struct Shown(Ip);
 
@@ -105,20 +105,20 @@ impl fmt::Display for Shown {
     }
 }
 
-impl From<AllocError> for HostFault {
+impl From<Memory> for HostFault {
     ghost from_gives = { λ _ fault. fault ≡ faults.Memory };
 
-    fn from(_refused: AllocError) -> HostFault {
+    fn from(_refused: Memory) -> HostFault {
         HostFault::Memory
     }
 }
 
-/// What the text names: an address, this machine, or a name to be asked for. An IPv6 address may stand in brackets,
-/// and one in `::ffff:0:0/96` is the IPv4 address that it stands for. A name beyond ASCII is given in ASCII (UTS 46).
+/// Reads a host: an address, this machine, or a name to query. An IPv6 address may be in brackets, and an IPv4-mapped
+/// one (`::ffff:0:0/96`) is read as its IPv4 address. A non-ASCII name is returned in its ASCII form (UTS 46).
 ///
 /// # Errors
 ///
-/// [`HostFault`], each of which says by its `Display` what to write in place of the text.
+/// [`HostFault`]; its `Display` states what to write in place of the text.
 pub fn read_host(alloc: Global, text: &str) -> Result<Target, HostFault>
     ensures target { IfOk result (Means text.now) }
     ensures fault { IfErr result (IsUnfit text.now) }
@@ -164,7 +164,7 @@ fn target_named(alloc: Global, name: String) -> Result<Target, HostFault>
     Ok(Target::Name(name))
 }
 
-// What a name in `localhost` names.
+// The target of a name in `localhost`.
 fn target_here(name: String) -> Target
     ensures { MeansHere (string_bytes name) result }
 {

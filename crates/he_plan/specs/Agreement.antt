@@ -1,20 +1,20 @@
--- What two races have in common: a script and its record, or a race before and after something was added to it.
+-- The common parts of two races: a script and its record, or a race before and after an addition.
 use Rattle.std.specs.Prelude.{ℕ, ◌≡◌, ◌<◌, ◌↔◌, List, [], ◌∷◌}
 use Rattle.he_plan.specs.declared.attempts.Attempt.{Attempt}
 use Rattle.he_timeline.specs.Seen.{IsFree}
 use Rattle.he_plan.specs.Attempts.{has_failed}
 use Rattle.he_timeline.specs.Race.{Race}
 
--- the second race differs from the first in its outcomes and pauses alone
+-- the second race differs from the first only in its outcomes and pauses
 abbrev pub AreAlike : Race → Race → Type 0
 AreAlike x y = y ≡ record x { outcomes = y.outcomes; pauses = y.pauses }
 
--- and below the tick the client may act at the same ticks
+-- and below the tick the client may act at the same ticks in both
 pub record AgreeBelow (tick : ℕ) (x y : Race) : Type 0 where
   pub alike : AreAlike x y
   pub free : (t : ℕ) → t < tick → IsFree x t ↔ IsFree y t
 
--- and below the tick each of these attempts has failed in both or in neither
+-- below the tick each of these attempts has failed in both races or in neither
 abbrev pub FailAlike : ℕ → Race → Race → List Attempt → Type 0
 FailAlike tick x y [] = Unit {0}
 FailAlike tick x y (z ∷ attempts) =

@@ -1,19 +1,19 @@
--- Mirrors the code: the interlaced list as it is made, which is the one of `Interlacing` by the law
--- `interlaced_by_keys`.
+-- Mirrors the code: the interlaced list as the code makes it. The law `interlaced_by_keys` shows that it is the list
+-- of `Interlacing`.
 use Rattle.std.specs.Prelude.{ℕ, ◌++◌, not, List, [], ◌∷◌, filter, take, drop}
 use Rattle.he_addr.specs.declared.ip.Family.{Family}
 use Rattle.he_addr.specs.declared.ip.Ip.{Ip}
 use Rattle.he_addr.specs.Ip.{family_of}
 use Rattle.he_timeline.specs.Timeline.{is_of}
 
--- one of each in turn; when one has run out, the rest of the other follows
+-- one of each in turn; when one list runs out, the rest of the other follows
 abbrev pub alternate : {X : Type 0} → List X → List X → List X
 alternate [] ys = ys
 alternate (x ∷ xs) [] = x ∷ xs
 alternate (x ∷ xs) (y ∷ ys) = x ∷ y ∷ alternate xs ys
 
--- the leading family's first `count` members come first; from there the families alternate, the other one next, each
--- in the order of the list
+-- the leading family's first `count` members come first; then the families alternate, the other one next, each in the
+-- order of the list
 abbrev pub interlace_by : Family → List Ip → ℕ → List Ip
 interlace_by family ips count =
     take count (filter (is_of family) ips)

@@ -1,4 +1,4 @@
--- Which attempts a race makes, and when (RFC 8305 sections 3 to 5): its plan, in which no success stops it.
+-- The attempts that a race makes, and when (RFC 8305 sections 3 to 5): its plan, in which no success stops it.
 use Rattle.std.specs.Prelude.{ℕ, ◌≡◌, ◌+◌, ◌-◌, ◌<◌, ◌≤◌, ◌⊎◌, ◌++◌, Bool, false, not, if◌then◌else◌, List, [], length, filter, find, take, Option, Some, None, MatchOption, IsSomeAnd, slice_get, IsTrue, nat_le}
 use Rattle.std.specs.List.{list_all, list_any}
 use Rattle.he_addr.specs.declared.ip.Ip.{Ip}
@@ -32,7 +32,7 @@ abbrev pub IsDelayOver : Race → ℕ → Type 0
 IsDelayOver race t = IsSomeAnd race.a (λ r. seen race (r.tick + race.settings.resolution) ≤ t)
 
 -- the race may begin (RFC 8305 section 3): at once on a positive AAAA answer; on a positive A answer once the AAAA
--- answer, positive or not, is there or the Resolution Delay is over
+-- answer, positive or not, has come or the Resolution Delay is over
 abbrev pub MayBegin : Race → ℕ → Type 0
 MayBegin race t =
     IsFree race t
@@ -42,7 +42,7 @@ MayBegin race t =
 abbrev pub order : Race → List Ip → List Ip
 order race ips = order_of (race_input race) ips
 
--- the list from which an attempt at t takes its address: of all received addresses, tried ones included
+-- the list from which an attempt at t takes its address: all received addresses, including those already tried
 abbrev pub order_at : Race → ℕ → List Ip
 order_at race t = interlace (order race (received race t)) race.settings.count
 
@@ -59,7 +59,7 @@ last_of done = slice_get done (length done - 1)
 abbrev pub finish_of : Race → ℕ → ℕ → ℕ
 finish_of race start duration = seen race (start + duration)
 
--- the attempt has failed by t: its address's outcome is a failure, and its finish is at most t
+-- the attempt has failed by t: its address's outcome is a failure, and it finishes at or before t
 abbrev pub has_failed_by : Race → ℕ → ℕ → Option Outcome → Bool
 has_failed_by race t start None = false
 has_failed_by race t start (Some (outcomes.Ok duration)) = false
@@ -68,28 +68,28 @@ has_failed_by race t start (Some (outcomes.Fail duration)) = nat_le (finish_of r
 abbrev pub has_failed : Race → ℕ → Attempt → Bool
 has_failed race t x = has_failed_by race t x.tick (outcome_of race x.ip)
 
--- every attempt so far has failed by t; one that succeeds never has
+-- every attempt so far has failed by t; one that succeeds never fails
 abbrev pub HaveFailed : Race → List Attempt → ℕ → Type 0
 HaveFailed race done t = IsTrue (list_all (has_failed race t) done)
 
--- the last attempt was waited for (RFC 8305 section 5): the Connection Attempt Delay has passed since its start; or a
--- floor is given and has passed since, and every attempt so far has failed (own)
+-- the wait after the last attempt is over (RFC 8305 section 5): the Connection Attempt Delay has passed since its
+-- start; or there is a floor, which has passed since, and every attempt so far has failed (own)
 abbrev pub HasWaited : Race → List Attempt → ℕ → Attempt → Type 0
 HasWaited race done t last =
     (last.tick + race.settings.attempt ≤ t)
     ⊎ IsSomeAnd race.settings.floor (λ floor. (last.tick + floor ≤ t) × HaveFailed race done t)
 
--- an attempt may start after the last one: that was waited for, and a received address is untried
+-- an attempt may start after the last one: the wait for that one is over, and a received address is untried
 pub record MayFollow (race : Race) (done : List Attempt) (t : ℕ) (last : Attempt) : Type 0 where
   pub free : IsFree race t
   pub waited : HasWaited race done t last
   pub some : IsTrue (list_any (is_untried done) (received race t))
 
--- an attempt may start at t, where these attempts were made
+-- an attempt may start at t, after these attempts
 abbrev pub MayStart : Race → List Attempt → ℕ → Type 0
 MayStart race done t = (t < race.settings.limit) × MatchOption (last_of done) (MayBegin race t) (MayFollow race done t)
 
--- the attempt that comes after these: at the least tick at which one may start, at the first untried address
+-- the attempt that comes after these: at the least tick at which one may start, to the first untried address
 pub record IsNext (race : Race) (done : List Attempt) (next : Attempt) : Type 0 where
   pub place : next.place ≡ length done
   pub tick : IsLeast (MayStart race done) next.tick
@@ -100,7 +100,7 @@ abbrev pub AreNextInTurn : Race → List Attempt → Type 0
 AreNextInTurn race attempts =
     (n : ℕ) (next : Attempt) → slice_get attempts n ≡ Some next → IsNext race (take n attempts) next
 
--- the attempts of the race, in order: and none may start after them
+-- the attempts of the race, in order; none may start after them
 pub record AreAttempts (race : Race) (attempts : List Attempt) : Type 0 where
   pub in_turn : AreNextInTurn race attempts
   pub no_more : (t : ℕ) → ¬ MayStart race attempts t

@@ -1,4 +1,4 @@
--- Mirrors the code: a race's attempts one after the other, as the loop of `plan` makes them.
+-- Mirrors the code: a race's attempts one by one, as the loop of `plan` makes them.
 use Rattle.std.specs.Prelude.{ℕ, ◌++◌, List, [], ◌∷◌}
 use Rattle.he_plan.specs.declared.attempts.Attempt.{Attempt}
 use Rattle.he_plan.specs.Attempts.{IsNext, MayStart}
@@ -9,7 +9,7 @@ abbrev pub Follow : Race → List Attempt → List Attempt → Type 0
 Follow race done [] = Unit {0}
 Follow race done (next ∷ more) = IsNext race done next × Follow race (done ++ next ∷ []) more
 
--- and none follows the last
+-- and no attempt follows the last
 abbrev pub Continues : Race → List Attempt → List Attempt → Type 0
 Continues race done [] = (t : ℕ) → ¬ MayStart race done t
 Continues race done (next ∷ more) = IsNext race done next × Continues race (done ++ next ∷ []) more

@@ -1,5 +1,5 @@
--- The due tick of a race that is being run: the least tick at which something is to be done after its last turn,
--- pauses not looked at (RFC 8305 sections 3 and 5).
+-- The due tick of a running race: the least tick at which there is something to do after its last turn, if pauses are
+-- left aside (RFC 8305 sections 3 and 5).
 use Rattle.std.specs.Prelude.{ℕ, ◌≡◌, ◌+◌, ◌<◌, ◌≤◌, ◌⊎◌, ◌&&◌, if◌then◌else◌, List, [], Option, Some, None, IfSome, IsSomeAnd, IsTrue}
 use Rattle.std.specs.List.{list_all, list_any}
 use Rattle.std.specs.Option.{option_map_or}
@@ -9,7 +9,7 @@ use Rattle.he_plan.specs.Attempts.{HaveFailed, MayStart, has_failed, is_untried,
 use Rattle.he_timeline.specs.Seen.{IsFree, IsLeast}
 use Rattle.he_timeline.specs.Race.{Race, Reply}
 
--- the answer was taken by the last turn; none was before the first one
+-- the last turn took the answer; before the first turn none is taken
 abbrev pub IsTaken : Option ℕ → Reply → Type 0
 IsTaken turn reply = IsSomeAnd turn (λ tick. reply.tick ≤ tick)
 
@@ -17,21 +17,20 @@ IsTaken turn reply = IsSomeAnd turn (λ tick. reply.tick ≤ tick)
 abbrev pub IsAnswerDue : Option ℕ → Option Reply → ℕ → Type 0
 IsAnswerDue turn reply t = IsSomeAnd reply (λ r. ¬ IsTaken turn r × (r.tick ≡ t))
 
--- the end of the Resolution Delay is due where a positive A answer was taken, no AAAA answer was and no attempt was
--- made
+-- the end of the Resolution Delay is due if a positive A answer was taken, no AAAA answer was and no attempt was made
 pub record IsDelayDue (race : Race) (turn : Option ℕ) (done : List Attempt) (t : ℕ) : Type 0 where
   pub none : done ≡ []
   pub aaaa : ¬ IsSomeAnd race.aaaa (IsTaken turn)
   pub a : IsSomeAnd race.a
       (λ r. IsTrue (list_any is_usable r.addresses) × IsTaken turn r × (r.tick + race.settings.resolution ≡ t))
 
--- an address of the answer, which was taken, is untried
+-- the answer was taken, and one of its addresses is untried
 abbrev pub IsWaiting : Option ℕ → List Attempt → Option Reply → Type 0
 IsWaiting turn done reply =
     IsSomeAnd reply (λ r. IsTaken turn r × IsTrue (list_any (λ ip. is_usable ip && is_untried done ip) r.addresses))
 
--- the delay after the last start: the floor, where it is given and every attempt made has failed by the last turn;
--- else the Connection Attempt Delay
+-- the delay after the last start: the floor, if there is one and every attempt has failed by the last turn; otherwise
+-- the Connection Attempt Delay
 abbrev pub start_delay : Race → Option ℕ → List Attempt → ℕ
 start_delay race None done = race.settings.attempt
 start_delay race (Some turn) done =
@@ -39,7 +38,7 @@ start_delay race (Some turn) done =
     then option_map_or (λ floor. floor) race.settings.floor race.settings.attempt
     else race.settings.attempt
 
--- a start is due when that delay is over, where an address is untried
+-- a start is due when that delay is over, if an address is untried
 pub record IsStartDue (race : Race) (turn : Option ℕ) (done : List Attempt) (t : ℕ) : Type 0 where
   pub delay : IsSomeAnd (last_of done) (λ last. last.tick + start_delay race turn done ≡ t)
   pub some : IsWaiting turn done race.aaaa ⊎ IsWaiting turn done race.a
@@ -53,7 +52,8 @@ IsDue race turn done t =
 abbrev pub IsDueTick : Race → Option ℕ → List Attempt → ℕ → Type 0
 IsDueTick race turn done = IsLeast (IsDue race turn done)
 
--- the last turn was at a free tick below the limit, and left no attempt to start there; if all attempts fail, they had
+-- the last turn was at a free tick below the limit, and left no attempt to start there; if all attempts fail, they
+-- had failed by then
 abbrev pub IsAfterTurn : Race → Option ℕ → List Attempt → Type 0
 IsAfterTurn race turn done =
     IfSome turn

@@ -1,5 +1,5 @@
--- Mirrors the code: what is kept of a race under way, which makes its attempts one after the other: those that were
--- made, what becomes of each, how many failed and when the last one did, and what is left to try.
+-- Mirrors the code: the state of a race under way, which makes its attempts one by one: the attempts made, the fate
+-- of each, the number of failures and the latest one, and the untried addresses.
 use Rattle.std.specs.Prelude.{ℕ, ◌≡◌, ◌+◌, ◌≤◌, ◌<◌, ◌⊎◌, ◌++◌, Bool, false, List, [], ◌∷◌, filter, find, length, map, max, slice_get, Option, Some, None, IfSome, IsTrue, nat_lt}
 use Rattle.std.specs.List.{Contains, list_all, list_any}
 use Rattle.std.specs.List.Sorted.{IsPermutation}
@@ -19,8 +19,8 @@ use Rattle.he_timeline.specs.Race.{Race, Reply, has_outcome, usable_addresses}
 use Rattle.he_timeline.specs.Timeline.{duration_of, is_of}
 use Rattle.he_plan.specs.Transcript.{failures, greatest, stop_of}
 
--- which answers were received by the last start, of their interlaced list the addresses that are untried, and the
--- usable addresses of both answers in order
+-- which answers were received by the last start, the untried addresses of their interlaced list, and the usable
+-- addresses of both answers in order
 pub record UntriedValues : Type 0 where
   pub v6 : Bool
   pub v4 : Bool
@@ -40,7 +40,7 @@ nothing_received = record { v6 = false; v4 = false; ips = []; sorted = [] }
 abbrev pub not_begun : Progress
 not_begun = record { attempts = []; fates = []; failed = 0; latest = 0; queue = nothing_received }
 
--- both answers' addresses in order, or none as long as no list needed them
+-- both answers' addresses in order, or none as long as no list has needed them
 abbrev pub AreSorted : Race → List Ip → Type 0
 AreSorted race sorted = (sorted ≡ []) ⊎ (sorted ≡ order race (usable_addresses race))
 
@@ -61,13 +61,13 @@ abbrev pub was_received : Race → Option Attempt → Option Reply → Bool
 was_received race None reply = false
 was_received race (Some last) reply = is_received race last.tick reply
 
--- the queue after these attempts: of the answers that were seen by the last start
+-- the queue after these attempts, of the answers that were seen by the last start
 pub record IsQueue (race : Race) (done : List Attempt) (queue : UntriedValues) : Type 0 where
   pub rest : IsRest race done queue
   pub six : queue.v6 ≡ was_received race (last_of done) race.aaaa
   pub four : queue.v4 ≡ was_received race (last_of done) race.a
 
--- the queue for a start at t: of the answers that are seen at t, its first address the one that is tried then
+-- the queue for a start at t, of the answers that are seen at t; its first address is the one to try
 pub record IsAtNext (race : Race) (done : List Attempt) (t : ℕ) (queue : UntriedValues) : Type 0 where
   pub rest : IsRest race done queue
   pub six : queue.v6 ≡ is_received race t race.aaaa
@@ -79,8 +79,9 @@ pub record IsAtNext (race : Race) (done : List Attempt) (t : ℕ) (queue : Untri
 abbrev pub AreFates : Race → Progress → Type 0
 AreFates race underway = underway.fates ≡ map (fate_of race) underway.attempts
 
--- what holds of a race under way: each attempt is the next one after those before it and starts by the greatest limit,
--- the fates are theirs in the race, so many of them failed, the last one at that tick, and the queue is theirs
+-- the state is that of the race: each attempt is the next one after those before it and starts by the maximum limit,
+-- the fates are theirs in the race, `failed` counts their failures, `latest` is the last one's tick, and the queue is
+-- theirs
 pub record IsUnderway (race : Race) (underway : Progress) : Type 0 where
   pub in_turn : AreNextInTurn race underway.attempts
   pub in_range : IfSome (last_of underway.attempts) (λ last. last.tick ≤ MAX_LIMIT)
@@ -95,7 +96,7 @@ counted underway (Failed finish) =
     record underway { failed = underway.failed + 1; latest = max underway.latest finish }
 counted underway _ = underway
 
--- the second race differs from the first in the outcome of this attempt alone, by which it ends after the last start
+-- the second race differs from the first only in the outcome of this attempt, which ends it after the last start
 pub record EndsOne (old new : Race) (attempts : List Attempt) (x : Attempt) : Type 0 where
   pub made : Contains attempts x
   pub silent : has_outcome x.ip old.outcomes ≡ false
@@ -103,15 +104,15 @@ pub record EndsOne (old new : Race) (attempts : List Attempt) (x : Attempt) : Ty
   pub told : new ≡ with_outcome old x.ip outcome
   pub late : IsTrue (list_all (λ y. nat_lt y.tick (x.tick + duration_of outcome)) attempts)
 
--- by the tick both races have received the same answers, whose addresses have the same order
+-- by the tick both races have received the same answers, with the same order of their addresses
 pub record IsReceivedAlike (old new : Race) (t : ℕ) : Type 0 where
   pub six : is_received new t new.aaaa ≡ is_received old t old.aaaa
   pub four : is_received new t new.a ≡ is_received old t old.a
   pub addresses : received new t ≡ received old t
   pub ordered : order new (received new t) ≡ order old (received old t)
 
--- the second race has the settings and the record of the first, and differs from it in nothing that these attempts
--- depend on, as where one more answer comes after the last start
+-- the second race has the settings, outcomes and pauses of the first, and differs from it in nothing that these
+-- attempts depend on: for example, another answer came after the last start
 pub record IsAlikeSoFar (old new : Race) (attempts : List Attempt) : Type 0 where
   pub in_turn : AreNextInTurn new attempts
   pub settings : new.settings ≡ old.settings
@@ -126,7 +127,7 @@ pub record MakesNext (race : Race) (done all : List Attempt) (tick : ℕ) : Type
   pub is : IsNext race done next
   pub at : next.tick ≡ tick
 
--- no attempt may start before the stop of the attempts that were made: the winner's finish, or the limit
+-- no attempt may start before the stop of the attempts made: the winner's finish, or the limit
 pub record IsStopped (race : Race) (underway : Progress) (winner : Option (ℕ × ℕ)) : Type 0 where
   pub kept : IsUnderway race underway
   pub wins : IsWinner underway.fates winner

@@ -1,5 +1,4 @@
--- What a race's transcript says: the attempts that were made, what became of each, and how the race ended (RFC 8305
--- section 5).
+-- A race's transcript: the attempts made, the end of each, and how the race ended (RFC 8305 section 5).
 use Rattle.std.specs.Prelude.{ℕ, ◌≡◌, ◌≤◌, ◌⊎◌, ◌&&◌, ◌||◌, Bool, true, false, not, if◌then◌else◌, List, [], ◌∷◌, map, filter, max, Option, Some, None, nat_eq, nat_le, nat_lt}
 use Rattle.std.specs.List.{list_all, AllZip}
 use Rattle.std.specs.Option.{option_map_or}
@@ -17,7 +16,7 @@ use Rattle.he_plan.specs.Attempts.{AreAttempts, AreNextInTurn, MayStart, is_trie
 use Rattle.he_timeline.specs.Seen.{seen}
 use Rattle.he_plan.specs.Finish.{fate_of, known_at, IsWinner, IsSuccess}
 
--- what a transcript holds
+-- the value of a transcript
 pub record Report : Type 0 where
   pub lines : List Line
   pub result : Outcome3
@@ -29,7 +28,7 @@ stop_of race winner = option_map_or (λ w. w.0) winner race.settings.limit
 abbrev pub is_place : Option (ℕ × ℕ) → ℕ → Bool
 is_place winner place = option_map_or (λ w. nat_eq w.1 place) winner false
 
--- a failure at or before the stop
+-- a failure at or before the stop; otherwise cancelled at the stop
 abbrev pub failed_mark : ℕ → Fate → Mark
 failed_mark stop (fates.Failed finish) = if nat_le finish stop then marks.Failed finish else marks.Cancelled stop
 failed_mark stop _ = marks.Cancelled stop
@@ -74,7 +73,7 @@ is_exhausted race attempts told aaaa a =
     nat_le (seen race aaaa.tick) race.settings.limit && nat_le (seen race a.tick) race.settings.limit
     && is_tried_out attempts aaaa && is_tried_out attempts a && list_all is_failed told
 
--- then the race ends at the greatest of both seen ticks and all failures, else at the limit
+-- then the race ends at the greatest of both seen ticks and all failures; otherwise at the limit
 abbrev pub without_winner : Race → List Attempt → List Fate → Option Reply → Option Reply → Outcome3
 without_winner race attempts told (Some aaaa) (Some a) =
     if is_exhausted race attempts told aaaa a
@@ -95,24 +94,23 @@ pub record IsTranscript (race : Race) (report : Report) : Type 0 where
   pub lines : report.lines ≡ lines_of race winner attempts
   pub result : report.result ≡ result_of race attempts (map (fate_of race) attempts) winner
 
--- some told success finishes at or before the start
+-- a success in `told` finishes at or before the start
 pub record IsBeaten (told : List Fate) (start : ℕ) : Type 0 where
   pub key : ℕ × ℕ
   pub success : IsSuccess told key
   pub before : key.0 ≤ start
 
--- the fate that is told of an attempt is its own, or Skipped where it is beaten before it starts
+-- the given fate of an attempt is its own, or Skipped if a success comes before its start
 abbrev pub IsToldFate : Race → List Fate → Attempt → Fate → Type 0
 IsToldFate race told x fate = (fate ≡ fate_of race x) ⊎ ((fate ≡ fates.Skipped) × IsBeaten told x.tick)
 
--- what is handed in is the race's plan, one fate of each attempt, and the winner of these fates
+-- the arguments are the race's plan, one fate for each attempt, and the winner of these fates
 pub record AreTold (race : Race) (attempts : List Attempt) (told : List Fate) (winner : Option (ℕ × ℕ)) : Type 0 where
   pub are : AreAttempts race attempts
   pub fates : AllZip (IsToldFate race told) attempts told
   pub wins : IsWinner told winner
 
--- what is handed in are the attempts that a race makes up to its stop, what is known of each of them there, and by
--- that the winner
+-- the arguments are the attempts that a race makes up to its stop, their fates known there, and the winner of these
 pub record AreKnown (race : Race) (attempts : List Attempt) (known : List Fate)
     (winner : Option (ℕ × ℕ)) : Type 0 where
   pub in_turn : AreNextInTurn race attempts

@@ -1,4 +1,4 @@
-// Laws of what two races have in common and of what stays when a race grows, each the contract of a function that does
+// Laws of what two races share and of what is kept when a race grows. Each is the contract of a function that does
 // nothing.
 
 ghost use Rattle.std.specs.Prelude.{All, ◌≡◌, ℕ, ◌+◌, ◌<◌, ◌≤◌, ◌↔◌, ◌++◌, List, [], ◌∷◌, false, Some, Ok, IsTrue, nat_lt};
@@ -21,8 +21,9 @@ ghost use Rattle.he_select.specs.declared.policy.Row.{Row};
 ghost use Rattle.he_select.specs.Hosts.{HostLists, IsHost};
 ghost use Rattle.he_select.specs.Tables.{IsAdmitted};
 
-/// At a tick at which two races are free that differ in outcomes and pauses alone, an attempt may start in both or in
-/// neither, if those before it have all failed in both or in neither; and it takes its address from the same list.
+/// At a tick at which two races that differ only in outcomes and pauses are both free, an attempt may start in both
+/// or in neither, if those before it have all failed in both or in neither; it takes its address from the same list
+/// in both.
 pub fn starts_at_a_shared_tick()
     ensures starts { (x y : Race) → IsRace x → IsRace y → AreAlike x y → (done : List Attempt) (t : ℕ)
         → HaveFailed x done t ↔ HaveFailed y done t → IsFree x t → IsFree y t → MayStart x done t ↔ MayStart y done t }
@@ -30,9 +31,9 @@ pub fn starts_at_a_shared_tick()
         → order_at x t ≡ order_at y t }
 {}
 
-/// What happens below a tick stays in a race that agrees with this one below it: starts, and the attempts that were
-/// made, where these have failed below it in both or in neither; ticks that are seen; and of an attempt whose address
-/// has the same outcome what is known of it, and so whether it has failed.
+/// A race that agrees with another below a tick keeps, below that tick: the starts, and the attempts made, if these
+/// have failed below it in both or in neither; the ticks that are seen; and, for an attempt whose address has the
+/// same outcome, what is known of it, and so whether it has failed.
 pub fn agreement_below_a_tick()
     ensures starts { (tick : ℕ) (x y : Race) → IsRace x → IsRace y → AgreeBelow tick x y → (done : List Attempt)
         → FailAlike tick x y done → (t : ℕ) → t < tick → MayStart x done t ↔ MayStart y done t }
@@ -49,7 +50,7 @@ pub fn agreement_below_a_tick()
         → FailAlike tick x y attempts }
 {}
 
-/// One more pause changes nothing below it; the client is away in it, and may act from its end on.
+/// One more pause changes nothing below it. The client is away during it, and may act from its end on.
 pub fn one_more_pause_above()
     ensures below { (race : Race) (from to : ℕ) → AgreeBelow from race (with_pause race from to) }
     ensures away { (race : Race) (from to t : ℕ) → from ≤ t → t < to
@@ -57,7 +58,7 @@ pub fn one_more_pause_above()
     ensures free { (race : Race) → IsRace race → (t : ℕ) → last_end race.pauses ≤ t → IsFree race t }
 {}
 
-/// One more outcome changes no tick that is seen, and is that of its own address alone.
+/// One more outcome changes no tick that is seen, and affects only its own address.
 pub fn one_more_outcome()
     ensures below { (race : Race) (ip : Ip) (outcome : Outcome) (tick : ℕ)
         → AgreeBelow tick race (with_outcome race ip outcome) }
@@ -67,8 +68,8 @@ pub fn one_more_outcome()
         → outcome_of (with_outcome race ip outcome) other ≡ outcome_of race other }
 {}
 
-/// The outcome by which an attempt ends after the last start leaves the attempts that were made, of which no other one
-/// ends by it.
+/// The outcome that ends an attempt after the last start keeps the attempts that were made; none of the others ends
+/// by it.
 pub fn one_more_end()
     ensures attempts { (old new : Race) → IsRace old → IsRace new → (attempts : List Attempt) (x : Attempt)
         → EndsOne old new attempts x → AreNextInTurn old attempts → AreNextInTurn new attempts }
@@ -77,7 +78,7 @@ pub fn one_more_end()
         → FailAlike (x.tick + duration_of is.outcome) old new attempts }
 {}
 
-/// An answer, what is known of an address, an outcome or a pause that the builder takes leaves a race within its
+/// An answer, knowledge of an address, an outcome or a pause that the builder accepts leaves a race within its
 /// ranges.
 pub fn races_grow()
     ensures empty { (settings : SettingValues) (policy : List Row) (host : HostLists) → IsSettings settings

@@ -7,7 +7,7 @@ use he_addr::Ip;
 use std::alloc::{Allocator, Global};
 use std::marker::Model;
 
-/// One attempt to connect: its place in the race, counted from 0, the tick at which it starts, and the address.
+/// An attempt to connect: its place in the race, counted from 0, the tick at which it starts, and the address.
 #[derive(Clone, Copy, Debug, PartialEq, Eq)]
 pub struct Attempt {
     pub place: usize,
@@ -15,7 +15,7 @@ pub struct Attempt {
     pub ip: Ip,
 }
 
-/// The attempts of a race by place.
+/// The attempts of a race, by place.
 #[derive(Drop)]
 pub struct Plan<A: Allocator = Global> {
     attempts: Vec<Attempt, A>,
@@ -31,14 +31,14 @@ impl<A: Allocator> Model for Plan<A> {
 }
 
 impl<A: Allocator> Plan<A> {
-    /// The plan of these attempts.
+    /// The plan with these attempts.
     pub fn new(attempts: Vec<Attempt, A>) -> Plan<A>
         ensures { result ≡ attempts.items }
     {
         Plan { attempts }
     }
 
-    /// The attempts by place.
+    /// The attempts, by place.
     pub fn attempts(&self) -> &[Attempt]
         ensures { result.now ≡ self.now }
     {

@@ -1,4 +1,4 @@
-// Laws of what is due in a race that is being run, each the contract of a function that does nothing.
+// Laws of what is due in a running race. Each is the contract of a function that does nothing.
 
 ghost use Rattle.std.specs.Prelude.{◌≡◌, ℕ, ◌-◌, ◌<◌, ◌≤◌, ◌↔◌, List, [], Option, Some, None};
 ghost use Rattle.he_plan.specs.declared.attempts.Attempt.{Attempt};
@@ -11,8 +11,8 @@ ghost use Rattle.he_plan.specs.Finish.{fate_of};
 ghost use Rattle.he_timeline.specs.Race.{outcome_of, Race};
 ghost use Rattle.he_timeline.specs.Timeline.{IsRace};
 
-/// After a turn no attempt may start before the due tick is seen: one starts there, or later in a further turn, and
-/// none where that is not below the limit. There is one due tick.
+/// After a turn no attempt may start before the due tick is seen. One starts there, or later in a further turn; none
+/// starts if that tick is not below the limit. There is one due tick.
 pub fn starts_when_due()
     ensures no_sooner { (race : Race) → IsRace race → (turn : Option ℕ) (done : List Attempt) (w : ℕ)
         → IsAfterTurn race turn done → IsDueTick race turn done w → (t : ℕ) → MayStart race done t → seen race w ≤ t }
@@ -26,8 +26,9 @@ pub fn starts_when_due()
         → IsDueTick race turn done w → v ≡ w }
 {}
 
-/// An attempt that may start at a tick may start at each later free one below the limit, and starts after the last
-/// one, which was waited for; at a free tick that is seen from own ticks alone.
+/// An attempt that may start at a tick may also start at each later free tick below the limit. It starts after the
+/// last attempt, once the wait for that one is over. At a free tick, pauses affect neither whether an attempt may
+/// start nor the order of the addresses.
 pub fn starts_at_free_ticks()
     ensures free { (race : Race) → IsRace race → (done : List Attempt) (t : ℕ) → MayStart race done t → IsFree race t }
     ensures stay { (race : Race) → IsRace race → (done : List Attempt) (t later : ℕ) → MayStart race done t
@@ -47,8 +48,8 @@ pub fn seen_is_least()
     ensures { (race : Race) → IsRace race → (x : ℕ) → IsSeen race x (seen race x) }
 {}
 
-/// An attempt whose outcome ends it at a free tick by the limit finishes there, and one of a silent address still
-/// runs.
+/// An attempt whose outcome ends it at a free tick by the limit finishes there; an attempt to a silent address is
+/// still running.
 pub fn finishes_at_free_ticks()
     ensures succeeded { (race : Race) → IsRace race → (x : Attempt) (t : ℕ) → IsFree race t → x.tick ≤ t
         → t ≤ race.settings.limit → outcome_of race x.ip ≡ Some (outcomes.Ok (t - x.tick))

@@ -1,4 +1,4 @@
-// When an attempt finishes, and which one wins.
+// When an attempt finishes, and which attempt wins.
 
 ghost use Rattle.std.specs.Prelude.{◌≡◌};
 ghost use Rattle.he_plan.specs.Planning.{next_winner};
@@ -9,8 +9,8 @@ use crate::attempts::Attempt;
 use he_timeline::{Outcome, Timeline};
 use std::alloc::Allocator;
 
-/// What becomes of an attempt: it succeeds or fails at a tick that is at most the limit, it still runs at the limit,
-/// or it was not looked at, since it starts at or after a success.
+/// The fate of an attempt: it succeeds or fails at a tick at or before the limit, it is still running at the limit,
+/// or it was not examined, since it starts at or after a success.
 #[derive(Clone, Copy, Debug, PartialEq, Eq)]
 pub enum Fate {
     Succeeded(u64),
@@ -19,8 +19,8 @@ pub enum Fate {
     Skipped,
 }
 
-/// What becomes of the attempt by the limit of the timeline's race: a finish is a tick after its start, at or before
-/// the limit.
+/// The fate of the attempt by the limit of the timeline's race. A finish is after the start and at or before the
+/// limit.
 pub fn fate_of<A: Allocator>(timeline: &Timeline<A>, attempt: &Attempt) -> Fate
     ensures value { result ≡ fate_of timeline.now attempt.now }
     ensures range { IsInTime timeline.now attempt.now result }
@@ -50,7 +50,7 @@ fn fate_by_limit<A: Allocator>(timeline: &Timeline<A>, attempt: &Attempt) -> Fat
     }
 }
 
-/// The winner's finish and place: the success with the least finish, and of these the one with the least place.
+/// The winner's finish and place: of the successes with the least finish, the one with the least place.
 pub fn winner(fates: &[Fate]) -> Option<(u64, usize)>
     ensures { IsWinner fates.now result }
 {

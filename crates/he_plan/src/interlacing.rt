@@ -6,10 +6,10 @@ ghost use Rattle.he_plan.specs.Alternating.{interlace, interlace_by, alternate};
 ghost use Rattle.he_timeline.specs.Timeline.{is_of};
 
 use he_addr::{Family, Ip, Memory};
-use std::alloc::{AllocError, Allocator};
+use std::alloc::Allocator;
 
-/// The addresses interlaced: the family of the first one leads with its first `count` members, from there the families
-/// alternate, and when one has run out the rest of the other follows (RFC 8305 section 4).
+/// The addresses interlaced (RFC 8305 section 4): the first `count` addresses of the first one's family come first,
+/// then the families alternate, and when one runs out the rest of the other follows.
 pub fn interlace<A: Allocator + Copy>(
     alloc: A,
     ips: &[Ip],
@@ -18,7 +18,7 @@ pub fn interlace<A: Allocator + Copy>(
     requires { 1 ≤ count }
     ensures { IfOk result (λ v. v.items ≡ interlace ips.now count) }
 {
-    // Of two the first one leads, and the other follows, whichever their families.
+    // At most two addresses are in order already, whatever their families.
     if ips.len() <= 2 {
         return Ok(Vec::from_slice(alloc, ips)?);
     }
@@ -33,7 +33,7 @@ fn interlace_by<A: Allocator + Copy>(
     family: Family,
     ips: &[Ip],
     count: usize,
-) -> Result<Vec<Ip, A>, AllocError>
+) -> Result<Vec<Ip, A>, Memory>
     ensures { IfOk result (λ v. v.items ≡ interlace_by family ips.now count) }
 {
     let leading = members(alloc, family, ips)?;
@@ -52,7 +52,7 @@ pub(crate) fn members<A: Allocator>(
     alloc: A,
     family: Family,
     ips: &[Ip],
-) -> Result<Vec<Ip, A>, AllocError>
+) -> Result<Vec<Ip, A>, Memory>
     ensures { IfOk result (λ v. v.items ≡ filter (is_of family) ips.now) }
 {
     let mut members = Vec::with_capacity(alloc, ips.len())?;
@@ -64,7 +64,7 @@ pub(crate) fn members<A: Allocator>(
     Ok(members)
 }
 
-fn others<A: Allocator>(alloc: A, family: Family, ips: &[Ip]) -> Result<Vec<Ip, A>, AllocError>
+fn others<A: Allocator>(alloc: A, family: Family, ips: &[Ip]) -> Result<Vec<Ip, A>, Memory>
     ensures { IfOk result (λ v. v.items ≡ filter (λ ip. not (is_of family ip)) ips.now) }
 {
     let mut others = Vec::with_capacity(alloc, ips.len())?;
@@ -86,7 +86,7 @@ fn alternate<A: Allocator>(
     interlaced: &mut Vec<Ip, A>,
     other: &[Ip],
     leading: &[Ip],
-) -> Result<(), AllocError>
+) -> Result<(), Memory>
     ensures { OnOk result (interlaced.new.items ≡ interlaced.old.items ++ alternate other.now leading.now) }
 {
     let mut i = 0;

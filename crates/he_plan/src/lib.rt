@@ -1,11 +1,11 @@
-//! The rules of a race (RFC 8305 sections 3 to 5 and 8), and the crate that computes them.
+//! The rules of a race (RFC 8305 sections 3 to 5 and 8), and code that computes them.
 //!
-//! A `TimelineBuilder` collects a race's input: settings, the policy table and the host by which addresses are
-//! ordered, the answers of both families, what the client knows of addresses from earlier, what each address does when
-//! it is tried, and the pauses of the client.
-//! `plan` answers the attempts that the race makes while no success stops it, `Timeline::fate` what becomes of each,
-//! `winner` which one wins, and `transcript_of_fates` the transcript; `transcript_of` is all of these in one call,
-//! and looks at no outcome of an attempt that starts at or after an earlier one's success. A tick is a millisecond.
+//! A `TimelineBuilder` collects a race's input: settings, the policy table and the host that determine the order of
+//! addresses, the answers of both families, the client's knowledge of addresses from earlier connections, the outcome
+//! of each address, and the pauses of the client. `plan` returns the attempts that the race makes if no success stops
+//! it, `fate_of` the fate of each, `winner` the one that wins, and `transcript_of_fates` the transcript.
+//! `transcript_of` does all of this in one call, and looks at no outcome of an attempt that starts at or after the
+//! success of an earlier one. A tick is a millisecond.
 //!
 //! ```text
 //! let settings = Settings::new(50, 250, 1, 30_000)?;
@@ -17,16 +17,16 @@
 //! let transcript = transcript_of(alloc, &builder.finish())?;
 //! ```
 //!
-//! Proved, against the definitions of `specs/`: each call of the builder answers the new race or the first fault, and
-//! a refused one leaves it as it was; `plan` answers the one list of attempts (`Attempts`), whatever the pauses;
-//! `Timeline::seen` the least tick that no pause covers; `interlace` the interlaced list (`Interlacing`); and the
-//! transcript is the race's (`Transcript`), also where attempts that start after a success are reported as skipped,
-//! and where no more is known of the attempts than what became of them by the race's end. `laws` has what follows from
-//! the definitions alone, as that a race has one transcript; `due` what a race that is being run may start, and when;
-//! `agreement` what stays when a race grows. Addresses are tried in the order of RFC 6724 section 6, which
-//! `he_select` defines and computes by what is known of them (RFC 8305 section 4), interlaced.
+//! Proved, against the definitions of `specs/`: each call of the builder yields the new race or the first fault, and
+//! a refused call leaves the race unchanged; `plan` returns the one list of attempts (`Attempts`), whatever the
+//! pauses; `Timeline::seen` the least tick, at or after the given one, that no pause covers; `interlace` the
+//! interlaced list (`Interlacing`). The transcript is the race's (`Transcript`), even if attempts that start after a
+//! success are reported as skipped, and if only the fates by the race's end are known. `laws` has consequences of the
+//! definitions alone, such as that a race has one transcript; `due` has which attempts a running race may start, and
+//! when; `agreement` has what is kept when a race grows. Addresses are tried in the order of RFC 6724 section 6,
+//! interlaced; `he_select` defines and computes that order, with the knowledge of addresses (RFC 8305 section 4).
 //!
-//! Tested only: that a call succeeds where memory is granted.
+//! Tested only: that a call succeeds if memory is available.
 #![tactic(auto)]
 
 pub mod agreement;

@@ -1,4 +1,4 @@
-// The lists from which attempts take their addresses: those of the answers that are included, in order and interlaced.
+// The lists from which attempts take their addresses: the addresses of the included answers, in order and interlaced.
 
 ghost use Rattle.std.specs.Prelude.{◌≡◌, ◌≤◌, ◌++◌, true, filter, length, map, IfOk, OnErr, OnOk};
 ghost use Rattle.std.specs.List.Sorted.{IsPermutation};
@@ -18,10 +18,10 @@ use he_addr::{Family, Ip, Memory};
 use he_select::{DestinationAttributes, Known, order, order_known, order_known_with_attributes};
 use he_timeline::Timeline;
 use he_timeline::timeline::are_addresses_in_range;
-use std::alloc::{AllocError, Allocator};
+use std::alloc::Allocator;
 
-// The interlaced list of the included answers. The addresses of both answers are sorted at the first list that needs
-// it, and kept in `sorted`, which is empty before: the order of some of them is the order of all without the others.
+// The interlaced list of the included answers. The first list that needs it sorts the addresses of both answers into
+// `sorted`, which is empty before: the order of some of them is the order of all without the others.
 pub(crate) fn interlaced_list<A: Allocator + Copy, B: Allocator>(
     alloc: A,
     timeline: &Timeline<B>,
@@ -36,7 +36,7 @@ pub(crate) fn interlaced_list<A: Allocator + Copy, B: Allocator>(
     ensures sorted { AreSorted timeline.now sorted.new.items }
 {
     are_addresses_in_range(timeline);
-    // One address is in order as it stands.
+    // A single address is in order already.
     if included_count(timeline, v6, v4) <= 1 {
         return Ok(included_addresses(alloc, timeline, v6, v4)?);
     }
@@ -44,7 +44,7 @@ pub(crate) fn interlaced_list<A: Allocator + Copy, B: Allocator>(
     interlaced_part(alloc, sorted, v6, v4, timeline.settings().count())
 }
 
-// How many addresses the included answers have.
+// The number of addresses of the included answers, usable or not.
 fn included_count<A: Allocator>(timeline: &Timeline<A>, v6: bool, v4: bool) -> usize
     ensures all { length (parts_of timeline.now v6 v4) ≤ result }
     ensures race { IsRace timeline.now }
@@ -76,7 +76,7 @@ fn sort_once<A: Allocator + Copy, B: Allocator>(
     Ok(())
 }
 
-// The usable addresses of both answers in order.
+// The usable addresses of both answers, in order.
 fn sorted_addresses<A: Allocator + Copy, B: Allocator>(
     alloc: A,
     timeline: &Timeline<B>,
@@ -90,7 +90,7 @@ fn sorted_addresses<A: Allocator + Copy, B: Allocator>(
     }
 }
 
-// The same where nothing is known of the addresses.
+// Those addresses in order, if nothing is known of them.
 fn sorted_unknown<A: Allocator + Copy, B: Allocator>(
     alloc: A,
     timeline: &Timeline<B>,
@@ -102,7 +102,7 @@ fn sorted_unknown<A: Allocator + Copy, B: Allocator>(
     order(alloc, timeline.policy(), timeline.host(), &ips)
 }
 
-// The same by what is known of the addresses.
+// Those addresses in order, by the knowledge of them.
 fn sorted_known<A: Allocator + Copy, B: Allocator>(
     alloc: A,
     timeline: &Timeline<B>,
@@ -113,8 +113,8 @@ fn sorted_known<A: Allocator + Copy, B: Allocator>(
     order_known(alloc, timeline.policy(), timeline.host(), &known)
 }
 
-/// The usable addresses of both answers, whatever their ticks, in the order of RFC 6724 section 6, each with what its
-/// rules look at. `Memory` where an allocation is refused.
+/// The usable addresses of both answers, at whichever ticks these come, in the order of RFC 6724 section 6, each with
+/// the attributes that its rules compare. `Memory` if an allocation fails.
 pub fn sorted_attributes<A: Allocator + Copy, B: Allocator>(
     alloc: A,
     timeline: &Timeline<B>,
@@ -126,11 +126,11 @@ pub fn sorted_attributes<A: Allocator + Copy, B: Allocator>(
     order_known_with_attributes(alloc, timeline.policy(), timeline.host(), &known)
 }
 
-// The usable addresses of both answers, as received, each with what the client knows of it.
+// The usable addresses of both answers, as received, each with the client's knowledge of it.
 fn known_addresses<A: Allocator + Copy, B: Allocator>(
     alloc: A,
     timeline: &Timeline<B>,
-) -> Result<Vec<Known, A>, AllocError>
+) -> Result<Vec<Known, A>, Memory>
     ensures { IfOk result (λ v. v.items ≡ map (known_of timeline.now.history) (usable_addresses timeline.now)) }
 {
     let mut known = Vec::with_capacity(alloc, timeline.address_count())?;
@@ -143,7 +143,7 @@ fn push_known<A: Allocator, B: Allocator>(
     known: &mut Vec<Known, A>,
     timeline: &Timeline<B>,
     addresses: &[Ip],
-) -> Result<(), AllocError>
+) -> Result<(), Memory>
     ensures { OnOk result (known.new.items ≡ known.old.items ++ map (known_of timeline.now.history)
         (filter is_usable addresses.now)) }
 {
@@ -161,7 +161,7 @@ fn included_addresses<A: Allocator + Copy, B: Allocator>(
     timeline: &Timeline<B>,
     v6: bool,
     v4: bool,
-) -> Result<Vec<Ip, A>, AllocError>
+) -> Result<Vec<Ip, A>, Memory>
     ensures { IfOk result (λ v. v.items ≡ parts_of timeline.now v6 v4) }
 {
     let mut ips = Vec::with_capacity(alloc, timeline.address_count())?;
@@ -175,7 +175,7 @@ fn push_part<A: Allocator, B: Allocator>(
     timeline: &Timeline<B>,
     family: Family,
     included: bool,
-) -> Result<(), AllocError>
+) -> Result<(), Memory>
     ensures { OnOk result (ips.new.items ≡ ips.old.items ++ part_of included (reply_of timeline.now family)) }
 {
     match timeline.answer(family) {
@@ -184,7 +184,7 @@ fn push_part<A: Allocator, B: Allocator>(
     }
 }
 
-fn push_usable<A: Allocator>(ips: &mut Vec<Ip, A>, addresses: &[Ip]) -> Result<(), AllocError>
+fn push_usable<A: Allocator>(ips: &mut Vec<Ip, A>, addresses: &[Ip]) -> Result<(), Memory>
     ensures { OnOk result (ips.new.items ≡ ips.old.items ++ filter is_usable addresses.now) }
 {
     for ip in addresses {
@@ -195,7 +195,7 @@ fn push_usable<A: Allocator>(ips: &mut Vec<Ip, A>, addresses: &[Ip]) -> Result<(
     Ok(())
 }
 
-// Of the sorted addresses those of the included answers, interlaced. One family alone stays as it is.
+// The sorted addresses of the included answers, interlaced. A single family keeps its order.
 fn interlaced_part<A: Allocator + Copy>(
     alloc: A,
     sorted: &[Ip],

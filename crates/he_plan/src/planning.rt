@@ -16,7 +16,8 @@ use he_addr::Memory;
 use he_timeline::Timeline;
 use std::alloc::Allocator;
 
-/// The attempts that the race makes while no success stops it, by place: one that succeeds is taken as still running.
+/// The attempts that the race makes if no success stops it, by place: an attempt that succeeds counts as still
+/// running.
 pub fn plan<A: Allocator + Copy, B: Allocator>(
     alloc: A,
     timeline: &Timeline<B>,
@@ -30,8 +31,8 @@ pub fn plan<A: Allocator + Copy, B: Allocator>(
     Ok(Plan::new(underway.into_attempts()))
 }
 
-// The race, of which no attempt was made, with the attempts that start before the first success of earlier ones, and
-// the winner of these: its finish and place.
+// Runs the race from its start: the attempts that start before the first success of an earlier one, and their winner
+// (its finish and place).
 pub(crate) fn run_to_stop<A: Allocator + Copy, B: Allocator>(
     alloc: A,
     timeline: &Timeline<B>,
@@ -49,7 +50,7 @@ pub(crate) fn run_to_stop<A: Allocator + Copy, B: Allocator>(
     Ok((underway, winner))
 }
 
-// The least tick at which the next attempt may start, if no attempt succeeds by then.
+// The least tick at which the next attempt may start, if no attempt has succeeded by then.
 fn unbeaten_tick<A: Allocator + Copy, B: Allocator>(
     timeline: &Timeline<B>,
     underway: &RaceState<A>,
@@ -77,7 +78,7 @@ fn is_beaten(winner: Option<(u64, usize)>, tick: u64) -> bool
     }
 }
 
-// The winner of the fates, from that of all but the last.
+// The winner of the fates, from the winner of all but the last.
 fn winner_with_last(winner: Option<(u64, usize)>, fates: &[Fate]) -> Option<(u64, usize)>
     requires { IsWinner (take (length fates.now - 1) fates.now) winner }
     ensures { IsWinner fates.now result }

@@ -1,4 +1,4 @@
-// A race under way: its attempts, made one after the other.
+// A race under way, which makes its attempts one by one.
 
 ghost use Rattle.std.specs.Prelude.{◌≡◌, ℕ, ◌<◌, [], length, vec_capacity, vec_len, IfNone, IfSome, OnErr, OnOk};
 ghost use Rattle.he_timeline.specs.Seen.{IsLeast};
@@ -14,11 +14,11 @@ use crate::starts::next_tick;
 use crate::untried::Untried;
 use he_addr::{Ip, Memory};
 use he_timeline::Timeline;
-use std::alloc::{AllocError, Allocator, Global};
+use std::alloc::{Allocator, Global};
 use std::marker::Model;
 
-/// The attempts that a race has made so far, what becomes of each, and what is left to try. It keeps how many failed,
-/// and the untried addresses in order, so that the next attempt costs no look at those that were made.
+/// The attempts that a race has made so far, the fate of each, and the untried addresses. It keeps the number of
+/// failures, and the untried addresses in order, so that the next attempt needs no scan of the earlier ones.
 #[derive(Drop)]
 pub struct RaceState<A: Allocator = Global> {
     attempts: Vec<Attempt, A>,
@@ -37,7 +37,7 @@ impl<A: Allocator> Model for RaceState<A> {
 }
 
 impl<A: Allocator + Copy> RaceState<A> {
-    /// No attempt was made.
+    /// A race without attempts.
     pub fn new(alloc: A) -> RaceState<A>
         ensures value { result ≡ not_begun }
         ensures underway { (race : Race) → IsUnderway race result }
@@ -51,7 +51,7 @@ impl<A: Allocator + Copy> RaceState<A> {
         }
     }
 
-    // The same, with the usable addresses of both answers in order, so that they aren't sorted again.
+    // A race without attempts, with the usable addresses of both answers in order, so that they aren't sorted again.
     pub(crate) fn with_order(alloc: A, sorted: Vec<Ip, A>) -> RaceState<A>
         ensures fates { result.fates ≡ [] }
         ensures underway { (race : Race) → AreSorted race sorted.items → IsUnderway race result }
@@ -65,21 +65,21 @@ impl<A: Allocator + Copy> RaceState<A> {
         }
     }
 
-    /// The attempts by place.
+    /// The attempts, by place.
     pub fn attempts(&self) -> &[Attempt]
         ensures { result.now ≡ self.now.attempts }
     {
         self.attempts.as_slice()
     }
 
-    /// What becomes of each attempt, by place.
+    /// The fate of each attempt, by place.
     pub fn fates(&self) -> &[Fate]
         ensures { result.now ≡ self.now.fates }
     {
         self.fates.as_slice()
     }
 
-    /// The attempts by place, of a race that makes no more.
+    /// The attempts of a finished race, by place.
     pub fn into_attempts(self) -> Vec<Attempt, A>
         ensures { result.items ≡ self.attempts }
     {
@@ -93,7 +93,7 @@ impl<A: Allocator + Copy> RaceState<A> {
         attempts
     }
 
-    /// The least tick at which the next attempt may start, or none.
+    /// The least tick at which the next attempt may start; None if no attempt may start.
     pub fn next_tick<B: Allocator>(&self, timeline: &Timeline<B>) -> Option<u64>
         requires { IsUnderway timeline.now self.now }
         ensures some { IfSome result (IsLeast (MayStart timeline.now self.now.attempts)) }
@@ -103,7 +103,7 @@ impl<A: Allocator + Copy> RaceState<A> {
         next_tick(timeline, &self.attempts, self.all_failed(), &self.queue)
     }
 
-    /// Makes the next attempt at the tick, the least at which it may start. Where memory is refused none is made.
+    /// Makes the next attempt at the tick, the least at which it may start. On `Memory` it makes none.
     pub fn start<B: Allocator>(
         &mut self,
         alloc: A,
@@ -133,7 +133,7 @@ impl<A: Allocator + Copy> RaceState<A> {
         Ok(())
     }
 
-    /// Takes note that the attempt has ended: the timeline has one more outcome than before, which is its.
+    /// Records the end of the attempt: the timeline has one more outcome than before, that of its address.
     pub fn end<B: Allocator>(&mut self, timeline: &Timeline<B>, attempt: Attempt)
         requires ends { (race : Race) × IsRace race × IsUnderway race self.old
             × EndsOne race timeline.now self.old.attempts attempt }
@@ -145,8 +145,7 @@ impl<A: Allocator + Copy> RaceState<A> {
         self.count(fate);
     }
 
-    /// Takes note that one more answer has come, after the last start: the addresses are sorted again for the next list
-    /// that needs it.
+    /// Records that another answer came after the last start: the next list sorts the addresses again.
     pub fn hear(&mut self)
         ensures same { self.new.attempts ≡ self.old.attempts }
         ensures underway { (race new : Race) → IsUnderway race self.old → IsAlikeSoFar race new self.old.attempts
@@ -155,7 +154,7 @@ impl<A: Allocator + Copy> RaceState<A> {
         self.queue.forget_order();
     }
 
-    // Counts one more fate.
+    // Counts another fate.
     fn count(&mut self, fate: Fate)
         requires { self.old.failed < length self.old.fates }
         ensures { self.new ≡ counted self.old fate }
@@ -179,8 +178,8 @@ impl<A: Allocator + Copy> RaceState<A> {
     }
 }
 
-// Makes room for one more, and at the first for as many as there may be.
-fn make_room<T, A: Allocator>(made: &mut Vec<T, A>, most: usize) -> Result<(), AllocError>
+// Makes room for another item; for an empty vector, room for `most` items.
+fn make_room<T, A: Allocator>(made: &mut Vec<T, A>, most: usize) -> Result<(), Memory>
     ensures same { made.new.items ≡ made.old.items }
     ensures room { OnOk result (vec_len made.new < vec_capacity made.new) }
 {

@@ -39,8 +39,9 @@ pub(crate) fn next_tick<A: Allocator, B: Allocator>(
     if tick < limit { Some(tick) } else { None }
 }
 
-// Where the queue has an address, it was received by the last start, so only the delay after that is waited for; where
-// it has none, only an answer that was not received then is. `failed` is the latest failure, if every attempt failed.
+// If the queue has an address, it was received by the last start, so the attempt waits only for the delay after that
+// start. If it has none, the attempt waits for an answer that was not received then. `failed` is the latest failure,
+// if every attempt failed.
 fn start_tick<A: Allocator, B: Allocator>(
     timeline: &Timeline<A>,
     done: &[Attempt],
@@ -65,8 +66,8 @@ fn start_tick<A: Allocator, B: Allocator>(
     Some(from)
 }
 
-// The end of the Connection Attempt Delay after the last start (RFC 8305 section 5), or that of the floor, if there is
-// one and every attempt failed, but not before the latest failure.
+// The end of the Connection Attempt Delay after the last start (RFC 8305 section 5); with a floor, if every attempt
+// failed, the end of the floor, but not before the latest failure.
 fn wait_end(settings: Settings, failed: Option<u64>, start: u64) -> u64
     requires { start ≤ MAX_LIMIT }
     ensures { result ≡ wait_by settings.floor failed start settings.attempt }
@@ -78,8 +79,8 @@ fn wait_end(settings: Settings, failed: Option<u64>, start: u64) -> u64
     }
 }
 
-// When the race begins: with a positive AAAA answer, or with a positive A answer once the AAAA answer has come or the
-// Resolution Delay has passed (RFC 8305 section 3).
+// The tick at which the race begins: with a positive AAAA answer, or with a positive A answer once the AAAA answer
+// has come or the Resolution Delay has passed (RFC 8305 section 3).
 fn begin_tick<A: Allocator>(timeline: &Timeline<A>) -> Option<u64>
     ensures { result ≡ begin_tick timeline.now }
 {
@@ -90,7 +91,7 @@ fn begin_tick<A: Allocator>(timeline: &Timeline<A>) -> Option<u64>
     earlier(positive_tick(timeline, Family::V6), v4)
 }
 
-// The tick from which an A answer of this tick begins a race.
+// The tick from which an A answer at `tick` begins a race.
 fn a_begin_tick<A: Allocator>(timeline: &Timeline<A>, tick: u64) -> u64
     requires { tick ≤ MAX_TICK }
     ensures { result ≡ a_begin_tick timeline.now.settings.resolution timeline.now.aaaa tick }

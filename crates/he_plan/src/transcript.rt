@@ -20,8 +20,8 @@ use he_timeline::timeline::are_addresses_in_range;
 use std::alloc::{Allocator, Global};
 use std::marker::Model;
 
-/// What became of an attempt, with the tick: it won, it failed at or before the race's end, or it was cancelled at
-/// the end.
+/// The end of an attempt, with its tick: it won, it failed at or before the race's end, or it was cancelled at the
+/// end.
 #[derive(Clone, Copy, Debug, PartialEq, Eq)]
 pub enum Mark {
     Won(u64),
@@ -29,7 +29,7 @@ pub enum Mark {
     Cancelled(u64),
 }
 
-/// An attempt with what became of it.
+/// An attempt and its end.
 #[derive(Clone, Copy, Debug, PartialEq, Eq)]
 pub struct Line {
     pub place: usize,
@@ -38,8 +38,8 @@ pub struct Line {
     pub mark: Mark,
 }
 
-/// How a race ended: won by the attempt of this place at this tick, exhausted at a tick, since every attempt failed,
-/// or at the limit.
+/// How a race ended: won by the attempt at this place at this tick; exhausted at this tick, since every attempt
+/// failed; or at the limit.
 #[derive(Clone, Copy, Debug, PartialEq, Eq)]
 pub enum Outcome3 {
     Won(usize, u64),
@@ -47,7 +47,7 @@ pub enum Outcome3 {
     Limit(u64),
 }
 
-/// The attempts of a race with what became of each, by place, and how the race ended.
+/// The attempts of a race and the end of each, by place, and how the race ended.
 #[derive(Drop)]
 pub struct Transcript<A: Allocator = Global> {
     lines: Vec<Line, A>,
@@ -64,7 +64,7 @@ impl<A: Allocator> Model for Transcript<A> {
 }
 
 impl<A: Allocator> Transcript<A> {
-    /// The transcript of these lines and this result.
+    /// A transcript with these lines and this result.
     pub fn new(lines: Vec<Line, A>, ending: Outcome3) -> Transcript<A>
         ensures { result ≡ record { lines = lines.items; result = ending } }
     {
@@ -74,7 +74,7 @@ impl<A: Allocator> Transcript<A> {
         }
     }
 
-    /// The attempts by place.
+    /// The attempts, by place.
     pub fn attempts(&self) -> &[Line]
         ensures { result.now ≡ self.now.lines }
     {
@@ -89,9 +89,8 @@ impl<A: Allocator> Transcript<A> {
     }
 }
 
-/// The transcript of the timeline's race, from its plan, one fate of each attempt and the winner of these fates: the
-/// least finish and place of a success. An attempt that starts at or after some success's finish may be reported as
-/// Skipped.
+/// The transcript of the timeline's race, from its plan, one fate for each attempt and the winner of these fates (the
+/// least finish and place of a success). An attempt that starts at or after the finish of a success may be Skipped.
 pub fn transcript_of_fates<A: Allocator, B: Allocator, C: Allocator>(
     alloc: A,
     timeline: &Timeline<B>,
@@ -109,9 +108,9 @@ pub fn transcript_of_fates<A: Allocator, B: Allocator, C: Allocator>(
     Ok(Transcript::new(lines, ending))
 }
 
-/// The transcript of the timeline's race, from the attempts that it makes up to its stop, by place, what is known of
-/// each of them there, and the winner of these fates. The stop is the winner's finish, or the limit; an attempt that
-/// has not finished by then is known as Running.
+/// The transcript of the timeline's race, from the attempts that it makes up to its stop, by place, their fates known
+/// there, and the winner of these fates. The stop is the winner's finish, or the limit; an attempt that has not
+/// finished by then is Running.
 pub fn transcript_at_stop<A: Allocator, B: Allocator>(
     alloc: A,
     timeline: &Timeline<B>,
@@ -140,8 +139,8 @@ pub fn transcript_of<A: Allocator + Copy, B: Allocator>(
     transcript_from(alloc, timeline, RaceState::new(alloc))
 }
 
-/// The same, where the usable addresses of both answers, whatever their ticks, are given in the order of RFC 6724
-/// section 6: they aren't sorted again.
+/// Like [`transcript_of`], with the usable addresses of both answers, at whichever ticks these come, already in the
+/// order of RFC 6724 section 6: they aren't sorted again.
 pub fn transcript_by_order<A: Allocator + Copy, B: Allocator>(
     alloc: A,
     timeline: &Timeline<B>,
@@ -153,7 +152,7 @@ pub fn transcript_by_order<A: Allocator + Copy, B: Allocator>(
     transcript_from(alloc, timeline, RaceState::with_order(alloc, sorted))
 }
 
-// The same, from a race of which no attempt was made.
+// The transcript, from a race without attempts.
 fn transcript_from<A: Allocator + Copy, B: Allocator>(
     alloc: A,
     timeline: &Timeline<B>,
@@ -292,7 +291,7 @@ fn without_winner<A: Allocator>(
     }
 }
 
-// The greatest of both ticks at which the answers are seen and of all failures.
+// The greatest of the ticks at which the answers are seen and of all failures.
 fn exhausted_tick(aaaa_seen: u64, a_seen: u64, fates: &[Fate]) -> u64
     ensures { result ≡ greatest (aaaa_seen ∷ a_seen ∷ failures fates.now) }
 {
@@ -311,8 +310,8 @@ fn is_failed(fate: Fate) -> bool
     matches!(fate, Fate::Failed(_))
 }
 
-// Whether each usable address of both answers, which are a tick and addresses, was tried. Where there is room for one
-// more attempt, an address that is left would have been tried in it, so they need not be looked at.
+// Whether each usable address of both answers (a tick and addresses each) was tried. If there is room for one more
+// attempt, it would have tried any remaining address, so no scan is needed.
 fn are_tried_out<A: Allocator>(
     timeline: &Timeline<A>,
     attempts: &[Attempt],
@@ -332,7 +331,7 @@ fn are_tried_out<A: Allocator>(
     is_tried_out(attempts, aaaa.1) && is_tried_out(attempts, a.1)
 }
 
-// Whether the delay after the last attempt ends below the limit, at or after the tick.
+// Whether the end of the delay after the last attempt, or `from` if that is later, is seen below the limit.
 fn has_room<A: Allocator>(timeline: &Timeline<A>, attempts: &[Attempt], from: u64) -> bool
     ensures room { IsTrue result → IsTrue (has_room timeline.now from (last_of attempts.now)) }
     ensures race { IsRace timeline.now }

@@ -1,4 +1,4 @@
-// The addresses that attempts try, found without a look at each attempt.
+// The set of the addresses that attempts have tried, which finds one without a scan of the attempts.
 
 ghost use Rattle.std.specs.Prelude.{◌≡◌, IfOk};
 ghost use Rattle.he_addr.specs.declared.ip.Ip.{Ip};
@@ -11,10 +11,10 @@ use indexmap::IndexSet;
 use std::alloc::Allocator;
 use std::hash::{BuildHasherDefault, FoldHasher};
 
-// To compare an address with so many attempts takes less than to keep a set of what they try.
+// Up to this many attempts, a scan costs less than a set of their addresses.
 pub(crate) const FEW: usize = 8;
 
-// Addresses found by their hash.
+// Addresses in a hash set.
 pub(crate) type Tried<A> = IndexSet<Ip, BuildHasherDefault<FoldHasher>, A>;
 
 pub(crate) fn tried_by<A: Allocator + Copy>(alloc: A, done: &[Attempt]) -> Result<Tried<A>, Memory>

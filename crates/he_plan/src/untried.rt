@@ -14,8 +14,8 @@ use he_timeline::{Timeline, put};
 use std::alloc::Allocator;
 use std::marker::Model;
 
-// Which answers were received by the last start, and of their interlaced list, from the place `next` on, the addresses
-// that are untried; and the usable addresses of both answers in order, once a list needed them.
+// Which answers were received by the last start; the untried addresses of their interlaced list, from `next` on; and
+// the usable addresses of both answers in order, once a list has needed them.
 #[derive(Drop)]
 pub(crate) struct Untried<A: Allocator> {
     pub(crate) v6: bool,
@@ -35,7 +35,8 @@ impl<A: Allocator> Model for Untried<A> {
 }
 
 impl<A: Allocator + Copy> Untried<A> {
-    // Nothing is received. The addresses of both answers are given in order, or none where they are to be sorted.
+    // Nothing is received. `sorted` has the addresses of both answers in order; it is empty if they are yet to be
+    // sorted.
     pub(crate) fn new(alloc: A, sorted: Vec<Ip, A>) -> Untried<A>
         ensures { result ≡ record { v6 = false; v4 = false; ips = []; sorted = sorted.items } }
     {
@@ -48,8 +49,8 @@ impl<A: Allocator + Copy> Untried<A> {
         }
     }
 
-    // Brings the queue to a start at the tick, at the address that is tried then. What was received stays received, so
-    // the list is made anew at most twice in a race, and its addresses are sorted once.
+    // Moves the queue to a start at the tick; its front is then the address to try. An answer once received stays
+    // received, so a race makes the list at most twice and sorts its addresses once.
     pub(crate) fn advance<B: Allocator>(
         &mut self,
         alloc: A,
@@ -79,7 +80,7 @@ impl<A: Allocator + Copy> Untried<A> {
 }
 
 impl<A: Allocator> Untried<A> {
-    // The addresses of both answers are to be sorted again.
+    // Makes the next list sort the addresses of both answers again.
     pub(crate) fn forget_order(&mut self)
         ensures { self.new ≡ record self.old { sorted = [] } }
     {
@@ -93,7 +94,7 @@ impl<A: Allocator> Untried<A> {
         self.next >= self.ips.len()
     }
 
-    // Takes the first address out of the queue.
+    // Takes the first address from the queue.
     pub(crate) fn take(&mut self) -> Ip
         requires { 0 < length self.old.ips }
         ensures first { slice_get self.old.ips 0 ≡ Some result }
@@ -105,7 +106,7 @@ impl<A: Allocator> Untried<A> {
     }
 }
 
-// Keeps the addresses that no attempt tries.
+// Keeps the addresses that no attempt has tried.
 fn keep_untried<A: Allocator + Copy>(
     alloc: A,
     done: &[Attempt],
@@ -133,7 +134,7 @@ fn keep_untried_by_few<A: Allocator>(done: &[Attempt], ips: &mut Vec<Ip, A>)
     ips.retain(|ip| !is_tried(done, *ip));
 }
 
-// Whether the answer is included in the list for the tick, where it was by the last start or not.
+// Whether the list for the tick includes the answer, given whether it was received by the last start.
 fn is_included<A: Allocator>(
     timeline: &Timeline<A>,
     family: Family,

@@ -40,7 +40,7 @@ fn new_settings_have_no_floor(rt: HostRuntime) {
     assert!(rt; floor == None);
 }
 
-// A race of both answers at tick 20: its IPv6 addresses, what its addresses do, and a pause.
+// A race of both answers at tick 20: its IPv6 addresses, the outcomes of its addresses, and a pause.
 #[derive(Drop)]
 struct Race<'c> {
     settings: Result<Settings, Range>,
@@ -182,8 +182,8 @@ fn no_floor_while_another_attempt_runs(rt: HostRuntime) {
     assert!(rt; has_transcript(&heap, &race, &lines, Outcome3::Limit(1_000)) == Some(true));
 }
 
-// A success is no failure: the next attempt would start after the Connection Attempt Delay, and the race is won
-// before.
+// A success is no failure: the next attempt is due after the Connection Attempt Delay, and the race is won before
+// that.
 #[test]
 fn no_floor_after_a_success(rt: HostRuntime) {
     let heap = Refusing::new(rt.alloc());

@@ -5,7 +5,7 @@ use he_select::{Host, Policy, Route, Source};
 use he_timeline::{Settings, TimelineBuilder};
 use refusing::Refusing;
 
-/// A host by what is special about it.
+/// A host, by its peculiarity.
 #[derive(Clone, Copy)]
 pub enum HostKind {
     /// One source and one route of each family.
@@ -43,7 +43,7 @@ fn route(prefix: Prefix) -> Route {
     }
 }
 
-// 0.0.0.0/0, and ::/0 where the host has it
+// 0.0.0.0/0, and ::/0 if the host has it
 fn host<'h>(heap: &'h Refusing, kind: HostKind) -> Option<Host<&'h Refusing>> {
     let routes = [
         route(Prefix::new(0xffff_0000_0000, 96)),
@@ -56,7 +56,7 @@ fn host<'h>(heap: &'h Refusing, kind: HostKind) -> Option<Host<&'h Refusing>> {
     Host::new(heap, &sources(kind), &routes[..count]).ok()
 }
 
-/// A builder over the standard policy table and this host; `None` only where memory was refused.
+/// A builder over the standard policy table and this host; `None` only if memory was refused.
 pub fn builder<'h>(
     heap: &'h Refusing,
     settings: Settings,

@@ -1,4 +1,4 @@
-// What is known of addresses from earlier: the orders and the race that follow from it.
+// Round trip times and earlier uses of addresses: the orders and the race that follow from them.
 
 use crate::hosts::{HostKind, builder};
 use he_addr::{Family, Ip, Prefix};
@@ -171,7 +171,7 @@ fn race_tries_the_quicker_address_first(rt: HostRuntime) {
     assert!(rt; is_won_by_the_quicker(&heap) == Some(true));
 }
 
-// What the calls answer, one after the other.
+// Whether the calls return these results, one after the other.
 fn are_refused_in_order(builder: &mut TimelineBuilder<&Refusing>) -> bool {
     builder.rtt(NEAR, 0) == Err(BuildFault::Range)
         && builder.rtt(V6_A, 3_600_001) == Err(BuildFault::Range)

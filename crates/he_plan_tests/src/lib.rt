@@ -1,6 +1,6 @@
-//! Tests of `he_plan` that no file of races can hold: want of memory, and a second, plain computation of plans; and of
-//! the floor after failures. What each call of a builder answers is in its clause, and the cases that are files have
-//! each of its faults.
+//! Tests of `he_plan` that no file of races can hold: want of memory, and a second, plain computation of plans; and
+//! of the floor after failures. The clause of each call of a builder specifies its result, and the cases that are
+//! files have each of its faults.
 #![tactic(auto)]
 
 #[cfg(test)]

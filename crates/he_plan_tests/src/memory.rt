@@ -1,4 +1,5 @@
-// Each growth refused in turn: a refused call answers `Memory`, and made again it answers what ample memory gives.
+// Each growth refused in turn: a refused call returns `Memory`, and made again it returns its result with ample
+// memory.
 
 use crate::hosts::{HostKind, builder};
 use he_addr::{Family, Ip, Memory};
@@ -7,7 +8,7 @@ use he_timeline::{BuildFault, Outcome, Settings, Timeline, TimelineBuilder};
 use refusing::{MOST_RUNS, Refusing};
 use std::mem::drop;
 
-// 2001:db8:1::1 and so on: so many that nine are tried before the A answer comes.
+// 2001:db8:1::1 and so on: enough that nine are tried before the A answer comes.
 const V6: [Ip; 10] = [
     V6_A,
     V6_B,
@@ -30,7 +31,7 @@ const V4_A: Ip = Ip::V4(0xc633_6401);
 
 const CALLS: usize = 6;
 
-// From this one on the calls record what happened.
+// The first call that adds to the record: an outcome, then a pause.
 const RECORD: usize = 4;
 
 // The call of this number.
@@ -45,7 +46,7 @@ fn make(builder: &mut TimelineBuilder<&Refusing>, number: usize) -> Result<(), B
     }
 }
 
-// The calls from this one on in turn, each made again where memory was refused; whether each was taken.
+// Makes the calls from this one on in turn, each again if memory was refused; whether each was taken.
 fn make_from(builder: &mut TimelineBuilder<&Refusing>, first: usize) -> bool {
     for number in first..CALLS {
         if make(builder, number) == Err(BuildFault::Memory) && make(builder, number).is_err() {
@@ -60,7 +61,7 @@ fn begun(heap: &Refusing) -> Option<TimelineBuilder<&Refusing>> {
     builder(heap, settings, HostKind::Usual)
 }
 
-// The timeline of the calls, and whether each was taken; none where memory was refused before the first of them.
+// The timeline of the calls, and whether each was taken; none if memory was refused before the first of them.
 fn built(heap: &Refusing) -> Option<(Timeline<&Refusing>, bool)> {
     let mut builder = begun(heap)?;
     let is_made = make_from(&mut builder, 0);
@@ -81,7 +82,7 @@ fn is_copied<'h>(heap: &'h Refusing, wanted: &Timeline<&'h Refusing>) -> Result<
     Ok(is_same)
 }
 
-// Without its record, and recorded again.
+// The timeline without its record, recorded again.
 fn is_recorded_again<'h>(
     heap: &'h Refusing,
     wanted: &Timeline<&'h Refusing>,
@@ -130,7 +131,7 @@ fn is_told<'h>(
 
 const QUESTIONS: usize = 5;
 
-// Whether the answer to the question of this number is as with ample memory.
+// Whether the answer to the question of this number is that with ample memory.
 fn ask<'h>(
     heap: &'h Refusing,
     wanted: &Timeline<&'h Refusing>,
@@ -146,7 +147,7 @@ fn ask<'h>(
     }
 }
 
-// Each question in turn, asked again where memory was refused.
+// Asks each question in turn, again if memory was refused.
 fn are_answered<'h>(
     heap: &'h Refusing,
     wanted: &Timeline<&'h Refusing>,
@@ -165,7 +166,7 @@ fn are_answered<'h>(
     true
 }
 
-// Whether all is well; none where memory was refused before the first call.
+// Whether all is well; none if memory was refused before the first call.
 fn is_well<'h>(
     heap: &'h Refusing,
     wanted: &Timeline<&'h Refusing>,
@@ -174,8 +175,8 @@ fn is_well<'h>(
     Some(is_built(heap, wanted)? && are_answered(heap, wanted, transcript))
 }
 
-// As `refused_in_turn` of `refusing`, to which no closure can be given that borrows a timeline over the heap: the
-// toolchain's borrow checker does not cover one.
+// Like `refused_in_turn` of `refusing`, which takes no closure that borrows a timeline over the heap: the toolchain's
+// borrow checker doesn't accept one.
 fn refused_over<'h>(heap: &'h Refusing, wanted: &Timeline<&'h Refusing>) -> Option<u64> {
     let transcript = transcript_of(heap, wanted).ok()?;
     for refused in 0..MOST_RUNS {

@@ -1,6 +1,6 @@
-// A second opinion on plans: each tick is asked whether an attempt may start on it, as the definitions say, and all
-// addresses, attempts and pauses are looked at again each time. Its answers are those of `plan` on timelines that are
-// drawn.
+// A second computation of plans: it checks for each tick whether an attempt may start on it, by the definitions, and
+// reads all addresses, attempts and pauses again each time. Its results are those of `plan` on pseudo-random
+// timelines.
 
 ghost use Rattle.std.specs.Prelude.{◌≡◌, ◌<◌, max};
 ghost use Rattle.std.specs.List.{list_all};
@@ -36,8 +36,7 @@ fn plain_plan<'h>(
     Ok(done)
 }
 
-// Whether the client may act at the tick and is to start the first attempt or, if it has an address to try, another
-// one.
+// Whether the client may act at the tick and starts the first attempt or, if it has an address to try, another one.
 fn may_start(timeline: &Timeline<&Refusing>, done: &[Attempt], tick: u64) -> bool {
     if seen(timeline.pauses(), tick) != tick {
         return false;
@@ -194,7 +193,7 @@ fn seen(pauses: &[(u64, u64)], tick: u64) -> u64 {
     seen
 }
 
-/// Numbers that look drawn and are the same in each run (Knuth's linear congruential generator).
+/// Pseudo-random numbers, equal in each run (Knuth's linear congruential generator).
 #[derive(Drop)]
 struct Drawn(u64);
 
@@ -210,7 +209,7 @@ impl Drawn {
     }
 }
 
-// The usable address of this number, or in its place one that is not.
+// The usable address of this number, or an unusable one in its place.
 fn address(family: Family, number: u32, is_usable: bool) -> Ip {
     match (family, is_usable) {
         (Family::V6, true) => Ip::V6(V6_A.wrapping_add(number as u128)),
@@ -342,7 +341,7 @@ fn draw_answers<'h>(
     draw_pauses(builder, drawn)
 }
 
-// How many attempts the plan has, if it is the plain one.
+// The number of attempts of the plan, if it is the plain one.
 fn same_plan<'h>(heap: &'h Refusing, timeline: &Timeline<&'h Refusing>) -> Option<usize> {
     let plan = plan(heap, timeline).ok()?;
     if is_plain_plan(heap, timeline, plan.attempts()).ok()? {
@@ -370,7 +369,7 @@ fn same_seen(timeline: &Timeline<&Refusing>) -> bool {
     true
 }
 
-// How many attempts the timeline has, if `plan` and `seen` answer as the plain ones.
+// The number of attempts of the timeline, if `plan` and `seen` return the plain results.
 fn same_attempts<'h>(heap: &'h Refusing, timeline: &Timeline<&'h Refusing>) -> Option<usize> {
     if same_seen(timeline) {
         same_plan(heap, timeline)
@@ -386,7 +385,7 @@ fn same_attempts_of_next(heap: &Refusing, drawn: &mut Drawn) -> Option<usize> {
     attempts
 }
 
-// How many attempts the drawn timelines have, if all of them are the plain ones.
+// The number of attempts of the pseudo-random timelines, if all of them are the plain ones.
 fn same_attempts_of_all(heap: &Refusing) -> Option<usize> {
     let mut drawn = Drawn(8_305);
     let mut attempts: usize = 0;

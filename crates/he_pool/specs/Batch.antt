@@ -1,4 +1,4 @@
--- Which jobs a batch of races has, and what the pass of a batch tells at its end.
+-- The jobs of a batch of races, and the notes of its pass at its end.
 use Rattle.std.specs.Prelude.{ℕ, ◌≡◌, ◌+◌, ◌-◌, ◌/◌, ◌%◌, if◌then◌else◌, List, [], ◌∷◌, map, Option, Some, count_by, nat_lt, slice_get}
 use Rattle.he_addr.specs.Ip.{is_usable}
 use Rattle.he_board.specs.declared.limits.TheConstants.{PLACES}
@@ -40,7 +40,7 @@ pub record IsOfSuccess (races : List Race) (offer : ℕ × ℕ) : Type 0 where
 abbrev pub HasTakenAll : List Race → View → Type 0
 HasTakenAll races v = (job : ℕ) → times job v.taken ≡ (if nat_lt job (batch_jobs races) then 1 else 0)
 
--- the winner of the race's attempts, where each comes to its end
+-- the winner of the race's attempts, if each runs to its end
 pub record IsWinnerOf (race : Race) (winner : Option (ℕ × ℕ)) : Type 0 where
   pub attempts : List Attempt
   pub are : AreAttempts race attempts

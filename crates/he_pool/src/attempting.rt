@@ -15,15 +15,15 @@ use he_plan::{Attempt, Fate, Plan, fate_of};
 use he_timeline::Timeline;
 use std::alloc::Allocator;
 
-// What is handed back of a job: its attempt's fate, or Skipped where it wasn't run.
+// The result of a job: its attempt's fate, or Skipped if it wasn't run.
 #[derive(Clone, Copy)]
 pub(crate) struct Done {
     pub(crate) job: usize,
     pub(crate) fate: Fate,
 }
 
-// Skips the attempt where it starts at or after the tick of the best offer so far. Else it takes the attempt's fate,
-// and offers a success.
+// Skips the attempt if it starts at or after the tick of the best offer so far. Otherwise runs it to its fate, and
+// offers a success.
 pub(crate) fn run_attempt<A: Allocator>(
     board: &Board<A>,
     pass: &mut Pass,
@@ -59,8 +59,7 @@ pub(crate) fn run_attempt<A: Allocator>(
     fate
 }
 
-// Runs the race's job of this place with its plan. Nothing is to be done, and it counts as skipped, where the plan has
-// no such place.
+// Runs the race's job at this place with its plan. If the plan has no such place, the job counts as skipped.
 pub(crate) fn run_job<A: Allocator>(
     board: &Board<A>,
     pass: &mut Pass,

@@ -20,21 +20,21 @@ use he_timeline::Timeline;
 use std::alloc::Allocator;
 use std::thread::Threads;
 
-/// The transcripts of the races, by so many workers that take their jobs from the board.
+/// Replays the races with this number of workers, which take their jobs from the board, and returns the transcripts.
 ///
 /// A race has one job for each usable address of its answers; jobs are numbered by race, then by place. Each worker
-/// tries every job once. It makes the race's plan with the first job that it takes of a race, skips an attempt that
-/// starts at or after the tick of the best offer so far, and else offers its success. The gate hears of all but the
-/// offer.
+/// tries every job once. With the first job that it takes of a race it makes the race's plan. It skips an attempt
+/// that starts at or after the tick of the best offer so far; otherwise it offers the attempt's success. The gate is
+/// called for each of these events but the offer.
 ///
-/// The board is new, and has at least as many races and jobs as the batch. The pass is the one that came with it, and
-/// comes back with all its parts, after `Memory` too. Whatever the number of workers and the order of their steps:
-/// each offer that it has noted is a success of its race; and where the batch is done, it has taken each job of the
-/// batch, once, and the least offer of a race is its winner, or there is neither.
+/// The board must be new, with at least as many races and jobs as the batch. The pass must be the one that came with
+/// it; it is returned with all its parts, even on `Memory`. Whatever the number of workers and the order of their
+/// steps: each offer in its notes is a success of that race; and if the batch is done, the pass has taken each job of
+/// the batch, once, and the least offer of a race is its winner, or there is neither.
 ///
 /// # Errors
 ///
-/// `Memory` where an allocation was refused. The other workers go on to their ends.
+/// `Memory` if an allocation failed. The other workers still run to their ends.
 pub fn replay_batch<R: Threads + Sync, A: Allocator + Copy + Send + Sync, G: Gate + Sync>(
     rt: &R,
     alloc: A,

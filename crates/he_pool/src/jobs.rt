@@ -11,7 +11,7 @@ use he_timeline::Timeline;
 use he_timeline::limits::MAX_ADDRESSES;
 use std::alloc::Allocator;
 
-/// How many jobs a batch of these races has: one for each usable address of an answer.
+/// The number of jobs of a batch of these races: one for each usable address of an answer.
 pub fn batch_jobs<A: Allocator>(timelines: &[Timeline<A>]) -> usize
     requires { length timelines.now ≤ RACES }
     ensures value { result ≡ batch_jobs timelines.now }
@@ -24,7 +24,7 @@ pub fn batch_jobs<A: Allocator>(timelines: &[Timeline<A>]) -> usize
     jobs
 }
 
-// The number of the first job of each race, and of all jobs.
+// The number of the first job of each race, followed by the number of all jobs.
 pub(crate) fn first_jobs<A: Allocator + Copy>(
     alloc: A,
     timelines: &[Timeline<A>],
@@ -43,7 +43,7 @@ pub(crate) fn first_jobs<A: Allocator + Copy>(
     Ok(firsts)
 }
 
-// One job for each usable address of the race's answers: at most `MAX_ATTEMPTS`.
+// The number of jobs of the race: one for each usable address of its answers, at most `MAX_ATTEMPTS`.
 fn job_count<A: Allocator>(timeline: &Timeline<A>) -> usize
     ensures value { result ≡ job_count timeline.now }
     ensures few { result ≤ PLACES }
@@ -51,7 +51,7 @@ fn job_count<A: Allocator>(timeline: &Timeline<A>) -> usize
     usable_in(timeline, Family::V6) + usable_in(timeline, Family::V4)
 }
 
-// The usable addresses of the family's answer.
+// The number of usable addresses of the family's answer.
 fn usable_in<A: Allocator>(timeline: &Timeline<A>, family: Family) -> usize
     ensures value { result ≡ count_by is_usable (addresses_of (reply_of timeline.now family)) }
     ensures few { result ≤ MAX_ADDRESSES }

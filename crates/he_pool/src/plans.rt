@@ -1,4 +1,4 @@
-//! By race a plan of it, or none.
+//! A list with the plan of each race, if one was made.
 ghost use Rattle.std.specs.Prelude.{◌≡◌, ◌<◌, IfSome, List, Some, length, slice_get};
 ghost use Rattle.he_plan.specs.Attempts.{AreAttempts};
 ghost use Rattle.he_timeline.specs.Race.{Race};
@@ -7,7 +7,7 @@ ghost use Rattle.he_pool.specs.Working.{ArePlans};
 use he_plan::Plan;
 use std::alloc::Allocator;
 
-// Puts the others to the plans. Where both have a plan of a race, the two are the same.
+// Adds the others to the plans. Two plans of one race are equal.
 pub(crate) fn join_plans<A: Allocator>(
     plans: &mut Vec<Option<Plan<A>>, A>,
     others: &mut Vec<Option<Plan<A>>, A>,
@@ -21,7 +21,7 @@ pub(crate) fn join_plans<A: Allocator>(
     }
 }
 
-// The plan of the race, of which none is left.
+// Takes the plan of the race out of the list.
 pub(crate) fn take_plan<A: Allocator>(
     plans: &mut Vec<Option<Plan<A>>, A>,
     number: usize,

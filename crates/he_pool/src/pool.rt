@@ -18,7 +18,7 @@ use std::alloc::Allocator;
 use std::thread;
 use std::thread::Threads;
 
-// Workers of a batch: so many, from this one on, of all.
+// A range of a batch's workers: `count` of all `workers`, from `first` on.
 #[derive(Clone, Copy)]
 pub(crate) struct Range {
     pub(crate) first: usize,
@@ -26,8 +26,8 @@ pub(crate) struct Range {
     pub(crate) workers: usize,
 }
 
-// Runs these workers. One runs on the calling thread, and more by halves that run at once. The pass comes back with
-// all its parts, whatever is refused.
+// Runs these workers: a single one on the calling thread, more as two halves that run at once. The pass is returned
+// with all its parts, even if an allocation fails.
 #[cycle(workers)]
 pub(crate) fn run_range<R: Threads + Sync, A: Allocator + Copy + Send + Sync, G: Gate + Sync>(
     rt: &R,
@@ -119,7 +119,7 @@ fn run_halves<R: Threads + Sync, A: Allocator + Copy + Send + Sync, G: Gate + Sy
     )
 }
 
-// What both halves did, by one pass.
+// The results of both halves, with one pass.
 fn join_halves<A: Allocator>(
     board: &Board<A>,
     left: (Pass, Result<Work<A>, Memory>),
@@ -141,7 +141,7 @@ fn join_halves<A: Allocator>(
     (pass, join_work(first, second))
 }
 
-// What both halves handed back, where neither was refused memory.
+// The results of both halves, if neither failed.
 fn join_work<A: Allocator>(
     first: Result<Work<A>, Memory>,
     second: Result<Work<A>, Memory>,

@@ -1,4 +1,4 @@
-//! What the workers of a batch handed back, made into transcripts.
+//! Makes transcripts from the results of a batch's workers.
 ghost use Rattle.std.specs.Prelude.{◌≡◌, ◌+◌, ◌<◌, ◌≤◌, ℕ, All, IfOk, IfSome, List, Ok, Some, length, replicate, set, slice_get, slice_range};
 ghost use Rattle.std.specs.List.{AllZip};
 ghost use Rattle.he_board.specs.declared.limits.TheConstants.{PARTS};
@@ -20,14 +20,14 @@ use he_addr::Memory;
 use he_board::Pass;
 use he_plan::{Fate, Plan, Transcript, plan, transcript_of_fates};
 use he_timeline::Timeline;
-use std::alloc::{AllocError, Allocator};
+use std::alloc::Allocator;
 
-// A fate of each job, by number: what was handed back of it, or Skipped.
+// A fate for each job, by number: the one returned for it, or Skipped.
 fn fates_by_job<A: Allocator + Copy>(
     alloc: A,
     jobs: usize,
     done: &[Done],
-) -> Result<Vec<Fate, A>, AllocError>
+) -> Result<Vec<Fate, A>, Memory>
     ensures { IfOk result (λ fates. fates.items ≡ filled done.now (replicate jobs Skipped)) }
 {
     let mut fates = skipped(alloc, jobs)?;
@@ -45,7 +45,7 @@ fn put<A: Allocator>(fates: &mut Vec<Fate, A>, task: Done)
     }
 }
 
-fn skipped<A: Allocator + Copy>(alloc: A, jobs: usize) -> Result<Vec<Fate, A>, AllocError>
+fn skipped<A: Allocator + Copy>(alloc: A, jobs: usize) -> Result<Vec<Fate, A>, Memory>
     ensures { IfOk result (λ fates. fates.items ≡ replicate jobs Skipped) }
 {
     let mut fates = Vec::with_capacity(alloc, jobs)?;
@@ -55,7 +55,7 @@ fn skipped<A: Allocator + Copy>(alloc: A, jobs: usize) -> Result<Vec<Fate, A>, A
     Ok(fates)
 }
 
-// The transcript of the race, from its plan and the fates of all jobs, of which its first one has this number.
+// The transcript of the race, from its plan and the fates of all jobs, in which its first job has the number `first`.
 fn tell<A: Allocator + Copy>(
     alloc: A,
     timeline: &Timeline<A>,
@@ -73,7 +73,7 @@ fn tell<A: Allocator + Copy>(
     transcript_of_fates(alloc, timeline, attempts, &fates[first..end], winner)
 }
 
-// The race's plan, which a worker may have made.
+// The race's plan: the one that a worker made, or a new one.
 fn plan_once<A: Allocator + Copy>(
     alloc: A,
     timeline: &Timeline<A>,
@@ -89,7 +89,7 @@ fn plan_once<A: Allocator + Copy>(
     }
 }
 
-// The transcript of a race, and its winner: the least offer that was made to it.
+// The transcript of a race, by its winner: the least offer to it.
 fn settle_race<A: Allocator + Copy, G>(
     batch: &Batch<A, G>,
     pass: &mut Pass,
@@ -121,7 +121,7 @@ fn settle_race<A: Allocator + Copy, G>(
     tell(batch.alloc, timeline, &attempts, fates, first, winner)
 }
 
-// The transcripts of all races, by what their workers handed back.
+// The transcripts of all races, from the plans and the fates of all jobs.
 fn settle_all<A: Allocator + Copy, G>(
     batch: &Batch<A, G>,
     pass: &mut Pass,
@@ -148,7 +148,7 @@ fn settle_all<A: Allocator + Copy, G>(
     Ok(transcripts)
 }
 
-// The transcripts of all races, from what the workers handed back.
+// The transcripts of all races, from the workers' results.
 pub(crate) fn settle<A: Allocator + Copy, G>(
     batch: &Batch<A, G>,
     pass: &mut Pass,

@@ -17,25 +17,25 @@ use he_plan::{Fate, Plan, plan};
 use he_timeline::Timeline;
 use std::alloc::Allocator;
 
-// What all workers of a batch share.
+// The data that all workers of a batch share.
 #[derive(Drop)]
 pub(crate) struct Batch<'a, A: Allocator, G> {
     pub(crate) alloc: A,
     pub(crate) timelines: &'a [Timeline<A>],
-    // The number of the first job of each race, and of all jobs.
+    // The number of the first job of each race, followed by the number of all jobs.
     pub(crate) firsts: &'a [usize],
     pub(crate) board: &'a Board<A>,
     pub(crate) gate: &'a G,
 }
 
-// What a worker hands back: a fate of each job that it took, and by race the plans that it made.
+// A worker's results: a fate for each job that it took, and by race the plans that it made.
 #[derive(Drop)]
 pub(crate) struct Work<A: Allocator> {
     pub(crate) done: Vec<Done, A>,
     pub(crate) plans: Vec<Option<Plan<A>>, A>,
 }
 
-// The number of the race's first job, and how many jobs it has.
+// The number of the race's first job, and the number of its jobs.
 pub(crate) fn jobs_of_race<A: Allocator, G>(batch: &Batch<A, G>, number: usize) -> (usize, usize)
     requires ready { IsReady batch.now.timelines.now batch.now.firsts.now batch.now.board.now }
     requires number { number < length batch.now.timelines.now }
@@ -49,8 +49,8 @@ pub(crate) fn jobs_of_race<A: Allocator, G>(batch: &Batch<A, G>, number: usize) 
     (first, batch.firsts[number + 1] - first)
 }
 
-// Takes the race's job of this place if nobody has, and runs it. Hands back the race's plan, which the first job that
-// is taken of a race needs to be made.
+// Takes the race's job at this place, if it is not yet taken, and runs it. Returns the race's plan, which is made
+// with the first job taken of a race.
 fn try_job<A: Allocator + Copy, G: Gate>(
     batch: &Batch<A, G>,
     pass: &mut Pass,
@@ -92,7 +92,7 @@ fn try_job<A: Allocator + Copy, G: Gate>(
     Ok(Some(attempts))
 }
 
-// The race's plan: the one that the worker has made before, or a new one, of which the gate is told.
+// The race's plan: the one that the worker has made before, or a new one, which is reported to the gate.
 fn plan_of<A: Allocator + Copy, G: Gate>(
     batch: &Batch<A, G>,
     worker: usize,
@@ -112,7 +112,7 @@ fn plan_of<A: Allocator + Copy, G: Gate>(
     Ok(attempts)
 }
 
-// Tells the gate of a job that was skipped.
+// Reports a skipped job to the gate.
 fn tell_skip<A: Allocator, G: Gate>(batch: &Batch<A, G>, worker: usize, job: usize, fate: Fate) {
     if let Fate::Skipped = fate {
         batch.gate.skipped(worker, job);
@@ -158,7 +158,7 @@ fn try_race<A: Allocator + Copy, G: Gate>(
     Ok(())
 }
 
-// Tries all jobs of the races of these numbers.
+// Tries all jobs of the races with these numbers.
 fn try_races<A: Allocator + Copy, G: Gate>(
     batch: &Batch<A, G>,
     pass: &mut Pass,
@@ -186,7 +186,7 @@ fn try_races<A: Allocator + Copy, G: Gate>(
     Ok(())
 }
 
-// Tries all jobs of the batch, those of this race and of the later ones first.
+// Tries all jobs of the batch, beginning with those of this race and the later ones.
 fn try_all<A: Allocator + Copy, G: Gate>(
     batch: &Batch<A, G>,
     pass: &mut Pass,
@@ -224,7 +224,7 @@ fn new_work<A: Allocator + Copy>(alloc: A, races: usize) -> Result<Work<A>, Memo
     })
 }
 
-// A worker's part of the batch: it tries all jobs, and begins at a race of its own.
+// Runs a worker: it tries all jobs, and begins at a race of its own.
 pub(crate) fn run_worker<A: Allocator + Copy, G: Gate>(
     batch: &Batch<A, G>,
     pass: Pass,

@@ -7,10 +7,10 @@ ghost use Rattle.he_print.specs.Escaping.{digit, escaped, is_plain, string_text}
 use he_addr::Memory;
 use std::alloc::Allocator;
 
-/// Appends a string with its quotation marks. A quotation mark and a backslash in it stand after a backslash, and a
-/// control character is written by its number; all else stands as it is. So nothing in it ends the string.
+/// Appends the bytes as a string, with quotation marks. A backslash precedes a quotation mark and a backslash; a
+/// control character is written by its number; all other bytes are unchanged. So no byte in it ends the string.
 ///
-/// After `Memory` a first part of it may have been appended.
+/// On `Memory` the beginning of the string may have been appended.
 pub fn write_string<A: Allocator>(bytes: &[u8], text: &mut Vec<u8, A>) -> Result<(), Memory>
     ensures { OnOk result (text.new.items ≡ text.old.items ++ string_text bytes.now) }
 {
@@ -66,7 +66,7 @@ fn write_byte<A: Allocator>(byte: u8, text: &mut Vec<u8, A>) -> Result<(), Memor
     Ok(())
 }
 
-// The digit to base 16.
+// A hexadecimal digit.
 fn digit(number: u8) -> u8
     requires { number < 16 }
     ensures { result ≡ digit number }

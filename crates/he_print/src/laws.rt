@@ -2,7 +2,8 @@
 
 ghost use Rattle.he_print.specs.Escaping.{StringsEnd, StringsAreLines};
 
-/// A string ends with its last quotation mark, whatever stands in it and after it, and no control character is in it.
+/// A string ends with its last quotation mark, whatever its bytes and the text after it, and has no control
+/// character.
 pub fn strings_end()
     ensures ends { StringsEnd }
     ensures lines { StringsAreLines }

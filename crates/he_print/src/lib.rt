@@ -1,10 +1,10 @@
-//! What is printed of races, for people and for scripts: words and facts.
+//! The printed texts of races, for people and for scripts, made of words and facts.
 //!
-//! A printer puts the [`Part`]s of its text into a vector ([`push_parts`]), and then writes them ([`write_parts`]).
-//! Of its text it is proved which facts stand in it, and in which order (`specs/Parts`): numbers, places, addresses,
-//! and what its words say. How they say it is no fact: words are free, so that a better sentence changes no theorem.
+//! A printer pushes the [`Part`]s of its text to a vector ([`push_parts`]), and then writes them ([`write_parts`]).
+//! It is proved which facts the text has, and in which order (`specs/Parts`): numbers, places, addresses, and the
+//! meaning of its words. The wording is free, so that a better sentence changes no theorem.
 //!
-//! [`write_string`] writes a name as a string of JSON, which nothing in it can end (`specs/Escaping`, [`laws`]).
+//! [`write_string`] writes a name as a JSON string, which no byte of the name can end (`specs/Escaping`, [`laws`]).
 #![tactic(auto)]
 
 mod escaping;

@@ -8,30 +8,30 @@ use he_addr::{Ip, Memory, write_ip, write_number};
 use itoa::Buffer;
 use std::alloc::Allocator;
 
-/// A part of a text. `S` is what words of the text say: how a race ended, why an attempt started, and so on.
+/// A part of a text. `S` is the meaning of words: how a race ended, why an attempt started, and so on.
 #[derive(Clone, Copy, Debug)]
 pub enum Part<S: Copy> {
-    /// Words that are no fact.
+    /// Words without meaning as a fact.
     Words(&'static [u8]),
 
-    /// Words that say this.
+    /// Words with this meaning.
     Says(S, &'static [u8]),
 
     Number(u64),
 
-    /// A number after as many spaces as it has digits less than this.
+    /// A number, aligned right to this width with spaces.
     Aligned(usize, u64),
 
-    /// A place, counted from 0. It is written counted from 1.
+    /// A place, counted from 0 and written counted from 1.
     Place(usize),
 
     Ip(Ip),
 
-    /// The words so many times: a bar of a picture, or spaces.
+    /// The words repeated this many times: a bar of a chart, or spaces.
     Repeated(usize, &'static [u8]),
 }
 
-/// What a text says.
+/// A fact that a text states.
 #[derive(Clone, Copy, Debug, PartialEq, Eq)]
 pub enum Fact<S: Copy> {
     Said(S),
@@ -41,7 +41,7 @@ pub enum Fact<S: Copy> {
     Times(usize),
 }
 
-/// Puts parts after others, and so their facts after those of the others.
+/// Appends parts to a text, and so their facts to its facts.
 pub fn push_parts<S: Copy, A: Allocator>(
     parts: &[Part<S>],
     text: &mut Vec<Part<S>, A>,
@@ -54,7 +54,7 @@ pub fn push_parts<S: Copy, A: Allocator>(
     Ok(())
 }
 
-/// Appends the text of parts. After `Memory` a first part of it may have been appended.
+/// Appends the text of the parts. On `Memory` the beginning of it may have been appended.
 pub fn write_parts<S: Copy, A: Allocator + Copy>(
     parts: &[Part<S>],
     text: &mut Vec<u8, A>,

@@ -1,4 +1,4 @@
--- Where connections go that stay in the event loop.
+-- The destinations of connections that stay in the event loop.
 use Rattle.std.specs.Prelude.{◌≡◌, ℕ, Option, Some, None, Result, Ok, Err}
 use Rattle.std.specs.declared.io.Error.{Error}
 use Rattle.tokio.specs.Net.{stream_writable}
@@ -10,14 +10,14 @@ use Rattle.he_proxy.specs.Access.{Reaches}
 use Rattle.he_proxy.specs.declared.access.Reach.{Reach}
 use Rattle.he_proxy.specs.declared.dial.Joined.{Joined}
 
--- the connection was asked for at the address and the endpoint's port, which the client's races reach by the kernel's
+-- the connection was made to the address and the endpoint's port, which the client's races may reach by the kernel's
 -- answer for this address
 pub record GoesTo (reach : Reach) (to : Endpoint) (ip : Ip) (joined : Joined) : Type 0 where
   pub socket : IsSocketOf ip to joined.to
   pub answered : joined.way.to ≡ ip
   pub reached : Reaches reach joined.way to.port
 
--- a connection that is being made waits to be writable
+-- a connection attempt waits to be writable
 abbrev pub DialNeeds : Option (Result TcpStream Error) → ℕ → Type 0
 DialNeeds (Some (Ok stream)) source = source ≡ stream_writable stream
 DialNeeds (Some (Err error)) source = ⊥

@@ -1,4 +1,4 @@
--- How the look-up of a host begins, and which addresses are kept of a host.
+-- The start of a host's look-up, and the cached addresses of a host.
 use Rattle.std.specs.Prelude.{◌≡◌, ◌⊎◌, ◌++◌, ℕ, List, Option}
 use Rattle.std.specs.Global.{Vec}
 use Rattle.he_addr.specs.declared.ip.Family.{Family}
@@ -12,7 +12,7 @@ use Rattle.he_resolver.specs.Begins.{BeginsFor}
 use Rattle.he_resolver.specs.declared.lookup.Source.{Source}
 use Rattle.he_resolver.specs.declared.lookup.Source.TheVariants as sources
 
--- those of an answer for this family of the host, which counts in some second
+-- the addresses of a cached answer for this family of the host, valid in some second
 abbrev pub AreKeptFor : List ℕ → Family → List Ip → Type 0
 AreKeptFor host family ips =
     (answer : KeptAnswer) × (now : ℕ) × Serves answer now host family × (ips ≡ answer.ips.items)
@@ -22,7 +22,7 @@ abbrev pub AreKeptOf : List ℕ → Option Family → List Ip → Type 0
 AreKeptOf host only ips =
     (known : KeptHost) × (now : ℕ) × IsOfHost only known now host × (ips ≡ ips_in known.six ++ ips_in known.four)
 
--- the look-up begins as that of the host does, or it answers with what is kept of the host
+-- the look-up begins like the host's own, or answers with the host's cached addresses
 abbrev pub BeginsBy : {R : Type 0} → ConnectRequest → Source R → Type 0
 BeginsBy request source =
     BeginsFor request.host.now request.resolver request.environment (only_of request.families) source

@@ -1,4 +1,4 @@
--- What a race hands out to the session that asked for it.
+-- The result of a race for its session.
 use Rattle.std.specs.Prelude.{ℕ, ◌≡◌, ⊤, Bool, List, Some, Result, Ok, Err, IfOk, slice_get}
 use Rattle.std.specs.Net.Socket.{socket_ip}
 use Rattle.std.specs.declared.net.socket_addr.SocketAddr.{SocketAddr}
@@ -27,7 +27,7 @@ use Rattle.he_proxy.specs.declared.access.Reach.{Reach}
 use Rattle.he_proxy.specs.declared.dial.Joined.{Joined}
 use Rattle.he_proxy.specs.declared.request.ProxyRequest.{ProxyRequest}
 
--- the race was won at this place and tick: by the address, after so many milliseconds, of which it lost so many
+-- the race was won at this place and tick: by this address, in this number of milliseconds, of which it lost `lost`
 pub record IsWinner (recorded : Race) (report : Report) (winner : Winner) : Type 0 where
   pub place : ℕ
   pub won : report.result ≡ results.Won place winner.ticks
@@ -38,19 +38,19 @@ pub record IsWinner (recorded : Race) (report : Report) (winner : Winner) : Type
   pub is_course : IsCourse recorded 1 1 course
   pub lost : lost course ≡ Some winner.lost
 
--- the winner of this race is handed out, with its connection
+-- the result is this race's winner, with its connection
 pub record IsWonOf (raced : Raced Joined) (won : Won TcpStream) : Type 0 where
   pub winner : IsWinner raced.recorded raced.transcript won.winner
   pub joined : Joined
   pub is_winner : raced.winner ≡ Some joined
   pub stream : won.stream ≡ joined.stream
 
--- of the ends that a race may give, what is handed out: a winner only where the race gave one, and that one
+-- the results that the race may have: a winner only if the race gave one, and that one
 abbrev pub HandsOut : (Raced Joined → Type 0) → Result (Won TcpStream) Ended → Type 0
 HandsOut gives (Ok won) = (raced : Raced Joined) × gives raced × IsWonOf raced won
 HandsOut gives (Err ended) = ⊤
 
--- the race of a session is asked for so: for the host and the port of the session, in all else as the proxy is
+-- the request of a session's race: for the session's host and port, and otherwise as for the proxy
 pub record AsksFor (proxy : ProxyRequest) (host : List ℕ) (port : ℕ) (request : ConnectRequest) : Type 0 where
   pub host_is : request.host.now ≡ host
   pub port_is : request.port ≡ port
@@ -60,20 +60,20 @@ pub record AsksFor (proxy : ProxyRequest) (host : List ℕ) (port : ℕ) (reques
   pub resolver : request.resolver ≡ proxy.resolver
   pub environment : request.environment ≡ proxy.environment
 
--- what the races of a client reach: the places of the proxy are these, the client is this one, and private addresses
--- are allowed to clients from elsewhere where the proxy allows them
+-- the reach of a client's races: these places of the proxy, this client, and private addresses for clients of other
+-- machines if the proxy allows them
 pub record IsReachOf (places : List Place) (allows : Bool) (client : SocketAddr) (reach : Reach) : Type 0 where
   pub own : reach.own.now ≡ places
   pub of_client : reach.client.ip ≡ ip_of (socket_ip client)
   pub allowed : reach.allows_private ≡ allows
 
--- the race that is set up was run: its record keeps what it began with and replays to its transcript, and its
--- connection goes to the address of the line that won, at the endpoint, where the client's races reach that
+-- the race of the set-up was run: its record keeps the start and replays to its transcript, and its connection goes
+-- to the address of the winning line, at the endpoint, which the client's races may reach
 pub record RunsFrom (start : Race) (to : Endpoint) (reach : Reach) (raced : Raced Joined) : Type 0 where
   pub replays : ReplaysGiven start raced
   pub goes : WinnerGoes (GoesTo reach to) raced
 
--- what is handed out is the winner of the race that is asked for: it began as he_connect has it, and was run so
+-- the result is the winner of the requested race: it started as in he_connect, and was run like this
 pub record IsWonFor (request : ConnectRequest) (reach : Reach) (won : Won TcpStream) : Type 0 where
   pub setup : Setup
   pub set_up : IsSetUp request setup
@@ -81,7 +81,7 @@ pub record IsWonFor (request : ConnectRequest) (reach : Reach) (won : Won TcpStr
   pub runs : RunsFrom setup.start setup.to reach raced
   pub handed : IsWonOf raced won
 
--- what is handed out to a session of the client, for the host at the port
+-- a result for a session of the client, for the host at the port
 pub record IsWonBy (proxy : ProxyRequest) (places : List Place) (client : SocketAddr) (host : List ℕ) (port : ℕ)
     (won : Won TcpStream) : Type 0 where
   pub request : ConnectRequest
@@ -90,6 +90,6 @@ pub record IsWonBy (proxy : ProxyRequest) (places : List Place) (client : Socket
   pub reaches : IsReachOf places proxy.allows_private client reach
   pub winner : IsWonFor request reach won
 
--- whatever it ends with, a winner that is handed out is so
+-- whatever it ends with, a winner that it gives satisfies this
 abbrev pub Wins : (Won TcpStream → Type 0) → (Result (Won TcpStream) Ended → Type 0) → Type 0
 Wins So gives = (end : Result (Won TcpStream) Ended) → gives end → IfOk end So

@@ -1,4 +1,4 @@
-//! What the races of one client may connect to.
+//! The targets that one client's races may connect to.
 ghost use Rattle.std.specs.Prelude.{◌≡◌, IsTrue};
 ghost use Rattle.std.specs.Net.Socket.{socket_ip};
 ghost use Rattle.he_addr.specs.Text.{ip_of};
@@ -20,7 +20,7 @@ pub fn place_of(socket: SocketAddr) -> Place {
     }
 }
 
-/// The address as `he_addr` has it.
+/// The address as an `Ip`.
 pub fn ip_of(ip: IpAddr) -> Ip
     ensures { result ≡ ip_of ip }
 {
@@ -30,8 +30,8 @@ pub fn ip_of(ip: IpAddr) -> Ip
     }
 }
 
-/// A client, and the address from which the kernel connects to it, which is the client's own where that is a program
-/// of this machine. None where the kernel has no way to it, and for a client of loopback, which is of this machine.
+/// A client, and the source from which the kernel connects to it, which is the client's own address if it is a
+/// program of this machine. None if the kernel has no way to it, and for a loopback client, which is on this machine.
 #[derive(Clone, Copy)]
 pub struct Client {
     pub ip: Ip,
@@ -39,7 +39,7 @@ pub struct Client {
 }
 
 impl Client {
-    /// The client of a socket, by what the kernel answers in its race.
+    /// The client of a socket, by the kernel's answer in its race.
     pub fn of<N: Net>(net: &N, asked: &AskedWays, socket: SocketAddr) -> Client
         ensures { result.ip ≡ ip_of (socket_ip socket) }
     {
@@ -52,7 +52,7 @@ impl Client {
         Client { ip, source }
     }
 
-    /// Whether it is a program of this machine.
+    /// Whether the client is a program of this machine.
     pub fn is_near(self) -> bool
         ensures { result ≡ is_here self.ip self.source }
     {
@@ -60,18 +60,18 @@ impl Client {
     }
 }
 
-/// What the races of one client may connect to.
+/// The targets that one client's races may connect to.
 #[derive(Clone, Copy)]
 pub struct Reach<'a> {
-    /// The places at which the proxy listens.
+    /// The places that the proxy listens at.
     pub own: &'a [Place],
     pub client: Client,
-    /// Whether clients of other machines reach addresses of this one and private ones too.
+    /// Whether clients of other machines may also reach private addresses and this machine's.
     pub allows_private: bool,
 }
 
 impl<'a> Reach<'a> {
-    // Whether the client reaches all but the proxy itself.
+    // Whether the client reaches everything but the proxy itself.
     fn is_wide(self) -> bool
         ensures { result ≡ is_wide self.entry }
     {
@@ -79,7 +79,7 @@ impl<'a> Reach<'a> {
     }
 
     /// Whether the client's races may connect to a destination at the port, by the kernel's answer for it. A client
-    /// from elsewhere reaches none where the kernel doesn't say from which address it would connect to it.
+    /// of another machine reaches none for which the kernel gives no source address.
     pub fn has(self, way: Way, port: u16) -> bool
         ensures { IsTrue result → Reaches self.entry way port }
     {

@@ -1,4 +1,4 @@
-//! Connections that are made in an event loop, and stay in it.
+//! Connections made in an event loop that stay in it.
 ghost use Rattle.std.specs.Prelude.{◌≡◌, IfOk};
 ghost use Rattle.futures.specs.Poll.{IfReady, OnPending};
 ghost use Rattle.futures.specs.Task.{Covers, Keeps};
@@ -20,8 +20,7 @@ use std::{io, net};
 use tokio::net::TcpStream;
 use tokio::reactor::Handle;
 
-/// A connection, with the address, the port and the interface that it was asked for, and what the kernel answered for
-/// that address.
+/// A connection, with the address, port and interface that it was made to, and the kernel's answer for that address.
 #[derive(Drop)]
 pub struct Joined {
     to: SocketAddr,
@@ -30,12 +29,12 @@ pub struct Joined {
 }
 
 impl Joined {
-    /// The address of this machine that it comes from. None where the system does not say.
+    /// Its local address. None if the system doesn't give it.
     pub fn source(&self) -> Option<Ip> {
         Some(ip_of(self.stream.local_addr().ok()?.ip()))
     }
 
-    /// The stream.
+    /// The stream of the connection.
     pub fn into_stream(self) -> TcpStream
         ensures { result ≡ self.stream }
     {
@@ -43,7 +42,7 @@ impl Joined {
     }
 }
 
-/// Connects to each address that is reached at one endpoint, and notes what happens to each attempt.
+/// Connects to each reachable address at one endpoint, and notes the steps of each attempt.
 #[derive(Drop)]
 pub struct LoopConnector<'h, N: Net> {
     net: &'h N,
@@ -88,7 +87,7 @@ impl<'h, N: Net> Connector for LoopConnector<'h, N> {
 
     ghost reaches = { λ connector ip joined. GoesTo connector.reach connector.to ip joined };
 
-    // An address that is not reached is an attempt that can't begin.
+    // An attempt at an address out of reach can't begin.
     fn begin(&mut self, place: usize, ip: Ip, now: u64) -> Result<LoopTrial, AttemptFault> {
         let way = self.asked.way(self.net, ip, self.to.scope);
         if !self.reach.has(way, self.to.port) {
@@ -110,13 +109,13 @@ impl<'h, N: Net> Connector for LoopConnector<'h, N> {
     }
 }
 
-/// The connection of an attempt while it is being made.
+/// A connection attempt in progress.
 #[derive(Drop)]
 pub struct LoopTrial {
     place: usize,
     way: Way,
     to: SocketAddr,
-    // None once its end was given.
+    // None after its result was given.
     dialing: Option<io::Result<TcpStream>>,
     steps: Steps,
 }
@@ -169,7 +168,7 @@ impl Trial for LoopTrial {
     }
 }
 
-// Begins a connection whose remote's vanishing is noticed once it is made.
+// Begins a connection with keepalive, which notices if the remote vanishes.
 fn begin_dialing<N: Net>(net: &N, reactor: &Handle, to: SocketAddr) -> io::Result<TcpStream> {
     let socket = mio::net::TcpStream::connect(net, to)?;
     keep_alive(&socket);
@@ -199,7 +198,7 @@ fn poll_dialing(
     }
 }
 
-// Ready once it is connected, or with why it can't be. A write of nothing says so: it would wait until then.
+// Ready once it is connected, or with the error. A write of no bytes finds out: it would block until then.
 fn poll_connected(stream: &mut TcpStream, cx: &mut Context<'_>) -> Poll<io::Result<()>>
     ensures same { stream.new ≡ stream.old }
     ensures registered { OnPending result (Covers cx.new (λ s. s ≡ stream_writable stream.new)) }

@@ -1,9 +1,10 @@
 //! Why a proxy doesn't serve.
 
+use he_addr::Memory;
 use he_connect::ConnectFault;
 use he_history::Cause;
 use he_live::Reason;
-use std::alloc::{AllocError, AllocFailed};
+use std::alloc::AllocFailed;
 use std::io;
 use std::net::SocketAddr;
 use thiserror::Error;
@@ -11,34 +12,34 @@ use thiserror::Error;
 /// Why a proxy doesn't serve.
 #[derive(Clone, Copy, Debug, PartialEq, Eq, Error)]
 pub enum ProxyFault {
-    /// The address can't be listened at.
+    /// The proxy can't listen at the address.
     #[error("cannot listen at {0}: {1}")]
     Listen(SocketAddr, Cause),
-    /// The address is open to others, and nobody else is allowed.
+    /// The address is open to other machines, but no network is allowed.
     #[error("{0} is open to other machines: say which may come by --allow NETWORK")]
     Open(SocketAddr),
-    /// The directory of the records can't be made or read.
+    /// The records' directory can't be made or read.
     #[error("cannot keep records there (--record): {0}")]
     Record(Cause),
-    /// The file of what is known of addresses can't be read or written.
+    /// The history file can't be read or written.
     #[error("cannot keep what is known of addresses there (--history): {0}")]
     History(Cause),
     /// The lines of the races can't be read.
     #[error("{0}")]
     Lines(ConnectFault),
-    /// The process or the machine has as many files open as it may.
+    /// The process or the machine has no descriptor left.
     #[error("too many open files")]
     Files,
-    /// The sockets' event loop could not be made or failed.
+    /// The event loop could not be made or failed.
     #[error("cannot run the sockets")]
     Runtime,
-    /// An allocation was refused.
+    /// An allocation failed.
     #[error("out of memory")]
     Memory,
 }
 
-impl From<AllocError> for ProxyFault {
-    fn from(_refused: AllocError) -> ProxyFault {
+impl From<Memory> for ProxyFault {
+    fn from(_refused: Memory) -> ProxyFault {
         ProxyFault::Memory
     }
 }
@@ -49,7 +50,7 @@ impl<T: Drop> From<AllocFailed<T>> for ProxyFault {
     }
 }
 
-// Of the event loop.
+// A fault of the event loop.
 impl From<io::Error> for ProxyFault {
     fn from(error: io::Error) -> ProxyFault {
         match Reason::of(&error) {

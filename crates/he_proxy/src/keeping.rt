@@ -1,4 +1,4 @@
-//! What a race comes to that has ended, and the keeping of its record.
+//! The result of an ended race, and its record.
 ghost use Rattle.std.specs.Prelude.{◌≡◌, IfOk, IfSome};
 ghost use Rattle.he_write.specs.Written.{timeline_text};
 ghost use Rattle.he_proxy.specs.Races.{IsWinner, IsWonOf};
@@ -20,7 +20,7 @@ use he_sessions::{Winner, Won};
 use he_timeline::Timeline;
 use he_turns::Raced;
 use he_write::write_timeline;
-use std::alloc::{AllocError, AllocGlobal, Global};
+use std::alloc::{AllocGlobal, Global};
 use std::cell::Cell;
 use std::mem::drop;
 use std::net::{Net, SocketAddr};
@@ -29,23 +29,23 @@ use std::rt::Files;
 use std::time::Clock;
 use tokio::net::TcpStream;
 
-/// What is to be known of a race at its end.
+/// The parts that a race needs at its end.
 #[derive(Drop)]
 pub struct Keeping<'h, R> {
     pub shared: SharedLoop<'h, R>,
-    /// Where its record goes.
+    /// The directory of its record.
     pub records: Option<&'h Records>,
-    /// Where it is shown.
+    /// The page that shows it.
     pub recent: &'h Recent,
-    /// Where what it says of addresses is kept.
+    /// The history that its results go to.
     pub known: &'h KnownAddresses,
-    /// Where what the log says of it is noted.
+    /// The log's facts of it.
     pub facts: &'h SessionFacts,
-    /// Who asked for it.
+    /// The client of its session.
     pub client: SocketAddr,
-    /// The client that left last while its race ran.
+    /// The last client that left during its race.
     pub left: &'h Cell<Option<SocketAddr>>,
-    /// When it began, as the name of its record has it.
+    /// When it began, as in the name of its record.
     pub began: String,
     pub host: String,
     pub port: u16,
@@ -55,7 +55,7 @@ pub struct Keeping<'h, R> {
 }
 
 impl<'h, R: Clock + Files + RandomSource + AllocGlobal + Net + Copy> Keeping<'h, R> {
-    /// Where the race's client has left, has the race end when it is polled next.
+    /// If the race's client has left, has the race end at its next poll.
     pub fn hear_leaving(&self) {
         if self.left.get() == Some(self.client) {
             self.left.set(None);
@@ -63,8 +63,8 @@ impl<'h, R: Clock + Files + RandomSource + AllocGlobal + Net + Copy> Keeping<'h,
         }
     }
 
-    /// Keeps the record of the race and what it says of addresses, and hands out its winner, or why there is none. Of
-    /// a race that was given up it keeps the record up to there, and hands out nothing.
+    /// Keeps the record of the race and its results for addresses, and returns its winner, or why there is none. Of a
+    /// race that was given up it keeps the record up to then, and returns no winner.
     pub fn end(&self, raced: Raced<Joined>) -> Result<Won<TcpStream>, Ended>
         ensures { IfOk result (IsWonOf raced) }
     {
@@ -78,7 +78,7 @@ impl<'h, R: Clock + Files + RandomSource + AllocGlobal + Net + Copy> Keeping<'h,
         }
     }
 
-    // Keeps the race that ended, and hands out its winner, or why there is none.
+    // Keeps the ended race, and returns its winner, or why there is none.
     fn hand_out(&self, raced: Raced<Joined>) -> Result<Won<TcpStream>, Ended>
         ensures { IfOk result (IsWonOf raced) }
     {
@@ -122,7 +122,7 @@ impl<'h, R: Clock + Files + RandomSource + AllocGlobal + Net + Copy> Keeping<'h,
         Ok(())
     }
 
-    // Takes what the race says of addresses.
+    // Takes the race's results for addresses.
     fn learn(&self, recorded: &Timeline, transcript: &Transcript, source: Option<Ip>) {
         let learnt = Learnt {
             source,
@@ -131,7 +131,7 @@ impl<'h, R: Clock + Files + RandomSource + AllocGlobal + Net + Copy> Keeping<'h,
         self.known.learn(self.shared.rt, transcript, learnt);
     }
 
-    // Keeps the record, where records are kept, and notes what the log says of the race.
+    // Keeps the record, if records are kept, and notes the log's facts of the race.
     fn keep(
         &self,
         recorded: &Timeline,
@@ -152,8 +152,8 @@ impl<'h, R: Clock + Files + RandomSource + AllocGlobal + Net + Copy> Keeping<'h,
         self.facts.note(self.client, facts);
     }
 
-    // Writes the record, where records are kept; gives the name of its file. Where it can't be written, the session
-    // goes on, and the log says why.
+    // Writes the record, if records are kept, and returns the name of its file. If it can't be written, the session
+    // goes on, and the log has the reason.
     fn record(&self, recorded: &Timeline) -> Option<String> {
         let records = self.records?;
         let mut text = Vec::new(self.shared.alloc);
@@ -166,7 +166,7 @@ impl<'h, R: Clock + Files + RandomSource + AllocGlobal + Net + Copy> Keeping<'h,
         records.keep(self.shared.rt, name, text.as_slice())
     }
 
-    // Shows the race on the page of the last ones.
+    // Shows the race on the page of the last races.
     fn show(&self, recorded: Timeline) {
         let (began, host, port) = (&self.began, &self.host, self.port);
         match format!(in self.shared.alloc; "{host} port {port}, {began}") {
@@ -175,7 +175,7 @@ impl<'h, R: Clock + Files + RandomSource + AllocGlobal + Net + Copy> Keeping<'h,
         }
     }
 
-    // Why a race has no winner, where it has none.
+    // Why a race has no winner, if it has none.
     fn lost(
         &self,
         winner: &Result<Option<Winner>, Memory>,
@@ -188,7 +188,7 @@ impl<'h, R: Clock + Files + RandomSource + AllocGlobal + Net + Copy> Keeping<'h,
         }
     }
 
-    // Why there is no address, or of the attempts what says most.
+    // Why there is no address, or the most telling result of the attempts.
     fn lost_of(&self, transcript: &Transcript) -> Lost {
         if let Some(fault) = self.noted.why.families().nameless(self.families) {
             return Lost::of_names(fault);
@@ -218,7 +218,7 @@ impl<'h, R: Clock + Files + RandomSource + AllocGlobal + Net + Copy> Keeping<'h,
     }
 }
 
-// What attempts can end with, what says most of the target first.
+// The results of failed attempts, the most telling about the target first.
 const TELLING: [Lost; 6] = [
     Lost::Forbidden,
     Lost::AllFailed,
@@ -228,15 +228,15 @@ const TELLING: [Lost; 6] = [
     Lost::NoDescriptor,
 ];
 
-// The addresses of the attempts, each once; none where memory is refused.
+// The addresses of the attempts, each once; none if an allocation fails.
 fn tried_in(alloc: Global, lines: &[Line]) -> Vec<Ip> {
     match lines.iter().map(|line| line.ip).collect(alloc) {
         Ok(tried) => tried,
-        Err(AllocError) => Vec::new(alloc),
+        Err(Memory) => Vec::new(alloc),
     }
 }
 
-// The winner of a race that was won, with what the race lost.
+// The winner of a race that was won, with the time that the race lost.
 fn winner_of(alloc: Global, raced: &Raced<Joined>) -> Result<Option<Winner>, Memory>
     ensures { IfOk result (λ winner. IfSome winner (IsWinner raced.now.recorded raced.now.transcript)) }
 {

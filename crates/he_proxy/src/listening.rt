@@ -1,4 +1,4 @@
-//! The sockets that clients come by.
+//! The sockets that accept clients.
 ghost use Rattle.std.specs.Prelude.{IfOk};
 ghost use Rattle.he_proxy.specs.Sockets.{MayAccept};
 
@@ -18,7 +18,7 @@ use std::{io, net};
 use tokio::net::{Incoming, TcpListener};
 use tokio::runtime::Handle;
 
-// The sockets that clients come by, and the places at which they listen.
+// The sockets that accept clients, and their places.
 #[derive(Drop)]
 pub(crate) struct Listening {
     pub(crate) sockets: SelectAll<Incoming>,
@@ -26,7 +26,7 @@ pub(crate) struct Listening {
 }
 
 impl Listening {
-    // Listens at the addresses that are asked for; with none, at loopback's.
+    // Listens at the requested addresses; without any, at the loopback addresses.
     pub(crate) fn begin<R: Net>(
         rt: &R,
         alloc: Global,
@@ -87,7 +87,7 @@ impl Listening {
     }
 }
 
-// An address that is open to others is listened at only where a network is allowed.
+// Refuses an address that is open to other machines, unless a network is allowed.
 fn refuse_open(address: SocketAddr, allow: &[Prefix]) -> Result<(), ProxyFault> {
     if allow.is_empty() && !is_loopback(ip_of(address.ip())) {
         return Err(ProxyFault::Open(address));
@@ -95,7 +95,7 @@ fn refuse_open(address: SocketAddr, allow: &[Prefix]) -> Result<(), ProxyFault> 
     Ok(())
 }
 
-// Whether nothing can listen there, since this machine lacks the address or its family.
+// Whether the fault is that this machine doesn't have the address or its family.
 fn is_no_address(fault: ProxyFault) -> bool {
     match fault {
         ProxyFault::Listen(_, cause) => cause.is_no_address(),
@@ -103,7 +103,7 @@ fn is_no_address(fault: ProxyFault) -> bool {
     }
 }
 
-// Listens there, for connections that notice where their remote vanishes.
+// Listens at the address, with keepalive for the connections.
 fn bind<R: Net>(rt: &R, address: SocketAddr, handle: &Handle) -> io::Result<TcpListener> {
     let socket = mio::net::TcpListener::bind(rt, address)?;
     keep_alive(&socket);

@@ -1,4 +1,4 @@
-//! The pages of the proxy itself.
+//! The proxy's own pages.
 
 use he_access::reach::Place;
 use he_addr::Memory;
@@ -6,23 +6,23 @@ use he_front::{Ended, Page, page_asked, write_advice, write_config, write_page};
 use he_history::Recent;
 use std::alloc::Global;
 
-/// A GET that is answered: its target, and the value of its field Host.
+/// A GET to answer: its target, and the value of its field Host.
 #[derive(Clone, Copy)]
 pub struct Asked<'a> {
     pub path: &'a [u8],
     pub host: Option<&'a [u8]>,
-    /// The place at which the client came.
+    /// The place that the client came to.
     pub at: Place,
-    /// Whether the client is of this machine.
+    /// Whether the client is on this machine.
     pub is_near: bool,
 }
 
-/// Appends the response: the page that is asked for, to a client of this machine that names the proxy itself; else
-/// that there is none, with a line that says how to use the proxy.
+/// Appends the response: the requested page, for a client of this machine that names the proxy itself; otherwise a
+/// 501 response with a line on how to use the proxy.
 ///
 /// # Errors
 ///
-/// `Memory` where an allocation was refused; a part of it may be there.
+/// `Memory` if an allocation fails; part of it may have been appended.
 pub fn write_answer(
     alloc: Global,
     recent: &Recent,

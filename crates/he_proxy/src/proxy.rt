@@ -1,4 +1,4 @@
-//! The proxy, and the loop that serves.
+//! The proxy and its event loop.
 
 ghost use Rattle.futures.specs.Runs.{AllItems};
 ghost use Rattle.he_proxy.specs.Sockets.{MayAccept};
@@ -21,6 +21,7 @@ use he_log::{Log, SessionFacts, TurnedAway};
 use he_sessions::{Limits, Racer};
 use std::alloc::{AllocGlobal, Global};
 use std::cell::Cell;
+use std::convert::Infallible;
 use std::io;
 use std::io::Write;
 use std::mem::drop;
@@ -32,18 +33,18 @@ use std::time::{Clock, Duration};
 use tokio::net::{Incoming, TcpStream};
 use tokio::runtime::LocalRuntime;
 
-/// Serves clients of SOCKS 5 and HTTP CONNECT: what they ask for is raced for by RFC 8305 and relayed. It goes on
-/// until a signal ends the process. What becomes of sessions is written to `faults`, as the request says.
+/// Serves clients of SOCKS 5 and HTTP CONNECT: races for their targets by RFC 8305, and relays. It runs until a
+/// signal ends the process. Sessions are logged to `faults`, as the request has it.
 ///
 /// # Errors
 ///
-/// Those of [`ProxyFault`]. With any but `Runtime` and `Memory` no client was served.
+/// Those of [`ProxyFault`]. After any but `Runtime` and `Memory` no client was served.
 pub fn serve<'a, R, F>(
     rt: &'a R,
     alloc: Global,
     request: &'a ProxyRequest<'a>,
     faults: F,
-) -> Result<(), ProxyFault>
+) -> Result<Infallible, ProxyFault>
 where
     F: Write + Drop,
     R: Wait + Clock + RandomSource + AllocGlobal + Net + Files + Copy,
@@ -52,13 +53,13 @@ where
     serve_read(rt, alloc, &request.with_lines(lines.as_deref()), faults)
 }
 
-// Serves what is asked for, whose lines are read where a file has them.
+// Serves the request, with its lines read if a file has them.
 fn serve_read<'a, R, F>(
     rt: &'a R,
     alloc: Global,
     request: &'a ProxyRequest<'a>,
     faults: F,
-) -> Result<(), ProxyFault>
+) -> Result<Infallible, ProxyFault>
 where
     F: Write + Drop,
     R: Wait + Clock + RandomSource + AllocGlobal + Net + Files + Copy,
@@ -98,7 +99,7 @@ where
     Err(ProxyFault::Runtime)
 }
 
-// Serves the clients of the sockets, with races over them.
+// Serves the clients of the sockets, with races on the event loop.
 fn race_sessions<'x, R, F>(
     runtime: &mut LocalRuntime,
     shared: SharedLoop<'x, R>,
@@ -119,7 +120,7 @@ where
     serve_racer(runtime, &racer, &racer, sockets)
 }
 
-// The same, with whatever races for them: the prover does not cover the two in one.
+// Serves the clients of the sockets with any racer: the prover does not cover both in one function.
 fn serve_racer<'x, R, Q, F>(
     runtime: &mut LocalRuntime,
     parts: &LoopRacer<'x, R, F>,
@@ -151,7 +152,7 @@ where
     serve_sockets(runtime, shared, &server, sockets, request.most)
 }
 
-// Serves the clients of the sockets, so many at once.
+// Serves the clients of the sockets, at most `most` at once.
 fn serve_sockets<'q, R, V, S>(
     runtime: &mut LocalRuntime,
     shared: SharedLoop<'q, R>,
@@ -170,7 +171,7 @@ where
     run(rt, alloc, runtime, clients, most)
 }
 
-// Runs the sessions as they come, so many at once.
+// Runs the sessions as they come, at most `most` at once.
 fn run<R, S, F>(
     rt: &R,
     alloc: Global,
@@ -189,7 +190,7 @@ where
     runtime.block_on(rt, running)
 }
 
-// The lines of the races, where a file has them: it is read once, and its lines are right.
+// The lines of the races, if a file has them: it is read once, and its lines are checked.
 fn read_lines_of<R: Files + AllocGlobal>(
     rt: &R,
     alloc: Global,
@@ -205,7 +206,7 @@ fn read_lines_of<R: Files + AllocGlobal>(
     }
 }
 
-// The lines of the file, with which a race begins.
+// The lines of the file, with which a race can start.
 fn read_right<R: Files + AllocGlobal>(
     rt: &R,
     alloc: Global,

@@ -1,4 +1,4 @@
-//! A race of a session: what it hands out, and that its record is kept.
+//! A session's race: its result, and its record.
 ghost use Rattle.std.specs.Prelude.{◌≡◌};
 
 use crate::dial::Joined;
@@ -16,12 +16,12 @@ use std::time::Clock;
 use tokio::net::TcpStream;
 use tokio::time::Sleep;
 
-/// A race that a session asks for, over whatever race there is. Once it has ended its record is kept.
+/// The race of a session, on top of any race. Its record is kept when it ends.
 #[derive(Drop)]
 pub struct LoopRace<'h, R, F: Drop> {
     race: F,
     keeping: Keeping<'h, R>,
-    // The attempts so far whose sockets have places in the event loop, and the timer that made them.
+    // The number of attempts so far whose sockets have places in the event loop, and the timer that made them.
     placed: usize,
     placing: Option<Sleep>,
 }

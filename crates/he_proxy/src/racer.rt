@@ -1,4 +1,4 @@
-//! What races for the sessions, over the sockets of the event loop.
+//! Races for the sessions, on the sockets of the event loop.
 ghost use Rattle.std.specs.Prelude.{◌≡◌, IfOk, Ok};
 ghost use Rattle.he_proxy.specs.Races.{AsksFor, IsReachOf, IsWonBy, RunsFrom, Wins};
 
@@ -20,7 +20,7 @@ use he_history::{Records, second_now, stamp_now};
 use he_kernel::asked::AskedWays;
 use he_log::{Facts, Lost};
 use he_sessions::{PageAsked, Racer, SessionEnd};
-use std::alloc::{AllocError, AllocGlobal};
+use std::alloc::AllocGlobal;
 use std::io;
 use std::io::Write;
 use std::mem::drop;
@@ -30,7 +30,7 @@ use std::rt::Files;
 use std::time::{Clock, Instant};
 use tokio::net::TcpStream;
 
-/// What races for the sessions, and reports on them.
+/// Races for the sessions, and reports on them.
 #[derive(Drop)]
 pub struct LoopRacer<'h, R, F: Drop> {
     pub shared: SharedLoop<'h, R>,
@@ -43,7 +43,7 @@ where
     R: Clock + RandomSource + AllocGlobal + Net + Files + Copy,
     F: Write + Drop,
 {
-    // What the client's races may connect to.
+    // The reach of the client's races.
     fn reach_of(&self, client: SocketAddr, asked: &AskedWays) -> Reach<'h>
         ensures { IsReachOf self.now.state.now.own.items self.now.request.now.allows_private client result }
     {
@@ -54,7 +54,7 @@ where
         }
     }
 
-    // The race as he_connect has it.
+    // The request of the race for he_connect.
     fn request_for<'a>(&self, host: &'a str, port: u16) -> ConnectRequest<'a>
     where
         'h: 'a,
@@ -73,7 +73,7 @@ where
         }
     }
 
-    // Begins a race for the session of a client.
+    // Begins a race for a client's session.
     fn begin(
         &self,
         client: SocketAddr,
@@ -91,7 +91,7 @@ where
         begun
     }
 
-    // Begins the race that is set up.
+    // Begins the race of the set-up.
     fn begin_from(
         &self,
         setup: &Setup<'_>,
@@ -146,7 +146,7 @@ where
     R: Clock + RandomSource + AllocGlobal + Net + Files + Copy,
     F: Write + Drop,
 {
-    // Notes why no race began for the client, for the log; gives what the client is answered.
+    // Notes for the log why no race began for the client, and returns the reply to the client.
     fn lose(&self, client: SocketAddr, fault: ConnectFault) -> Ended {
         let lost = match fault {
             ConnectFault::Name(fault) => Lost::of_names(fault),
@@ -158,7 +158,7 @@ where
         lost.ended()
     }
 
-    // Says once a minute and network that a client is turned away.
+    // Logs once a minute and network that a client is refused.
     fn tell_turned_away(&self, client: SocketAddr, ip: Ip) {
         let rt = self.shared.rt;
         if let Some(now) = second_now(rt)
@@ -212,7 +212,7 @@ where
         }
     }
 
-    fn page(&self, asked: &PageAsked<'_>, out: &mut Vec<u8>) -> Result<(), AllocError> {
+    fn page(&self, asked: &PageAsked<'_>, out: &mut Vec<u8>) -> Result<(), Memory> {
         let PageAsked {
             client,
             at,
@@ -228,7 +228,7 @@ where
         };
         match write_answer(self.shared.alloc, &self.state.recent, asked, out) {
             Ok(()) => Ok(()),
-            Err(Memory) => Err(AllocError),
+            Err(Memory) => Err(Memory),
         }
     }
 

@@ -1,4 +1,4 @@
-//! What is done with clients: a session for each that is served.
+//! Handles clients: a session for each that is served.
 ghost use Rattle.std.specs.Prelude.{IfSome};
 
 use crate::sockets::SharedLoop;
@@ -11,7 +11,7 @@ use std::net::SocketAddr;
 use std::time::{Clock, Instant};
 use tokio::net::TcpStream;
 
-/// What each session is made with.
+/// The parts of each session.
 #[derive(Drop)]
 pub struct Server<'q, K, Q, F: Drop> {
     pub shared: SharedLoop<'q, K>,

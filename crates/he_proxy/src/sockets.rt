@@ -1,4 +1,4 @@
-//! The race of a session over the sockets of the event loop.
+//! The race of a session on the sockets of the event loop.
 ghost use Rattle.std.specs.Prelude.{◌≡◌, IfOk, IfSome, Ok};
 ghost use Rattle.futures.specs.Task.{Keeps};
 ghost use Rattle.he_resolver.specs.Heard.{IsSound};
@@ -12,7 +12,7 @@ use crate::source::{Earlier, RaceSource};
 use crate::ticks::{Progress, RaceTicker};
 use futures::Future;
 use futures::task::Context;
-use he_addr::Ip;
+use he_addr::{Ip, Memory};
 use he_connect::{ConnectFault, ConnectRequest, HostAnswers, LookupFaults, OwnMachine, Setup};
 use he_kept::KeptAnswers;
 use he_kernel::asked::AskedWays;
@@ -20,7 +20,7 @@ use he_live::{LiveTicker, Quiet, Steps};
 use he_resolver::Lookup;
 use he_settings::Wanted;
 use he_turns::ResolvingRace;
-use std::alloc::{AllocError, AllocGlobal, Global};
+use std::alloc::{AllocGlobal, Global};
 use std::net::Net;
 use std::random::RandomSource;
 use std::rt::Files;
@@ -28,7 +28,7 @@ use std::time::{Clock, Duration};
 use tokio::runtime::Handle;
 use tokio::time::Sleep;
 
-/// The race over the sockets of the event loop.
+/// The race on the sockets of the event loop.
 pub type SocketRace<'h, R> = ResolvingRace<
     LoopConnector<'h, R>,
     RaceSource<'h, R>,
@@ -44,13 +44,13 @@ pub struct SharedLoop<'h, R> {
 }
 
 impl<R: Clock> SharedLoop<'_, R> {
-    /// Makes places in the event loop for all sockets so far. Of a socket without one the loop forgets what it hears
-    /// before the socket's first poll, at the next tick: where a server greets and closes by then, its end would not
-    /// be seen. The timer that is given is to be held: the task is woken once when it goes.
+    /// Makes places in the event loop for all sockets so far. For a socket without a place, the loop loses the events
+    /// before the socket's first poll, which is at the next tick: if a server greets and closes by then, its end
+    /// would be missed. Keep the returned timer: the task is woken once when it is dropped.
     pub fn make_places(&self, cx: &mut Context<'_>) -> Option<Sleep>
         ensures { Keeps cx.old cx.new }
     {
-        // Places are made in the order of the sockets and timers, and where one is polled first.
+        // Places are made in the order of the sockets and timers, up to the one that is polled.
         let mut last = self
             .handle
             .time()
@@ -61,29 +61,29 @@ impl<R: Clock> SharedLoop<'_, R> {
     }
 }
 
-// Seconds, which no race takes.
+// Seconds; longer than any race.
 const NEVER: u64 = 86_400;
 
-/// What is noted of a race while it runs.
+/// The notes of a running race.
 #[derive(Drop)]
 pub struct Noted {
-    /// What happened to its attempts.
+    /// The steps of its attempts.
     pub steps: Steps,
     /// Why its families have no address.
     pub why: LookupFaults,
-    /// How far it is, and whether its client has left.
+    /// Its progress, and whether its client has left.
     pub progress: Progress,
-    /// What the kernel answers.
+    /// The kernel's answers.
     pub asked: AskedWays,
 }
 
 impl Noted {
-    /// Nothing has happened yet, but what the kernel was asked.
+    /// No notes but the kernel's answers.
     ///
     /// # Errors
     ///
-    /// `AllocError` where an allocation was refused.
-    pub fn new(alloc: Global, asked: AskedWays) -> Result<Noted, AllocError> {
+    /// `Memory` if an allocation fails.
+    pub fn new(alloc: Global, asked: AskedWays) -> Result<Noted, Memory> {
         Ok(Noted {
             steps: Steps::new(alloc)?,
             why: LookupFaults::new(alloc)?,
@@ -93,7 +93,7 @@ impl Noted {
     }
 }
 
-// A look-up of the host: of what is kept or known of it, or by name servers, which waits in the event loop.
+// A look-up of the host in the event loop: from cached or known addresses, or by name servers.
 fn look_up<'h, R>(
     shared: SharedLoop<'h, R>,
     setup: &Setup<'_>,
@@ -122,12 +122,12 @@ where
     Ok(Lookup::by_servers(rt, alloc, handle, wanted)?)
 }
 
-// The addresses that are kept of the host, where the answer of each family that is tried is.
+// The cached addresses of the host, if the answer of each family that is tried is cached.
 fn kept_ips<R: Clock>(
     shared: SharedLoop<'_, R>,
     request: &ConnectRequest<'_>,
     kept: &KeptAnswers,
-) -> Result<Option<Vec<Ip>>, AllocError>
+) -> Result<Option<Vec<Ip>>, Memory>
     ensures { IfOk result (λ found. IfSome found (λ ips. AreKeptOf request.now.host.now
         (only_of request.now.families) ips.items)) }
 {
@@ -140,11 +140,11 @@ fn kept_ips<R: Clock>(
     }
 }
 
-/// The race that is set up, before its first turn.
+/// The race of the set-up, before its first turn.
 ///
 /// # Errors
 ///
-/// `Name` where the host can't be looked up, `Runtime` where the clock fails, `Memory`.
+/// `Name` if the host can't be looked up, `Runtime` if the clock fails, `Memory`.
 pub fn socket_race<'h, R>(
     shared: SharedLoop<'h, R>,
     setup: &Setup<'_>,

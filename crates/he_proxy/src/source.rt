@@ -1,4 +1,4 @@
-//! Where the answers of a race come from: its own look-up, or that of another race for the same host.
+//! The source of a race's answers: its own look-up, or that of another race for this host.
 ghost use Rattle.std.specs.Prelude.{◌≡◌, ◌≤◌, ◌⊎◌, IfOk, IfSome, None, Some, is_some, map, string_bytes};
 ghost use Rattle.futures.specs.Poll.{IfReady, OnPending};
 ghost use Rattle.futures.specs.Task.{Covers, Keeps};
@@ -11,7 +11,7 @@ ghost use Rattle.he_proxy.specs.Sources.{Asks, HasSameLines, HearsOwn, IsOfKept,
 use crate::sockets::Noted;
 use futures::Future;
 use futures::task::{Context, Poll};
-use he_addr::{Family, Ip};
+use he_addr::{Family, Ip, Memory};
 use he_connect::{HostAnswers, LookupFaults};
 use he_history::KnownAddresses;
 use he_kept::{Asking, KeptAnswer, KeptAnswers, Lifetime, Question};
@@ -20,21 +20,21 @@ use he_live::Quiet;
 use he_select::Known;
 use he_settings::NamesFault;
 use he_turns::{Answer, AnswerSource};
-use std::alloc::{AllocError, AllocGlobal, Global};
+use std::alloc::{AllocGlobal, Global};
 use std::net::Net;
 use std::random::RandomSource;
 use std::rt::Files;
 use std::time::Clock;
 use tokio::sync::Notified;
 
-/// What the races of a proxy share of earlier ones.
+/// The state that a proxy's races share with earlier ones.
 #[derive(Clone, Copy)]
 pub struct Earlier<'h> {
     pub kept: &'h KeptAnswers,
     pub known: &'h KnownAddresses,
 }
 
-// That the families of a host are asked for, each where it is noted and not answered yet.
+// The look-ups of a host's families, each until it is answered.
 #[derive(Drop)]
 struct AskedFor<'h> {
     six: Option<Asking<'h>>,
@@ -42,7 +42,7 @@ struct AskedFor<'h> {
 }
 
 impl<'h> AskedFor<'h> {
-    // Nothing is noted.
+    // No look-ups.
     fn nothing() -> AskedFor<'h> {
         AskedFor {
             six: None,
@@ -59,18 +59,18 @@ impl<'h> AskedFor<'h> {
     }
 }
 
-// Who asks for the host.
+// Which race does the look-up of the host.
 #[derive(Drop)]
 enum Turn<'h> {
-    // The race itself, and others may wait for it.
+    // This race; others may wait for it.
     Asks(AskedFor<'h>),
-    // Another race, until it is answered or goes away.
+    // Another race, until it is answered or ends.
     Waits(Notified<'h>),
 }
 
-/// The answers of a race. Where another race asks for the host, what that one gets is waited for; where it goes
-/// away first, or gets what isn't kept, the look-up of this one asks itself. What name servers answer is kept, and
-/// each address comes with what is known of it.
+/// The answers of a race. If another race does the look-up of the host, this one waits for its answers; if that race
+/// ends first, or gets an answer that isn't cached, this one does its own look-up. Name servers' answers are cached,
+/// and each address comes with its history.
 #[derive(Drop)]
 pub struct RaceSource<'h, R> {
     rt: &'h R,
@@ -78,7 +78,7 @@ pub struct RaceSource<'h, R> {
     answers: HostAnswers<'h, R, Quiet>,
     // Why a family has no address.
     why: LookupFaults,
-    // What the kernel answers in this race.
+    // The kernel's answers in this race.
     asked: AskedWays,
     host: String,
     earlier: Earlier<'h>,
@@ -89,18 +89,18 @@ impl<'h, R> RaceSource<'h, R>
 where
     R: Net + RandomSource + Clock + Files + AllocGlobal,
 {
-    /// The answers of this host, whose look-up notes why a family has none.
+    /// The answers for this host, whose look-up notes why a family has none.
     ///
     /// # Errors
     ///
-    /// `AllocError` where an allocation was refused.
+    /// `Memory` if an allocation fails.
     pub fn new(
         rt: &'h R,
         host: &str,
         answers: HostAnswers<'h, R, Quiet>,
         noted: &Noted,
         earlier: Earlier<'h>,
-    ) -> Result<RaceSource<'h, R>, AllocError> {
+    ) -> Result<RaceSource<'h, R>, Memory> {
         let alloc = rt.alloc();
         Ok(RaceSource {
             rt,
@@ -114,7 +114,7 @@ where
         })
     }
 
-    // What the look-up tells; it is kept.
+    // The look-up's answer, which is cached.
     fn poll_own(&mut self, family: Family, now: u64, cx: &mut Context<'_>) -> Poll<Answer>
         requires in_time { now ≤ MAX_POLL_TICK }
         ensures pending { OnPending result (HearsOwn ⟦<HostAnswers<'h, R, Quiet> as AnswerSource>⟧.hears self.old
@@ -140,7 +140,7 @@ where
         }
     }
 
-    // What the race that asks for the host is told, once that is kept.
+    // The answer of the race that does the look-up, once it is cached.
     fn poll_kept(&mut self, family: Family, cx: &mut Context<'_>) -> Poll<Answer>
         ensures ready { IfReady result (λ answer. IsOfKept (is_some self.old.answers.machine)
             (string_bytes self.old.host) family (Some (lists_of answer))) }
@@ -167,7 +167,7 @@ where
         cx.yield_now()
     }
 
-    // The addresses that are kept of the family of its host, of which there may be none.
+    // The cached addresses of the host's family, of which there may be none.
     fn kept_of(&self, family: Family) -> Option<Vec<Ip>>
         ensures { IfSome result (λ ips. AreKeptFor (string_bytes self.now.host) family ips.items) }
     {
@@ -186,7 +186,7 @@ where
         }
     }
 
-    // Keeps what a name server said of the family: its addresses, or that there are none.
+    // Caches a name server's answer for the family: its addresses, or that there are none.
     fn keep(&self, family: Family, answer: &Answer) {
         let ttl = self.answers.ttl(family);
         let fault = self.why.families().of(family);
@@ -201,13 +201,8 @@ where
         }
     }
 
-    // What is kept of an answer: that its own host has these addresses of the family.
-    fn to_keep(
-        &self,
-        family: Family,
-        answer: &Answer,
-        life: Lifetime,
-    ) -> Result<KeptAnswer, AllocError>
+    // The cache entry for an answer: its host has these addresses of the family.
+    fn to_keep(&self, family: Family, answer: &Answer, life: Lifetime) -> Result<KeptAnswer, Memory>
         ensures host { IfOk result (λ kept. string_bytes kept.question.host ≡ string_bytes self.now.host) }
         ensures family { IfOk result (λ kept. kept.question.family ≡ family) }
         ensures ips { IfOk result (λ kept. kept.ips.items ≡ map (λ known. known.ip) answer.now.known.items) }
@@ -220,7 +215,7 @@ where
         })
     }
 
-    // The answer, with what is known of its addresses.
+    // The answer, with the history of its addresses.
     fn with_known(&self, answer: Answer) -> Answer
         ensures { HasSameLines (lists_of answer) (lists_of result) }
     {
@@ -231,7 +226,7 @@ where
     }
 }
 
-// Another race's turn, where one asks for the host; else the race's own.
+// Waits for another race if that does the look-up of the host; otherwise starts one here.
 fn turn_for<'h>(kept: &'h KeptAnswers, host: &str) -> Turn<'h> {
     if kept.asked(host, Family::V6).is_some() || kept.asked(host, Family::V4).is_some() {
         return Turn::Waits(kept.answered.notified());
@@ -242,12 +237,12 @@ fn turn_for<'h>(kept: &'h KeptAnswers, host: &str) -> Turn<'h> {
     })
 }
 
-// Whether a name server said it: that there is no such name, or no address of it.
+// Whether it is a name server's answer: no such name, or no address.
 fn is_said(fault: NamesFault) -> bool {
     matches!(fault, NamesFault::NoAddress | NamesFault::NoSuchName)
 }
 
-fn ips_of(alloc: Global, known: &[Known]) -> Result<Vec<Ip>, AllocError>
+fn ips_of(alloc: Global, known: &[Known]) -> Result<Vec<Ip>, Memory>
     ensures { IfOk result (λ ips. ips.items ≡ map (λ known. known.ip) known.now) }
 {
     known.iter().map(|known| known.ip).collect(alloc)

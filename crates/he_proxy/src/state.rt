@@ -1,4 +1,4 @@
-//! What all sessions of a proxy share beside the event loop.
+//! The state that all sessions of a proxy share, beside the event loop.
 
 use he_access::reach::Place;
 use he_clients::{Beginning, Running};
@@ -8,7 +8,7 @@ use he_log::{Log, SessionFacts, TurnedAway};
 use std::cell::Cell;
 use std::net::SocketAddr;
 
-/// What all sessions of a proxy share beside the event loop.
+/// The state that all sessions of a proxy share, beside the event loop.
 #[derive(Drop)]
 pub struct ProxyState<F: Drop> {
     /// The places that the proxy listens at.
@@ -20,9 +20,9 @@ pub struct ProxyState<F: Drop> {
     pub beginning: Beginning,
     pub running: Running,
     pub log: Log<F>,
-    /// What the log says of sessions beside their ends.
+    /// The log's facts of sessions, beside their ends.
     pub facts: SessionFacts,
     pub turned_away: TurnedAway,
-    /// The client that left last while its race ran.
+    /// The last client that left during its race.
     pub left: Cell<Option<SocketAddr>>,
 }

@@ -1,14 +1,15 @@
 //! The ticks of a session's race, which ends once its client has left.
 
 use futures::task::Context;
+use he_addr::Memory;
 use he_live::{LiveTicker, Quiet};
 use he_turns::{TickFault, Ticker};
-use std::alloc::{AllocError, Global};
+use std::alloc::Global;
 use std::cell::Cell;
 use std::rc::Rc;
 use std::time::Clock;
 
-/// How far a race is, shared by its ticker and what keeps its record.
+/// The progress of a race, shared by its ticker and the keeper of its record.
 #[derive(Drop)]
 pub struct Progress {
     shared: Rc<State>,
@@ -16,7 +17,7 @@ pub struct Progress {
 
 #[derive(Drop)]
 struct State {
-    // The tick that was given last.
+    // The last tick given.
     last: Cell<u64>,
     has_left: Cell<bool>,
 }
@@ -26,8 +27,8 @@ impl Progress {
     ///
     /// # Errors
     ///
-    /// `AllocError` where an allocation was refused.
-    pub fn new(alloc: Global) -> Result<Progress, AllocError> {
+    /// `Memory` if an allocation fails.
+    pub fn new(alloc: Global) -> Result<Progress, Memory> {
         let state = State {
             last: Cell::new(0),
             has_left: Cell::new(false),
@@ -37,23 +38,23 @@ impl Progress {
         })
     }
 
-    /// The same progress, for another holder.
+    /// Another handle to this progress.
     ///
     /// # Errors
     ///
-    /// `AllocError` where there are too many holders.
-    pub fn share(&self) -> Result<Progress, AllocError> {
+    /// `Memory` if there are too many handles.
+    pub fn share(&self) -> Result<Progress, Memory> {
         Ok(Progress {
             shared: self.shared.clone()?,
         })
     }
 
-    /// The race's client has left: the race ends when it is polled next.
+    /// The race's client has left: the race ends at its next poll.
     pub fn leave(&self) {
         self.shared.has_left.set(true);
     }
 
-    /// The tick at which the race was given up, if it was: the first one after its last turn.
+    /// The tick at which the race was given up, if it was: one after the last tick given.
     pub fn given_up(&self) -> Option<u64> {
         if self.shared.has_left.get() {
             Some(self.shared.last.get().saturating_add(1))
@@ -63,7 +64,7 @@ impl Progress {
     }
 }
 
-/// The ticks of a live race, and once its client has left one that is past every limit.
+/// The ticks of a live race; once its client has left, a tick past every limit.
 #[derive(Drop)]
 pub struct RaceTicker<'h, K: Clock> {
     ticks: LiveTicker<'h, K, Quiet>,
@@ -71,7 +72,7 @@ pub struct RaceTicker<'h, K: Clock> {
 }
 
 impl<'h, K: Clock> RaceTicker<'h, K> {
-    /// These ticks, of a race whose progress is noted there.
+    /// These ticks, for a race with this progress.
     pub fn new(ticks: LiveTicker<'h, K, Quiet>, progress: Progress) -> RaceTicker<'h, K> {
         RaceTicker { ticks, progress }
     }

@@ -1,5 +1,5 @@
--- What a line says by itself: the forms of the lines, checked from left to right. First how many tokens there are,
--- then each token; the first that is wrong decides.
+-- The content of a line by itself: the forms of the lines. First the number of tokens is checked, then each token
+-- from left to right; the first wrong one decides.
 use Rattle.std.specs.Prelude.{ℕ, ◌&&◌, Bool, true, false, List, [], ◌∷◌, length, Result, Ok, Err, if◌then◌else◌, nat_le, nat_lt, codes, Option, Some, None}
 use Rattle.std.specs.Option.{ok_or}
 use Rattle.std.specs.Str.{bytes_eq}
@@ -69,7 +69,7 @@ source_address_in token = do
 abbrev pub interface_in : List ℕ → Result ℕ TextKind
 interface_in token = number_from least_interface most_u16 token
 
--- whether a source is deprecated, and whether it is temporary: the marks stand in this order
+-- whether a source is deprecated, and whether it is temporary: the marks appear in this order
 unfoldable pub source_marks_in : List (List ℕ) → Result (Bool × Bool) TextKind
 source_marks_in [] = Ok (false, false)
 source_marks_in (only ∷ []) =
@@ -125,7 +125,7 @@ unfoldable pub listed_in : Family → List (List ℕ) → Result (List Ip) TextK
 listed_in family (only ∷ []) = if bytes_eq only (codes "none") then Ok [] else addresses_in family (only ∷ [])
 listed_in family tokens = addresses_in family tokens
 
--- aaaa TICK none, aaaa TICK ADDRESS .. and the same of a
+-- aaaa TICK none, aaaa TICK ADDRESS .., and the line of `a`
 unfoldable pub answer_in : Family → List (List ℕ) → Result Reply TextKind
 answer_in family (number ∷ first ∷ more) =
     if nat_lt MAX_ADDRESSES (length (first ∷ more)) then Err kinds.TooMany
@@ -135,7 +135,7 @@ answer_in family (number ∷ first ∷ more) =
       Ok (record { tick = tick; addresses = ips })
 answer_in family _ = Err kinds.Word
 
--- an address that the race knows
+-- an address for which `known` holds
 unfoldable pub known_in : (Ip → Bool) → List ℕ → Result Ip TextKind
 known_in known token = do
   ip ← ok_or (ip_in token) kinds.Address
@@ -154,7 +154,7 @@ unfoldable pub used_in : (Ip → Bool) → List (List ℕ) → Result Ip TextKin
 used_in known (address ∷ []) = known_in known address
 used_in known _ = Err kinds.Word
 
--- what a connect does, by its mark
+-- the mark of a connect: whether it succeeds
 unfoldable pub mark_in : List ℕ → Result Bool TextKind
 mark_in token =
     if bytes_eq token (codes "ok") then Ok true else if bytes_eq token (codes "fail") then Ok false else Err kinds.Word
@@ -186,7 +186,7 @@ unfoldable pub word_of : List (List ℕ) → Result (Word × List (List ℕ)) Te
 word_of [] = Err kinds.Word
 word_of (token ∷ tokens) = ok_or (word_in token) kinds.Word >>= λ word. Ok (word, tokens)
 
--- what version 2 adds: the words `rtt` and `used`, and the setting `floor`
+-- the additions of version 2: the words `rtt` and `used`, and the setting `floor`
 abbrev pub names_floor : List (List ℕ) → Bool
 names_floor [] = false
 names_floor (token ∷ tokens) = bytes_eq token (name_spelling Floor)
@@ -205,7 +205,7 @@ of_version Two parts = Ok parts
 unfoldable pub version_word : Version → List (List ℕ) → Result (Word × List (List ℕ)) TextKind
 version_word version line = word_of line >>= of_version version
 
--- what a line says, by its word and the tokens after it, where these addresses are known
+-- the content of a line, from its word and the tokens after it, if these addresses are known
 unfoldable pub said_by : (Ip → Bool) → Word → List (List ℕ) → Result Said TextKind
 said_by known words.Set tokens = setting_in tokens >>= λ setting. Ok (Setting setting.0 setting.1)
 said_by known words.Policy tokens = row_in tokens >>= λ row. Ok (PolicyRow row)
@@ -225,7 +225,7 @@ said_from known word = word >>= λ parts. said_by known parts.0 parts.1
 abbrev pub said_in : (Ip → Bool) → List ℕ → Result Said TextKind
 said_in known line = said_from known (word_of (tokens_of line))
 
--- a setting that is right by itself, whose fault can only be that of all settings together
+-- a setting that is correct by itself: only the settings together can still have a fault
 abbrev pub word_of_setting : Result Said TextKind → Option Word
 word_of_setting (Ok (Setting name value)) = Some words.Set
 word_of_setting _ = None

@@ -1,5 +1,5 @@
--- Mirrors the code: what the private readers answer, as functions on lists. What the lines of a race are stands in
--- `Text`, what is wrong with them in `Faults`.
+-- Mirrors the code: the results of the private readers, as functions on lists. `Text` defines the lines of a race,
+-- `Faults` their faults.
 use Rattle.std.specs.Prelude.{ℕ, ◌≡◌, ◌⊎◌, ◌≤◌, ◌+◌, ◌++◌, ◌==◌, Bool, List, [], ◌∷◌, length, Option, Some, None, option_map, Result, Ok, Err, if◌then◌else◌, nat_le, nat_lt, unwrap_or, IfErr}
 use Rattle.std.specs.List.{list_any}
 use Rattle.std.specs.Option.{option_map_or}
@@ -35,11 +35,11 @@ use Rattle.he_reading.specs.Parts.{lines_of, tokens_of}
 use Rattle.he_words.specs.Words.{group_of, most_lines, is_end, header_in, is_head_word}
 use Rattle.he_words.specs.Kinds.{kind_of, table_kind, host_kind}
 
--- a call that failed did so as `read` does, or was refused memory
+-- a call that failed did so as `read` does, or because an allocation failed
 abbrev pub Fails : {B : Type 0} → TextKind → Result B TextKind → Type 0
 Fails kind read = (kind ≡ kinds.Memory) ⊎ (read ≡ Err kind)
 
--- some addresses, and then what is read of the others
+-- these addresses, followed by those that are read
 abbrev pub prepend : List Ip → Result (List Ip) TextKind → Result (List Ip) TextKind
 prepend ips read = read >>= λ more. Ok (ips ++ more)
 
@@ -47,13 +47,13 @@ abbrev pub built : Result Race BuildFault → Result Race TextKind
 built (Ok race) = Ok race
 built (Err fault) = Err (kind_of fault)
 
--- one more line of a word with a bound on its lines, of which there are so many
+-- one more line of a group with `lines` lines, if it has a maximum
 unfoldable pub counted : ℕ → Option (ℕ × TextKind) → ℕ → Result LastGroup TextKind
 counted group None lines = Ok (record { group = group; lines = 0 })
 counted group (Some most) lines =
     if nat_le most.0 lines then Err most.1 else Ok (record { group = group; lines = lines + 1 })
 
--- a line of the word, after lines of which the last one's group has so many
+-- a line of the word, after the lines so far
 unfoldable pub admit : Word → LastGroup → Result LastGroup TextKind
 admit word so_far =
     if nat_lt (group_of word) so_far.group then Err kinds.Word
@@ -82,12 +82,12 @@ abbrev pub ranged : {B R : Type 0} → Result B R → Result B TextKind
 ranged (Ok settings) = Ok settings
 ranged (Err range) = Err kinds.Range
 
--- the settings with the floor, where one is given
+-- the settings with the floor, if one is given
 abbrev pub floored : Option ℕ → SettingValues → Result SettingValues TextKind
 floored None settings = Ok settings
 floored (Some floor) settings = ranged (with_floor settings floor)
 
--- the settings, where one that isn't given has its default
+-- the settings, with defaults for those not given
 unfoldable pub settings_from : GivenSettings → Result SettingValues TextKind
 settings_from given = ranged (settings_of
     (unwrap_or given.resolution DEFAULT_RESOLUTION)
@@ -99,11 +99,11 @@ settings_from given = ranged (settings_of
 abbrev pub given_is_above : GivenSettings → Bool
 given_is_above given = is_above given.floor (unwrap_or given.attempt DEFAULT_ATTEMPT)
 
--- the settings of which no more come are to have a floor of at most the attempt delay
+-- if no more settings come, the floor must be at most the attempt delay
 abbrev pub settled : Bool → GivenSettings → Result GivenSettings TextKind
 settled more given = if more then Ok given else if given_is_above given then Err kinds.Range else Ok given
 
--- what the lines of the first four groups give
+-- the contents of the lines of the first four groups
 pub record HeadGiven : Type 0 where
   pub settings : GivenSettings
   pub rows : List Row
@@ -113,7 +113,7 @@ pub record HeadGiven : Type 0 where
 abbrev pub no_head : HeadGiven
 no_head = record { settings = none_given; rows = []; sources = []; routes = [] }
 
--- one more setting; whether more come
+-- one more setting; `more` if further ones come
 unfoldable pub add_setting : Bool → Name → ℕ → HeadGiven → Result HeadGiven TextKind
 add_setting more name value head =
     (put name value head.settings >>= settled more) >>=
@@ -122,7 +122,7 @@ add_setting more name value head =
 abbrev pub with_row : Row → HeadGiven → HeadGiven
 with_row row head = record head { rows = head.rows ++ row ∷ [] }
 
--- one more row; if no more come, the rows are to be a table
+-- one more row; if no more come, the rows must be a table
 unfoldable pub add_row : Bool → Row → HeadGiven → Result HeadGiven TextKind
 add_row more row head =
     if list_any (same_row row) head.rows then Err kinds.Repeated
@@ -139,7 +139,7 @@ add_route route head =
     if list_any (same_route route) head.routes then Err kinds.Repeated
     else Ok (record head { routes = head.routes ++ route ∷ [] })
 
--- a line of the first four groups; whether one of its word follows it
+-- a line of the first four groups; `more` if one of its word follows it
 unfoldable pub take_given : Bool → Word → List (List ℕ) → HeadGiven → Result HeadGiven TextKind
 take_given more words.Set tokens head = setting_in tokens >>= λ setting. add_setting more setting.0 setting.1 head
 take_given more words.Policy tokens head = row_in tokens >>= λ row. add_row more row head
@@ -151,7 +151,7 @@ abbrev pub told_by : {B F : Type 0} → (F → TextKind) → Result B F → Resu
 told_by kind (Ok x) = Ok x
 told_by kind (Err fault) = Err (kind fault)
 
--- the rows' table; where there is no row, the standard one
+-- the rows' table; the standard one if there is no row
 unfoldable pub policy_from : List Row → Result (List Row) TextKind
 policy_from [] = Ok standard_rows
 policy_from (row ∷ rows) = told_by table_kind (table_of (row ∷ rows))
@@ -159,7 +159,7 @@ policy_from (row ∷ rows) = told_by table_kind (table_of (row ∷ rows))
 unfoldable pub host_from : List Source → List Route → Result HostLists TextKind
 host_from sources routes = told_by host_kind (host_of sources routes)
 
--- the race in which nothing happens yet
+-- the race in which nothing has happened yet
 unfoldable pub race_begun : HeadGiven → Result Race TextKind
 race_begun head = do
   settings ← settings_from head.settings
@@ -199,7 +199,7 @@ take_line version line so_far race = do
   told ← take_told parts.0 parts.1 race
   Ok (parts.0, next, told)
 
--- whether a part is a whole line, by what stands after it
+-- whether a part is a whole line, by the parts after it
 abbrev pub ended_by : List (List ℕ) → Result (Unit {0}) TextKind
 ended_by [] = Err kinds.Unfinished
 ended_by (_ ∷ _) = Ok tt
@@ -213,7 +213,7 @@ abbrev pub at_line : {B : Type 0} → ℕ → Result B TextKind → Result B (�
 at_line n (Ok x) = Ok x
 at_line n (Err kind) = Err (n, kind)
 
--- reading on from line n: the race and what stands after it
+-- reads on from line n: the race and the text after it
 unfoldable pub read_body : Version → ℕ → LastGroup → Race → List (List ℕ)
     → Result (Race × List (List ℕ)) (ℕ × TextKind)
 read_body version n so_far race [] = Err (n, kinds.Unfinished)
@@ -226,11 +226,11 @@ abbrev pub head_part : Result (Word × List (List ℕ)) TextKind → Option (Wor
 head_part (Ok parts) = if is_head_word parts.0 then Some parts else None
 head_part (Err kind) = None
 
--- the word of a line and what follows it, if the word is of the first four groups
+-- the word of a line and the tokens after it, if the word is of the first four groups
 unfoldable pub head_of : Version → List (List ℕ) → Option (Word × List (List ℕ))
 head_of version line = head_part (version_word version line)
 
--- such a line, and whether it has a place, by what stands after it
+-- adds such a line, if it may appear there, given the lines after it
 unfoldable pub take_head : List (List ℕ) → Word × List (List ℕ) → LastGroup → HeadGiven
     → Result (LastGroup × HeadGiven) TextKind
 take_head after parts so_far head = do
@@ -238,7 +238,7 @@ take_head after parts so_far head = do
   more ← take_given (is_next parts.0 after) parts.0 parts.1 head
   Ok (next, more)
 
--- what follows the lines of the first four groups
+-- reads on after the lines of the first four groups
 unfoldable pub settle : Version → ℕ → LastGroup → HeadGiven → List (List ℕ)
     → Result (Race × List (List ℕ)) (ℕ × TextKind)
 settle version n so_far head lines = at_line n (race_begun head) >>= λ race. read_body version n so_far race lines
@@ -261,14 +261,14 @@ read_lines (line ∷ after) =
     at_line 1 (wholeness (line ∷ after)) >>= λ _.
     at_line 1 (header_in line) >>= λ version. read_head version 2 group_at_start no_head after
 
--- a text was read: its race, how many bytes stand after it, and how many lines it has
+-- a text was read: its race, the number of bytes after it, and the number of its lines
 pub record ReadsFirst (text : List ℕ) (race : Race) (left lines : ℕ) : Type 0 where
   pub rest : List ℕ
   pub counted : length rest ≡ left
   pub read : read_lines (lines_of text) ≡ Ok (race, lines_of rest)
   pub passed : lines + length (lines_of rest) ≡ length (lines_of text)
 
--- a failed reading did so at line n as `read` does, or was refused memory there, where nothing is wrong before this
--- line
+-- a failed reading failed at line n as `read` does, or because an allocation failed there, without a fault before
+-- this line
 abbrev pub FailsAt : {B : Type 0} → ℕ → TextKind → Result B (ℕ × TextKind) → Type 0
 FailsAt n kind read = ((kind ≡ kinds.Memory) × IfErr read (λ fault. n ≤ fault.0)) ⊎ (read ≡ Err (n, kind))

@@ -1,4 +1,4 @@
--- What the lines of a race say, and the race that they make.
+-- The contents of a race's lines, and the race that they make.
 use Rattle.std.specs.Prelude.{ℕ, Bool, List, [], ◌∷◌, Option, Some, None, if◌then◌else◌, unwrap_or}
 use Rattle.std.specs.List.{filter_map}
 use Rattle.std.specs.Str.{bytes_eq}
@@ -20,8 +20,8 @@ use Rattle.he_select.specs.declared.host.Route.{Route}
 use Rattle.he_select.specs.Hosts.{HostLists}
 use Rattle.he_select.specs.Standard.{standard_rows}
 
--- what a line says: a setting, a row of the policy table, a source or a route of the host, an answer, a round trip
--- time, an address that was used before, an outcome, a pause, or that the race ends
+-- the content of a line: a setting, a row of the policy table, a source or a route of the host, an answer, a round
+-- trip time, an address that was used before, an outcome, a pause, or the end of the race
 pub data Said : Type 0 where
   Setting : Name → ℕ → Said
   PolicyRow : Row → Said
@@ -34,7 +34,7 @@ pub data Said : Type 0 where
   Paused : ℕ → ℕ → Said
   Ended : Said
 
--- the word of the lines that say it
+-- the word of the lines with this content
 abbrev pub word_said : Said → Word
 word_said (Setting name value) = words.Set
 word_said (PolicyRow row) = words.Policy
@@ -92,7 +92,7 @@ abbrev pub at_front : {A : Type 0} → List A → Option A
 at_front [] = None
 at_front (x ∷ xs) = Some x
 
--- what the lines give: the value of a setting, a family's answer, and rows, sources, routes, round trip times,
+-- the values in the lines: that of a setting, a family's answer, and rows, sources, routes, round trip times,
 -- addresses used before, outcomes and pauses in their order
 abbrev pub setting_given : Name → List Said → Option ℕ
 setting_given name said = at_front (filter_map (setting_said name) said)
@@ -131,7 +131,7 @@ settings_given said = record {
   floor = setting_given Floor said;
 }
 
--- the given rows are the whole table; where none is given, the standard table holds
+-- the given rows are the whole table; if none is given, it is the standard table
 abbrev pub table_of_rows : List Row → List Row
 table_of_rows [] = standard_rows
 table_of_rows (row ∷ rows) = row ∷ rows

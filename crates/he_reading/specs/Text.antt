@@ -1,4 +1,4 @@
--- The texts of races: which lines stand in them, what they say, and the race that they make.
+-- The texts of races: their lines, the contents of these, and the race that they make.
 use Rattle.std.specs.Prelude.{false, ℕ, ◌≡◌, ◌⊎◌, ◌<◌, ◌≤◌, ◌&&◌, Bool, true, IsTrue, List, [], ◌∷◌, ◌++◌, length, Option, Some, nat_le, codes, MatchOption}
 use Rattle.std.specs.List.{AllByRecursion, AllZip, filter_map, list_all}
 use Rattle.he_addr.specs.declared.ip.Family.{Family}
@@ -40,7 +40,7 @@ abbrev pub answer_word : Family → Word
 answer_word families.V6 = words.Aaaa
 answer_word families.V4 = words.A
 
--- a line, by its tokens, and what it says
+-- a line, by its tokens, with its content
 abbrev pub Says : List ℕ → Said → Type 0
 Says line (Setting name value) =
     (number : List ℕ) × (tokens_of line ≡ spelling_of words.Set ∷ name_spelling name ∷ number ∷ [])
@@ -75,7 +75,7 @@ Says line (Paused from to) =
     × IsNumber 0 MAX_TICK first from × IsNumber least_pause_end MAX_PAUSE_END second to
 Says line Ended = ⊥
 
--- what a line may say where these addresses are known, besides how it is spelled
+-- a content that a line may have, if these addresses are known, apart from its spelling
 abbrev pub IsAllowed : (Ip → Bool) → Said → Type 0
 IsAllowed known (HostSource source) = IsTrue (is_usable source.ip)
 IsAllowed known (Answer family reply) = IsTrue (are_of family reply.addresses)
@@ -84,11 +84,11 @@ IsAllowed known (UsedBefore ip) = IsTrue (known ip)
 IsAllowed known (OutcomeOf ip outcome) = IsTrue (known ip)
 IsAllowed known said = Unit {0}
 
--- the group of the lines that say it
+-- the group of the lines with this content
 abbrev pub group_said : Said → ℕ
 group_said said = group_of (word_said said)
 
--- a text of the version may say it: version 2 adds round trip times, addresses used before, and the floor
+-- a text of the version may have it: version 2 adds round trip times, addresses used before, and the floor
 abbrev pub has_name : Version → Name → Bool
 has_name One Floor = false
 has_name version name = true
@@ -99,12 +99,12 @@ may_say One (RoundTrip ip rtt) = false
 may_say One (UsedBefore ip) = false
 may_say version said = true
 
--- the groups never fall, from this one on
+-- the groups never decrease, starting from this one
 abbrev pub are_in_order : ℕ → List Said → Bool
 are_in_order group [] = true
 are_in_order group (s ∷ said) = nat_le group (group_said s) && are_in_order (group_said s) said
 
--- the lines between the first and the last one of a race, and what they say
+-- the lines between the first and the last one of a race, and their contents
 pub record AreLines (version : Version) (lines : List (List ℕ)) (said : List Said) : Type 0 where
   pub short : AllByRecursion (λ line. length line ≤ most_line_bytes) lines
   pub say : AllZip Says lines said
@@ -113,10 +113,10 @@ pub record AreLines (version : Version) (lines : List (List ℕ)) (said : List S
   pub settings_once : (name : Name) → length (filter_map (setting_said name) said) ≤ 1
   pub answers_once : (family : Family) → length (filter_map (answer_said family) said) ≤ 1
 
--- the whole text is a race with that value. Each line has a line end, so the last part of the text is empty. That a
--- race keeps its ranges, that its policy table is admitted, that sources and routes are a host's, that addresses of an
--- answer are of its family and differ, that round trip times, uses and outcomes are of addresses in an answer and one
--- of each, that a floor is at most the attempt delay, and that pauses follow each other, is `IsRace`.
+-- the whole text is a race with that value. Each line has a line end, so the last part of the text is empty. `IsRace`
+-- requires that a race keeps its ranges, that its policy table is admitted, that sources and routes are a host's,
+-- that addresses of an answer are of its family and differ, that round trip times, uses and outcomes are of addresses
+-- in an answer, one of each, that a floor is at most the attempt delay, and that pauses follow each other
 pub record IsRaceText (text : List ℕ) (race : Race) : Type 0 where
   pub version : Version
   pub lines : List (List ℕ)
@@ -126,16 +126,16 @@ pub record IsRaceText (text : List ℕ) (race : Race) : Type 0 where
   pub value : race ≡ race_of said
   pub fits : IsRace race
 
--- a race's text stands first
+-- the text begins with a race's text
 abbrev pub BeginsWithRace : List ℕ → Type 0
 BeginsWithRace text =
     (front : List ℕ) × (rest : List ℕ) × (race : Race) × (text ≡ front ++ rest) × IsRaceText front race
 
--- the number of a line of the text, or of what stands after the last one
+-- the number of a line of the text, or of the part after the last line
 abbrev pub IsLineOf : List ℕ → ℕ → Type 0
 IsLineOf text line = (1 ≤ line) × (line ≤ length (lines_of text))
 
--- the fault of a reading is the text's, or memory was refused at a line before which nothing is wrong
+-- the fault of a reading is the text's, or an allocation failed at a line before which there is no fault
 abbrev pub TellsFault : ℕ → TextKind → Option (ℕ × TextKind) → Type 0
 TellsFault line kind fault =
     ((kind ≡ kinds.Memory) × MatchOption fault (Unit {0}) (λ f. line ≤ f.0)) ⊎ (fault ≡ Some (line, kind))

@@ -1,4 +1,4 @@
-// What is known of a race while its lines are read.
+// The state of a race while its lines are read.
 
 ghost use Rattle.std.specs.Prelude.{◌≡◌, ◌⊎◌, ◌≤◌, [], ◌∷◌, IsOk, Ok, Err, length, MatchResult};
 ghost use Rattle.he_reading.specs.Left.{tokens_left};
@@ -13,7 +13,7 @@ use he_timeline::{Settings, TimelineBuilder};
 use he_words::{Name, TextKind, Word};
 use std::alloc::Allocator;
 
-// The group of the last line that was read, and how many lines of that group there are, if there may be only so many.
+// The group of the last line read, and the number of lines of that group, if there is a maximum.
 #[derive(Clone, Copy)]
 pub(crate) struct LastGroup {
     group: u8,
@@ -21,14 +21,14 @@ pub(crate) struct LastGroup {
 }
 
 impl LastGroup {
-    // No line after the first one.
+    // Before any line after the first one.
     pub(crate) fn start() -> LastGroup
         ensures { result ≡ group_at_start }
     {
         LastGroup { group: 0, lines: 0 }
     }
 
-    // The same with one more line, which begins with the word.
+    // The state after one more line, which begins with the word.
     #[tactic(auto, unfolding(crate::specs::Reading::admit, crate::specs::Reading::counted))]
     pub(crate) fn admit(self, word: Word) -> Result<LastGroup, TextKind>
         ensures { result ≡ admit word self }
@@ -49,7 +49,7 @@ impl LastGroup {
     }
 }
 
-// The settings that a race gives.
+// The settings given so far.
 #[derive(Clone, Copy)]
 pub(crate) struct GivenSettings {
     resolution: Option<u64>,
@@ -72,7 +72,7 @@ impl GivenSettings {
         }
     }
 
-    // The settings with one more.
+    // The settings with one more given.
     #[tactic(auto, unfolding(crate::specs::Reading::put))]
     pub(crate) fn put(self, name: Name, value: u64) -> Result<GivenSettings, TextKind>
         ensures { result ≡ put name value self }
@@ -101,7 +101,7 @@ impl GivenSettings {
         }
     }
 
-    // The race's settings.
+    // The race's settings, with defaults for those not given.
     #[tactic(auto, unfolding(crate::specs::Reading::settings_from))]
     pub(crate) fn settings(self) -> Result<Settings, TextKind>
         ensures { result ≡ settings_from self }
@@ -154,7 +154,7 @@ fn take_listed<A: Allocator + Copy>(
     Ok(race.answer(family, given.tick, &ips)?)
 }
 
-// Adds the answer that one token gives to the race. Most answers have one address, and need no list.
+// Adds an answer of one token to the race. Most answers have one address and need no list.
 #[inline(always)]
 #[tactic(auto, unfolding(crate::specs::Reading::take_listed, crate::specs::Forms::listed_in, crate::specs::Forms::addresses_in))]
 fn take_only<A: Allocator + Copy>(
@@ -191,7 +191,7 @@ fn take_answer<A: Allocator + Copy>(
     }
 }
 
-// Adds what a line of the other groups tells, after its word, to the race.
+// Adds the content of a line of the other groups, after its word, to the race.
 #[tactic(auto, unfolding(crate::specs::Reading::take_told))]
 pub(crate) fn take<A: Allocator + Copy>(
     alloc: A,

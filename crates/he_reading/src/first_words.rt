@@ -1,4 +1,4 @@
-// The words with which lines begin.
+// The words that begin lines.
 
 ghost use Rattle.std.specs.Prelude.{◌≡◌, Ok, Err, IfSome, MatchResult};
 ghost use Rattle.he_reading.specs.Faults.{begins_with, is_next};
@@ -10,8 +10,8 @@ use crate::lines::Lines;
 use crate::parts::{TextLine, Tokens};
 use he_words::{TextKind, Version, Word};
 
-// The word of a line, and the tokens after it. All words but `end` have tokens after them, so they are looked for
-// with the space that follows them first: that tells where the other tokens begin. `end` is looked for as a whole
+// The word of a line, and the tokens after it. All words but `end` have tokens after them, so they are compared
+// together with the space that follows, which also finds the start of the other tokens. `end` is compared as a whole
 // line.
 #[inline(always)]
 pub(crate) fn first_word(line: TextLine<'_>) -> Result<(Word, Tokens<'_>), TextKind>
@@ -24,8 +24,8 @@ pub(crate) fn first_word(line: TextLine<'_>) -> Result<(Word, Tokens<'_>), TextK
     }
 }
 
-// The word of a line that begins with one and a space, or is `end`. Its first byte leaves two words at most, which are
-// compared: eight comparisons in a row took some thirty instructions more.
+// The word of a line that begins with a word and a space, or is `end`. Its first byte leaves at most two words to
+// compare: eight comparisons in a row took some thirty instructions more.
 #[inline(always)]
 fn likely_word(line: TextLine<'_>) -> Option<(Word, Tokens<'_>)>
     ensures { IfSome result (λ x. word_of (tokens_of (line_bytes line.entry)) ≡ Ok (x.0, tokens_left x.1)) }
@@ -57,7 +57,7 @@ fn likely_word(line: TextLine<'_>) -> Option<(Word, Tokens<'_>)>
     }
 }
 
-// The word of a line, whatever stands after it.
+// The word of a line, whatever comes after it.
 #[tactic(auto, unfolding(crate::specs::Forms::word_of))]
 fn any_word(line: TextLine<'_>) -> Result<(Word, Tokens<'_>), TextKind>
     ensures { MatchResult result (λ x. word_of (tokens_of (line_bytes line.entry)) ≡ Ok (x.0, tokens_left x.1))
@@ -73,7 +73,7 @@ fn any_word(line: TextLine<'_>) -> Result<(Word, Tokens<'_>), TextKind>
     Ok((word, tokens))
 }
 
-// The same, if a text of the version has the word.
+// The word of a line, if a text of the version has it.
 #[inline(always)]
 #[tactic(auto, unfolding(crate::specs::Forms::version_word))]
 pub(crate) fn version_word(
@@ -91,7 +91,7 @@ pub(crate) fn version_word(
     }
 }
 
-// Whether version 2 added the word, or the setting that the tokens after it name.
+// Whether version 2 added the word, or the setting that these tokens name.
 fn is_added(word: Word, tokens: Tokens) -> bool
     ensures { result ≡ is_added (word, tokens_left tokens.entry) }
 {
@@ -112,8 +112,8 @@ fn names_floor(tokens: Tokens) -> bool
     }
 }
 
-// Whether the next line is a whole one that begins with the word, right or not. Its first bytes are looked at first,
-// so that the line after a group isn't searched for its end once more.
+// Whether the next line is a whole one that begins with the word, correct or not. Its first bytes are compared first,
+// so that the line after a group isn't searched for its end twice.
 pub(crate) fn is_next(word: Word, rest: &[u8]) -> bool
     ensures { result ≡ is_next word (lines_of rest.now) }
 {

@@ -1,5 +1,5 @@
-// The forms of the lines, after the word that begins a line: how many tokens there are, then each of them from left
-// to right; the first that is wrong decides.
+// The forms of the lines, after their first word: first the number of tokens is checked, then each token from left to
+// right; the first wrong one decides.
 
 ghost use Rattle.std.specs.Prelude.{◌≡◌};
 ghost use Rattle.he_reading.specs.Forms.{setting_in, pause_in, end_in};

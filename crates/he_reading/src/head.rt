@@ -1,4 +1,4 @@
-// What the lines of the first four groups give: where a race runs.
+// The lines of the first four groups, which set up a race.
 
 ghost use Rattle.std.specs.Prelude.{◌≡◌, ◌⊎◌, ◌++◌, [], ◌∷◌, Ok, Err, IsOk, option_map, MatchResult};
 ghost use Rattle.std.specs.Option.{option_map_or};
@@ -22,8 +22,8 @@ use he_words::{Name, TextKind, Word};
 use std::alloc::Allocator;
 use std::marker::Model;
 
-// What a race is made of in which nothing happens yet. The race itself is made where its lines are read: it is large,
-// so it is not handed on from call to call.
+// The parts of a race in which nothing has happened yet. The race itself is made where its lines are read: it is
+// large, so it isn't passed from call to call.
 #[derive(Drop)]
 pub(crate) struct Scene<A: Allocator> {
     pub(crate) settings: Settings,
@@ -31,7 +31,7 @@ pub(crate) struct Scene<A: Allocator> {
     pub(crate) host: Host<A>,
 }
 
-// The settings, rows, sources and routes that a race gives. The rows are a policy table once no more of them come.
+// The settings, rows, sources and routes given so far. Once no more rows follow, they are a policy table.
 #[derive(Drop)]
 pub(crate) struct Head<A: Allocator> {
     settings: GivenSettings,
@@ -60,7 +60,7 @@ impl<A: Allocator + Copy> Head<A> {
         }
     }
 
-    // Adds a setting. If no more settings follow it, a floor is to be at most the attempt delay.
+    // Adds a setting. If no more settings follow it, a floor must be at most the attempt delay.
     #[tactic(auto, unfolding(crate::specs::Reading::add_setting))]
     fn add_setting(&mut self, name: Name, value: u64, rest: &[u8]) -> Result<(), TextKind>
         ensures { MatchResult result
@@ -75,7 +75,7 @@ impl<A: Allocator + Copy> Head<A> {
         Ok(())
     }
 
-    // Adds a row. If no more rows follow it, they are to be a table.
+    // Adds a row. If no more rows follow it, they must be a table.
     #[tactic(auto, unfolding(crate::specs::Reading::add_row))]
     fn add_row(&mut self, row: Row, more: bool) -> Result<(), TextKind>
         ensures { MatchResult result (λ _. add_row more row self.old ≡ Ok self.new)
@@ -115,8 +115,8 @@ impl<A: Allocator + Copy> Head<A> {
         Ok(())
     }
 
-    // Adds what a line of the first four groups gives, after its word. What stands after the line tells whether more
-    // of its group follow.
+    // Adds the content of a line of the first four groups, after its word. `rest`, the text after the line, shows
+    // whether more lines of its group follow.
     #[tactic(auto, unfolding(crate::specs::Reading::take_given))]
     pub(crate) fn take(&mut self, word: Word, tokens: Tokens, rest: &[u8]) -> Result<(), TextKind>
         ensures { MatchResult result
@@ -145,7 +145,7 @@ impl<A: Allocator + Copy> Head<A> {
         }
     }
 
-    // What the race is made of in which nothing happens yet.
+    // The parts of the race in which nothing has happened yet.
     #[tactic(auto, unfolding(crate::specs::Reading::race_begun, crate::specs::Reading::host_from))]
     pub(crate) fn scene(self, alloc: A) -> Result<Scene<A>, TextKind>
         ensures { MatchResult result
@@ -163,7 +163,7 @@ impl<A: Allocator + Copy> Head<A> {
     }
 }
 
-// Why the rows with a last one are no policy table. It needs no memory.
+// The fault of these rows with a last one, if they are not a policy table. It allocates nothing.
 fn table_fault(rows: &[Row], last: Row) -> Option<PolicyFault>
     ensures { result ≡ table_fault (rows.now ++ last ∷ []) }
 {
@@ -176,7 +176,7 @@ fn table_fault(rows: &[Row], last: Row) -> Option<PolicyFault>
     PolicyFault::find(&table[..count + 1])
 }
 
-// The table of the rows; where there is no row, the standard one.
+// The table of the rows; the standard one if there are none.
 #[tactic(auto, unfolding(crate::specs::Reading::policy_from))]
 fn policy<A: Allocator + Copy>(alloc: A, rows: Vec<Row, A>) -> Result<Policy<A>, TextKind>
     ensures { MatchResult result (λ policy. policy_from rows.items ≡ Ok policy)

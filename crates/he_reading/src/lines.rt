@@ -1,4 +1,4 @@
-// The lines of a text, one after the other.
+// The lines of a text, one by one.
 
 ghost use Rattle.std.specs.Prelude.{◌≡◌, ◌<◌, ◌+◌, ◌^◌, ◌∷◌, Ok, Err, length, MatchResult};
 ghost use Rattle.he_reading.specs.Left.{line_bytes, lines_left, HasRoom};
@@ -9,7 +9,7 @@ use crate::parts::{TextLine, find};
 use he_words::limits::MAX_LINE;
 use he_words::{LINE_END, TextKind};
 
-// What is left of a text from the beginning of a line, and the number of that line.
+// The rest of a text from the start of a line, and the number of that line.
 #[derive(Clone, Copy)]
 pub(crate) struct Lines<'t> {
     rest: &'t [u8],
@@ -28,21 +28,21 @@ impl<'t> Lines<'t> {
         }
     }
 
-    // How many bytes are left.
+    // The number of bytes left.
     pub(crate) fn len(&self) -> usize
         ensures { result ≡ length self.now.rest.now }
     {
         self.rest.len()
     }
 
-    // The number of the line that comes next.
+    // The number of the next line.
     pub(crate) fn number(&self) -> u64
         ensures { result ≡ self.now.number }
     {
         self.number
     }
 
-    // The line that comes next, and what stands after it; or why it is no line.
+    // The next line, and the text after it; or why it is not a line.
     #[inline(always)]
     pub(crate) fn next_line(&self) -> Result<(TextLine<'t>, &'t [u8]), TextKind>
         ensures parts { MatchResult result (λ x. lines_left self.now ≡ line_bytes x.0 ∷ lines_of x.1.now)
@@ -51,7 +51,7 @@ impl<'t> Lines<'t> {
         ensures whole { MatchResult result (λ _. wholeness (lines_left self.now) ≡ Ok tt)
             (λ kind. wholeness (lines_left self.now) ≡ Err kind) }
     {
-        // No line end is looked for after the longest line.
+        // A line end after the longest line is not searched for.
         let near = self.rest.len().min(MAX_LINE + 1);
         match find(self.rest, near, LINE_END) {
             Some(at) => Ok((TextLine::new(self.rest, at), &self.rest[at + 1..])),
@@ -60,7 +60,7 @@ impl<'t> Lines<'t> {
         }
     }
 
-    // Goes on to what stands after a line.
+    // Moves to the text after a line.
     pub(crate) fn pass(&mut self, rest: &'t [u8])
         requires room { HasRoom self.old }
         requires shorter { length rest.now < length self.old.rest.now }

@@ -1,4 +1,4 @@
-// Lines and tokens: the parts of a text between two bytes.
+// Lines and tokens: the parts of a text between two separators.
 
 ghost use Rattle.std.specs.Prelude.{◌≡◌, ◌≤◌, ◌<◌, ◌+◌, ◌^◌, ◌==◌, [], ◌∷◌, ◌++◌, length, take, MatchOption, IfSome, Ok, position};
 ghost use Rattle.std.specs.List.{count_by, position_or_len};
@@ -11,11 +11,11 @@ use he_words::{TOKEN_END, Word};
 use memchr::{memchr, memchr_iter};
 use std::simd::prelude::*;
 
-// The bytes of a vector. Most lines and nearly all tokens end among so many bytes, which are compared at once: a call
-// of `memchr` takes four times as long there, and a loop over the bytes longer still.
+// The bytes of a vector. Most lines and nearly all tokens end within this many bytes, which are compared at once: a
+// call of `memchr` takes four times as long there, and a loop over the bytes is slower still.
 const LANES: usize = 32;
 
-// The place of the lowest bit that is set, or LANES.
+// The place of the lowest bit that is set; LANES if none is.
 #[inline(always)]
 fn lowest_bit(bits: u64) -> usize
     ensures { result ≡ lowest_bit bits }
@@ -27,7 +27,7 @@ fn lowest_bit(bits: u64) -> usize
     }
 }
 
-// How many of the first bytes stand before the first mark among them: all where none of them is the mark.
+// The number of bytes before the first mark, among the first LANES bytes; LANES if none of them is the mark.
 #[inline(always)]
 fn bytes_before(text: &[u8], mark: u8) -> usize
     requires { LANES ≤ length text.now }
@@ -37,8 +37,7 @@ fn bytes_before(text: &[u8], mark: u8) -> usize
     lowest_bit(marks.to_bitmask())
 }
 
-// The place of the first mark among the first `len` bytes. Those after them are looked at too where that takes no
-// longer.
+// The place of the first mark among the first `len` bytes. It may look at later bytes if that takes no longer.
 #[inline(always)]
 pub(crate) fn find(text: &[u8], len: usize, mark: u8) -> Option<usize>
     requires { len ≤ length text.now }
@@ -56,11 +55,11 @@ pub(crate) fn find(text: &[u8], len: usize, mark: u8) -> Option<usize>
     memchr(mark, &text[..len])
 }
 
-// A line, with all that stands after it.
+// A line, with all the text after it.
 #[derive(Clone, Copy)]
 pub(crate) struct TextLine<'t> {
     text: &'t [u8],
-    // How many bytes of the text stand after the line, its line end included.
+    // The number of bytes of the text after the line, including its line end.
     behind: usize,
 }
 
@@ -77,7 +76,7 @@ impl<'t> TextLine<'t> {
         }
     }
 
-    // Its bytes.
+    // The line's bytes.
     #[inline(always)]
     pub(crate) fn bytes(self) -> &'t [u8]
         ensures { result.now ≡ line_bytes self.entry }
@@ -85,7 +84,7 @@ impl<'t> TextLine<'t> {
         &self.text[..self.text.len().saturating_sub(self.behind)]
     }
 
-    // Its tokens.
+    // The line's tokens.
     #[inline(always)]
     pub(crate) fn tokens(self) -> Tokens<'t>
         ensures { tokens_left result ≡ tokens_of (line_bytes self.entry) }
@@ -129,12 +128,12 @@ impl<'t> TextLine<'t> {
     }
 }
 
-// The tokens of a line that are still to be read.
+// The tokens of a line that are yet to be read.
 #[derive(Clone, Copy)]
 pub(crate) struct Tokens<'a> {
-    // What begins with them, up to the end of the text.
+    // The text from the first of them to its end.
     rest: Option<&'a [u8]>,
-    // How many bytes of it stand after the line.
+    // The number of its bytes after the line.
     behind: usize,
 }
 
@@ -158,7 +157,7 @@ impl<'a> Tokens<'a> {
         }
     }
 
-    // The two tokens, if there are just so many.
+    // The two tokens, if there are exactly two.
     #[inline(always)]
     pub(crate) fn two(self) -> Option<(&'a [u8], &'a [u8])>
         ensures { MatchOption result (length (tokens_left self.entry) ≡ 2 → ⊥)
@@ -177,7 +176,7 @@ impl<'a> Tokens<'a> {
         }
     }
 
-    // The three tokens, if there are just so many.
+    // The three tokens, if there are exactly three.
     #[inline(always)]
     pub(crate) fn three(self) -> Option<(&'a [u8], &'a [u8], &'a [u8])>
         ensures { MatchOption result (length (tokens_left self.entry) ≡ 3 → ⊥)
@@ -193,8 +192,8 @@ impl<'a> Tokens<'a> {
         }
     }
 
-    // How many tokens are still to be read. The first one is passed by itself: mostly there is no other, and then
-    // nothing has to be counted.
+    // The number of tokens yet to be read. The first one is skipped by itself: usually there is no other, and nothing
+    // has to be counted.
     pub(crate) fn len(&self) -> usize
         ensures { result ≡ length (tokens_left self.now) }
     {
@@ -205,7 +204,7 @@ impl<'a> Tokens<'a> {
         }
     }
 
-    // The same, by the bytes between them.
+    // The number of tokens, by the separators between them.
     pub(crate) fn count(&self) -> usize
         ensures value { result ≡ length (tokens_left self.now) }
         ensures few { result ≤ 2 ^ 63 }
@@ -224,7 +223,7 @@ fn count(text: &[u8], mark: u8) -> usize
     marks_in(text, mark)
 }
 
-/// How many bytes of the text are the mark.
+/// The number of bytes of the text that equal `mark`.
 #[tactic(auto, using(crate::proofs::PartLaws::marks_within))]
 pub fn marks_in(text: &[u8], mark: u8) -> usize
     ensures value { result ≡ count_by (λ b. b == mark) text.now }
@@ -239,7 +238,7 @@ pub fn marks_in(text: &[u8], mark: u8) -> usize
     found + marks_by_bytes(&text[at..], mark)
 }
 
-// How many of the first bytes are the mark.
+// The number of the first LANES bytes that equal `mark`.
 #[inline(always)]
 fn marks_at_front(text: &[u8], mark: u8) -> usize
     requires { LANES ≤ length text.now }
@@ -249,7 +248,7 @@ fn marks_at_front(text: &[u8], mark: u8) -> usize
     marks.to_bitmask().count_ones() as usize
 }
 
-// The same of a whole text, byte by byte: for one that is too short to be compared at once. In a long one that takes
+// The number of bytes that equal `mark`, byte by byte: for a text too short for a vector. For a long one it takes
 // eight times as many instructions.
 fn marks_by_bytes(text: &[u8], mark: u8) -> usize
     ensures { result ≡ count_by (λ b. b == mark) text.now }

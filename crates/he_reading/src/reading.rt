@@ -53,7 +53,7 @@ fn take_told<A: Allocator + Copy>(
     Ok((word, next))
 }
 
-// Takes a line of the first four groups, by its word, the tokens after it, and what stands after the line.
+// Takes a line of the first four groups: its word, the tokens after it, and the text after the line.
 #[tactic(auto, unfolding(crate::specs::Reading::take_head))]
 fn take_given<A: Allocator + Copy>(
     word: Word,
@@ -71,7 +71,7 @@ fn take_given<A: Allocator + Copy>(
     Ok(next)
 }
 
-// The lines of the first four groups, up to the first other line.
+// Reads the lines of the first four groups, up to the first other line.
 fn read_head<A: Allocator + Copy>(
     alloc: A,
     version: Version,
@@ -99,7 +99,7 @@ fn read_head<A: Allocator + Copy>(
     }
 }
 
-// The other lines, up to the end of the race, each told to the race.
+// Reads the other lines, up to the end of the race, and adds each to the race.
 fn read_told<A: Allocator + Copy>(
     alloc: A,
     version: Version,
@@ -128,7 +128,7 @@ fn read_told<A: Allocator + Copy>(
     }
 }
 
-// The first line, and the version that it tells.
+// Reads the first line, which has the version.
 #[inline(always)]
 fn read_header(lines: &mut Lines) -> Result<Version, TextKind>
     requires room { HasRoom lines.old }
@@ -148,7 +148,7 @@ fn read_header(lines: &mut Lines) -> Result<Version, TextKind>
     Ok(version)
 }
 
-// The race with which the text begins. If memory is refused for what the first four groups give, that is told with the
+// Reads the race with which the text begins. If an allocation fails for the first four groups, the fault is at the
 // line after them.
 #[inline(always)]
 fn read_whole<A: Allocator + Copy>(alloc: A, lines: &mut Lines) -> Result<Timeline<A>, TextKind>
@@ -171,8 +171,8 @@ fn read_whole<A: Allocator + Copy>(alloc: A, lines: &mut Lines) -> Result<Timeli
     }
 }
 
-/// The race with which the text begins, how many bytes stand after it, and how many lines it has. The fault is
-/// that of [`read_race`] at the text's front; a text that is empty is `Unfinished` at line 1.
+/// Reads the race with which the text begins: returns the race, the number of bytes after it, and the number of its
+/// lines. The fault is that of [`read_race`] at the text's front; an empty text is `Unfinished` at line 1.
 #[inline(always)]
 pub fn read_first<A: Allocator + Copy>(
     alloc: A,
@@ -194,10 +194,10 @@ pub fn read_first<A: Allocator + Copy>(
     }
 }
 
-/// The race that begins at `from`, and the place after it; None exactly where the text ends at `from`. A race is
-/// `race 1` or `race 2`, then lines in the order of their groups, and `end`, each with a line end. Where the text from
-/// there on begins with no race, the fault is that of its least faulty line, counted from 1 at `from`, and on it of
-/// the first check that fails; or memory was refused at a line before which nothing is wrong: that fault is `Memory`.
+/// Reads the race that begins at `from`: returns it and the place after it, or None exactly if the text ends at
+/// `from`. A race is `race 1` or `race 2`, then lines in the order of their groups, and `end`, each with a line end.
+/// If the text at `from` begins with no race, the fault is the first failed check on the first faulty line, counted
+/// from 1 at `from`; or it is `Memory`, if an allocation failed at a line before which there is no fault.
 pub fn read_race<A: Allocator + Copy>(
     alloc: A,
     text: &[u8],
@@ -208,18 +208,18 @@ pub fn read_race<A: Allocator + Copy>(
     ensures end { MatchResult result (λ found. IsNone found ↔ (from ≡ length text.now))
         (λ fault. from < length text.now) }
 
-    // The bytes from `from` to the place are a race's text, with this value, and nothing is wrong in them.
+    // The bytes from `from` to the place are a race's text, with this value and without a fault.
     ensures found { IfOk result
         (λ found. IfSome found
         (λ x. (from < x.1) × (x.1 ≤ length text.now) × IsRaceText (slice_range text.now from x.1) x.0)) }
     ensures right { IfOk result (λ found. IfSome found (λ x. fault_of (drop from text.now) ≡ None)) }
 
-    // A race's text that stands at `from` is found, with its value and its end, unless memory is refused.
+    // If a race's text begins at `from`, it is found, with its value and its end, unless an allocation fails.
     ensures complete { (end : ℕ) (race : Race) → end ≤ length text.now
         → IsRaceText (slice_range text.now from end) race → MatchResult result (λ found. found ≡ Some (race, end))
         (λ fault. fault.kind ≡ kinds.Memory) }
 
-    // A fault is that of the text, or of want of memory at a line before which nothing is wrong.
+    // A fault is that of the text, or `Memory` at a line before which there is no fault.
     ensures fault { IfErr result (λ fault. TellsFault fault.line fault.kind (fault_of (drop from text.now))) }
     ensures line { IfErr result (λ fault. IsLineOf (drop from text.now) fault.line) }
 {

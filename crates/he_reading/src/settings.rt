@@ -1,4 +1,4 @@
-// A line that is a setting.
+// Recognizes a line that is a setting.
 
 ghost use Rattle.std.specs.Prelude.{◌≡◌};
 ghost use Rattle.he_reading.specs.Forms.{word_of_setting, said_in};
@@ -9,8 +9,8 @@ use crate::forms;
 use crate::parts::TextLine;
 use he_words::Word;
 
-/// The word of a line that is a setting, right by itself; None of each other line. The bytes are those before the line
-/// end.
+/// The word of a line that is a setting and correct by itself; None for every other line. `bytes` is the line without
+/// its line end.
 #[tactic(auto, unfolding(crate::specs::Forms::said_by))]
 pub fn word_of_setting(bytes: &[u8]) -> Option<Word>
     ensures { result ≡ word_of_setting (said_in anyone bytes.now) }

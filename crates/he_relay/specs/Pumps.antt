@@ -1,11 +1,11 @@
--- What a pump took from its input and put into its output.
+-- The bytes that a pump took from its input and put into its output.
 use Rattle.std.specs.Prelude.{ℕ, Bool, true, false, List, Result, Ok, Err}
 use Rattle.he_relay.specs.declared.fault.PumpFault.{PumpFault}
 use Rattle.he_relay.specs.declared.fault.PumpFault.TheVariants as faults
 
--- at `Ok` the input gave some bytes and ended, and the output took these; where the input broke off, the same; where
--- it was cut, it neither ended nor broke off after them; where the output failed, it took a first part of what the
--- input gave so far
+-- on `Ok` the input gave some bytes and ended, and the output took these; on `Input` likewise, but the input broke
+-- off; on `Cut` it neither ended nor broke off after them; on `Output` the output took a beginning of the bytes that
+-- the input gave so far
 abbrev pub Pumps : (List ℕ → Bool → Type 0) → (List ℕ → Type 0) → (List ℕ → Type 0) → (List ℕ → Type 0)
     → Result (Unit {0}) PumpFault → Type 0
 Pumps Gives GivesSoFar Puts PutsPart (Ok done) = (bytes : List ℕ) × Gives bytes false × Puts bytes

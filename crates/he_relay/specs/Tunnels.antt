@@ -9,7 +9,7 @@ use Rattle.he_relay.specs.declared.way.Way.{Way}
 use Rattle.he_relay.specs.declared.way.WayFault.{WayFault}
 use Rattle.he_relay.specs.Ways.{Begins, Breaks, IsOver, Moves}
 
--- it is of these two, and holds for the server what came early from the client
+-- the tunnel is between these two, and holds the client's early data for the server
 abbrev pub IsBegun : {A B : Type 0} → A → B → List ℕ → Tunnel A B → Type 0
 IsBegun client server early tunnel =
     (tunnel.client ≡ client) × (tunnel.server ≡ server) × Begins early tunnel.there × Begins [] tunnel.back
@@ -30,7 +30,7 @@ abbrev pub HasEnded : {R W : Type 0} → (R → Error → Type 0) → (W → Err
 HasEnded read write is_full way reader writer =
     IsOver way ⊎ ((fault : WayFault) × Breaks read write is_full reader writer fault)
 
--- all that the connection which broke gave was passed on, but for what the other one does not take
+-- all bytes that the broken connection gave were passed on, except those that the other one does not take
 abbrev pub HasGivenAll : {A B : Type 0} → (A → Error → Type 0) → (A → Error → Type 0) → (A → Type 0) → (B → Error → Type 0) → (B → Error → Type 0) → (B → Type 0) → Tunnel A B → Broke → Type 0
 HasGivenAll client_read client_write client_full server_read server_write server_full tunnel brokes.Client =
     HasEnded client_read server_write server_full tunnel.there tunnel.client tunnel.server

@@ -1,4 +1,4 @@
-//! Why a pump stopped before its input's end, and a relay before both ways did.
+//! Why a pump stopped before its input's end, and why a relay ended before both ways did.
 
 ghost use Rattle.std.specs.Prelude.{◌≡◌};
 ghost use Rattle.he_relay.specs.declared.fault.PumpFault.TheVariants as faults;
@@ -19,7 +19,7 @@ pub enum PumpFault {
     /// A write or a flush of the output failed, or a write took no byte.
     #[error("cannot write the output")]
     Output,
-    /// Its watch wanted no further step of the input.
+    /// The pump's watch wanted no further step of the input.
     #[error("the input was not read to its end")]
     Cut,
 }
@@ -35,23 +35,23 @@ impl From<WriteFault> for PumpFault {
 /// How a connection broke off.
 #[derive(Clone, Copy, Debug, PartialEq, Eq, Error)]
 pub enum Breakage {
-    /// The remote reset it.
+    /// The remote reset the connection.
     #[error("the remote reset the connection")]
     Reset,
-    /// The remote answered no more.
+    /// The remote stopped answering.
     #[error("the connection timed out")]
     TimedOut,
-    /// Any other way.
+    /// The connection broke off in any other way.
     #[error("the connection broke off")]
     Other,
 }
 
-/// How many bytes went over a connection.
+/// The number of bytes that passed over a connection.
 #[derive(Clone, Copy, Debug, PartialEq, Eq)]
 pub struct Traffic {
-    /// That this host's system took to send.
+    /// The bytes that this host's system accepted for sending.
     pub sent: u64,
-    /// That came.
+    /// The bytes received.
     pub received: u64,
 }
 
@@ -62,7 +62,7 @@ impl Display for Traffic {
     }
 }
 
-/// Bytes that were not sent, as `6 bytes more were not sent`.
+/// The number of bytes not sent; it prints as `6 bytes more were not sent`.
 #[derive(Clone, Copy, Debug, PartialEq, Eq)]
 pub struct Unsent(pub u64);
 
@@ -89,13 +89,13 @@ pub enum RelayFault {
     /// The connection broke before the remote ended it.
     #[error("{0}: {1}")]
     Broken(Breakage, Traffic),
-    /// The remote closed the connection before it took all that the input gave.
+    /// The remote closed the connection before it accepted all bytes of the input.
     #[error("the remote has closed, and {0}")]
     Unsent(Unsent),
-    /// The remote ended its way, and what the input gave after it was waited for was not read.
+    /// The remote ended its way, and input that came after the wait for it was not read.
     #[error("the remote has closed, and standard input was not read to its end")]
     Unread,
-    /// An allocation was refused.
+    /// An allocation failed.
     #[error("out of memory")]
     Memory,
 }

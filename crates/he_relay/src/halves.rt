@@ -1,4 +1,4 @@
-//! The halves of a socket's connection, which count what goes over them.
+//! The halves of a socket's connection, which count the bytes that pass over them.
 
 ghost use Rattle.std.specs.Prelude.{◌≡◌};
 
@@ -17,7 +17,7 @@ use std::os::fd::AsRawFd;
 // The descriptor of standard input.
 const STANDARD_INPUT: i32 = 0;
 
-// To wait as long as it takes, or not at all.
+// Wait without a limit, or not at all.
 const FOREVER: i32 = -1;
 
 const AT_ONCE: i32 = 0;
@@ -26,10 +26,10 @@ const MILLISECOND: i32 = 1;
 
 const BROKEN: i16 = POLLHUP | POLLERR | POLLNVAL;
 
-/// How long standard input is waited for after the remote's end where nothing else is asked for, in milliseconds.
+/// The default time that the relay waits for standard input after the remote's end, in milliseconds.
 pub const DEFAULT_WAIT: u32 = 500;
 
-/// A connection over a socket that waits, to which standard input goes.
+/// A connection over a blocking socket, fed from standard input.
 pub type SocketConnection<'s> = Connection<
     SendingHalf<'s>,
     InputWatch<'s>,
@@ -37,7 +37,7 @@ pub type SocketConnection<'s> = Connection<
     BreakWatch<'s>,
 >;
 
-/// The half of a socket that is sent over.
+/// The sending half of a socket.
 #[derive(Drop)]
 pub struct SendingHalf<'s> {
     writer: ToWriter<&'s TcpStream>,
@@ -45,7 +45,7 @@ pub struct SendingHalf<'s> {
     unsent: u64,
 }
 
-/// The half of a socket that is received over.
+/// The receiving half of a socket.
 #[derive(Drop)]
 pub struct ReceivingHalf<'s> {
     reader: FromReader<&'s TcpStream>,
@@ -53,28 +53,28 @@ pub struct ReceivingHalf<'s> {
 }
 
 /// Wants more of standard input until the connection has ended: until it broke or was shut down both ways, or the
-/// remote has ended its way and standard input gave nothing for as long as it is waited for. At the way's end the
-/// connection is shut down for sending.
+/// remote has ended its way and standard input gave nothing for the time of the wait. At the way's end it shuts the
+/// connection down for sending.
 #[derive(Drop)]
 pub struct InputWatch<'s> {
     stream: &'s TcpStream,
     // in milliseconds
     wait: i32,
     has_remote_ended: bool,
-    // whether standard input is a terminal, whose lines are nobody's data yet
+    // whether standard input is a terminal, whose unread lines are not yet data
     is_terminal: bool,
-    // whether standard input had something after the end of its way
+    // whether standard input had data after the end of its way
     has_more: bool,
 }
 
-/// Shuts the connection down both ways where the way from it fails.
+/// Shuts the connection down both ways if the way from it fails.
 #[derive(Drop)]
 pub struct BreakWatch<'s> {
     stream: &'s TcpStream,
 }
 
-/// The connection over the socket, which is to be one that waits. After the remote's end standard input is read on
-/// for as long as it gives something at least every `wait` milliseconds.
+/// The connection over the socket, which must be blocking. After the remote's end standard input is read on as long
+/// as it gives data at least every `wait` milliseconds.
 pub fn over_socket(stream: &TcpStream, wait: u32) -> SocketConnection<'_> {
     Connection {
         sending: SendingHalf {
@@ -98,7 +98,7 @@ pub fn over_socket(stream: &TcpStream, wait: u32) -> SocketConnection<'_> {
 }
 
 impl<'s> SocketConnection<'s> {
-    /// How many bytes went over it.
+    /// The number of bytes that passed over it.
     pub fn traffic(&self) -> Traffic {
         Traffic {
             sent: self.sending.sent,
@@ -106,13 +106,12 @@ impl<'s> SocketConnection<'s> {
         }
     }
 
-    /// The bytes that it was to send when it broke off, and that the system did not take.
+    /// The bytes of the last write that the system did not accept when the connection broke off.
     pub fn unsent(&self) -> Unsent {
         Unsent(self.sending.unsent)
     }
 
-    /// Whether standard input has something now, which came after the end of its way and is not sent. A terminal is
-    /// not looked at.
+    /// Whether standard input has data now, after the end of its way, that is not sent. Always false for a terminal.
     pub fn has_more(&mut self) -> bool
         ensures { result ≡ self.new.sends.has_more }
     {
@@ -120,8 +119,8 @@ impl<'s> SocketConnection<'s> {
         self.sends.has_more
     }
 
-    /// Whether the remote reset it after the end of both ways, so that bytes that this machine's system took to send
-    /// did not arrive. The end of what was sent is waited for, for as long as standard input is.
+    /// Whether the remote reset the connection after the end of both ways, so that bytes that this machine's system
+    /// accepted for sending did not arrive. It waits for the end of the sent data as long as for standard input.
     pub fn was_reset(&self) -> bool {
         if self.sending.sent == 0 {
             return false;
@@ -136,7 +135,7 @@ impl<'s> SocketConnection<'s> {
         matches!(stream.take_error(), Ok(Some(_)))
     }
 
-    /// How it broke off, where a read or a write of it failed.
+    /// How the connection broke off, if a read or a write of it failed.
     pub fn breakage(&self) -> Breakage {
         let failures = [self.receiving.failure(), self.sending.failure()];
         if has(&failures, ErrorKind::ConnectionReset) {
@@ -149,7 +148,7 @@ impl<'s> SocketConnection<'s> {
     }
 }
 
-// Whether a stream has bytes to be read. A socket that has ended looks as if it had, so one is read of it.
+// Whether a stream has bytes to read. An ended socket looks as if it had, so one byte of it is read.
 fn has_bytes(fd: i32) -> bool {
     let mut watched = [watch(fd, POLLIN | POLLRDHUP)];
     let _ = poll(&mut watched, AT_ONCE);
@@ -225,13 +224,13 @@ impl<'s> Watch for InputWatch<'s> {
     }
 }
 
-// What was waited for.
+// The result of a wait.
 #[derive(Clone, Copy)]
 enum Came {
     Input,
     // The remote has ended its way.
     RemoteEnd,
-    // The connection has ended both ways, or nothing came for as long as the input is waited for.
+    // The connection has ended both ways, or the wait for the input is over.
     End,
     // The wait was interrupted.
     Nothing,

@@ -1,4 +1,4 @@
-//! What a stream gives, put into another.
+//! Copies an input to an output.
 ghost use Rattle.std.specs.Prelude.{◌<◌, length};
 ghost use Rattle.he_stream.specs.Input.{Gives, GivesSoFar};
 ghost use Rattle.he_stream.specs.Output.{PutsInRounds, PutsRoundsPart};
@@ -9,16 +9,16 @@ use crate::watch::Watch;
 use he_stream::limits::MOST_READS;
 use he_stream::{InputStream, OutputStream, Taken, write_whole};
 
-/// Takes what the input gives, a piece of at most the room's length at a time, and puts each piece into the output,
-/// flushed, before the next one is taken; until the input ends or the watch wants no more. It waits as long as the
+/// Takes bytes from the input, a piece of at most the room's length at a time, and puts each piece into the output,
+/// flushed, before it takes the next one; until the input ends or the watch wants no more. It waits as long as the
 /// input, the output and the watch do.
 ///
 /// # Errors
 ///
-/// - `Input` where a step of the input failed, or 4,294,967,296 steps did not reach its end. What was taken before is
+/// - `Input` if a step of the input failed, or 4,294,967,296 steps did not reach its end. The bytes taken before are
 ///   put.
-/// - `Output` where a write or a flush failed, or a write took no byte. Of what was taken a first part is put.
-/// - `Cut` where the watch wanted no further step of the input, which had not ended. What was taken before is put.
+/// - `Output` if a write or a flush failed, or a write took no byte. A beginning of the bytes taken is put.
+/// - `Cut` if the watch wanted no further step of the input, which had not ended. The bytes taken before are put.
 pub fn pump<I: InputStream, O: OutputStream, W: Watch>(
     input: &mut I,
     output: &mut O,

@@ -1,4 +1,4 @@
-//! An input and an output over a connection.
+//! Connects an input and an output to a connection.
 ghost use Rattle.std.specs.Prelude.{◌≡◌, ◌<◌, length};
 ghost use Rattle.he_stream.specs.Input.{Gives, GivesSoFar};
 ghost use Rattle.he_stream.specs.Output.{PutsInRounds, PutsRoundsPart};
@@ -12,19 +12,19 @@ use he_stream::{InputStream, OutputStream};
 use std::alloc::{AllocError, Global};
 use std::thread::{Threads, join_mut};
 
-// The most bytes that are taken at once each way.
+// The maximum number of bytes taken at once, each way.
 const ROOM: usize = 131_072;
 
-/// A connection in its halves, each with what watches its way.
+/// A connection in its two halves, each with the watch of its way.
 #[derive(Drop)]
 pub struct Connection<S, V, F, W> {
-    /// What it is sent.
+    /// The half that is written.
     pub sending: S,
-    /// What watches the way to it.
+    /// The watch of the way to the connection.
     pub sends: V,
-    /// What it gives.
+    /// The half that is read.
     pub receiving: F,
-    /// What watches the way from it.
+    /// The watch of the way from the connection.
     pub receives: W,
 }
 
@@ -37,12 +37,12 @@ pub struct Ends {
     pub received: Result<(), PumpFault>,
 }
 
-/// Puts what the input gives into the connection, and what the connection gives into the output, both at once in two
-/// threads, until both ways have ended. Each is a [`pump`], whose watch is told its end at once.
+/// Copies the input to the connection, and the connection to the output, both at once in two threads, until both ways
+/// have ended. Each is a [`pump`] whose watch is called at its end.
 ///
 /// # Errors
 ///
-/// `AllocError` where an allocation was refused, before anything was taken.
+/// `AllocError` if an allocation failed, before anything was taken.
 pub fn relay<R, I, O, S, V, F, W>(
     rt: &R,
     alloc: Global,
@@ -98,7 +98,7 @@ where
     Ok(Ends { sent, received })
 }
 
-// Pumps one way, and tells its watch the end.
+// Pumps one way, and reports the end to its watch.
 fn run_way<I: InputStream, O: OutputStream, W: Watch>(
     input: &mut I,
     output: &mut O,

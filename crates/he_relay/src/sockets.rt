@@ -1,4 +1,4 @@
-//! Connections that end by a reset, and sockets that notice when their remote has vanished.
+//! Connections that end by a reset, and sockets that notice that their remote has vanished.
 
 ghost use Rattle.std.specs.Prelude.{◌≡◌};
 ghost use Rattle.libc.specs.Net.{SockOption};
@@ -13,43 +13,44 @@ use std::net::{IpAddr, SocketAddr};
 use std::os::fd::{AsRawFd, RawFd};
 use tokio::net::TcpStream;
 
-// The descriptors among which a connection's is looked for: those after the standard streams.
+// The descriptors that are searched for a connection's: those after the standard streams.
 const FIRST: RawFd = 3;
 
 const MOST_DESCRIPTORS: RawFd = 1 << 20;
 
-// Of the address of no family (AF_UNSPEC), in octets.
+// The length of the address of no family (AF_UNSPEC), in octets.
 const NO_ADDRESS: u32 = 16;
 
-// After how many seconds of silence the remote is asked, and how many seconds pass between two such questions.
+// The seconds of silence after which the remote is probed, and the seconds between two probes.
 const SILENCE: u32 = 60;
 
-// Not to wait.
+// Don't wait.
 const AT_ONCE: i32 = 0;
 
-/// A connection that is to end by a reset (RST, RFC 9293 section 3.5.2), once what this machine's system took to send
-/// is sent. A reset that is sent at once discards that.
+/// A connection to end by a reset (RST, RFC 9293 section 3.5.2), once the bytes that this machine's system accepted
+/// are sent. An immediate reset would discard them.
 #[derive(Drop)]
 pub struct Cut {
     stream: TcpStream,
-    // None where it is not found, as where the remote has gone.
+    // None if it is not found, for example because the remote has gone.
     fd: Option<RawFd>,
 }
 
 impl Cut {
-    /// Of this connection.
+    /// A cut of this connection.
     pub fn new(stream: TcpStream) -> Cut
         ensures { result.stream ≡ stream }
     {
         let fd = descriptor_of(&stream);
         if let Some(fd) = fd {
-            // The least that the system keeps, so that what is not sent yet shows (`is_sent`).
+            // The system's minimum, so that unsent bytes show (`is_sent`).
             set(fd, SOL_SOCKET, SO_SNDBUF, 0);
         }
         Cut { stream, fd }
     }
 
-    /// Whether all is sent and has arrived, but for two KiB at most, which are under way; or the remote has gone.
+    /// Whether all bytes are sent and have arrived, except at most two KiB under way; also true if the remote has
+    /// gone.
     pub fn is_sent(&self) -> bool {
         match self.fd {
             Some(fd) => has(fd, POLLOUT | POLLERR | POLLHUP),
@@ -57,7 +58,7 @@ impl Cut {
         }
     }
 
-    /// Resets it. Where its descriptor isn't found it is closed.
+    /// Resets the connection; closes it if its descriptor isn't found.
     pub fn reset(self) {
         if let Some(fd) = self.fd {
             let no_address = [0u8; _SS_SIZE];
@@ -66,8 +67,8 @@ impl Cut {
     }
 }
 
-/// Has the system ask the remote of a silent connection each minute whether it is still there (RFC 9293 section
-/// 3.8.4). What a listening socket accepts inherits that. Where the system refuses, nothing changes.
+/// Makes the system probe the remote of a silent connection each minute (RFC 9293 section 3.8.4). Connections that a
+/// listening socket accepts inherit this. If the system refuses, nothing changes.
 pub fn keep_alive<S: AsRawFd>(socket: &S) {
     let fd = socket.as_raw_fd();
     set(fd, SOL_SOCKET, SO_KEEPALIVE, 1);
@@ -80,15 +81,15 @@ pub fn takes_now(fd: RawFd) -> bool {
     has(fd, POLLOUT | POLLERR | POLLHUP)
 }
 
-// The descriptor of the connection: the one with its addresses. Tokio gives none.
+// The descriptor of the connection, found by its addresses: tokio gives none.
 fn descriptor_of(stream: &TcpStream) -> Option<RawFd> {
     let remote = stream.peer_addr().ok()?;
     let local = stream.local_addr().ok()?;
     (FIRST..MOST_DESCRIPTORS).find(|fd| is_between(*fd, local, remote))
 }
 
-// Whether the descriptor is that of the TCP connection between these two. A socket of UDP may be between them too, and
-// has no option of TCP.
+// Whether the descriptor is that of the TCP connection between these two addresses. A UDP socket may be between them
+// too, but has no TCP options.
 fn is_between(fd: RawFd, local: SocketAddr, remote: SocketAddr) -> bool {
     is_at(name_of(fd, Side::Remote), remote)
         && is_at(name_of(fd, Side::Local), local)
@@ -101,7 +102,7 @@ enum Side {
     Remote,
 }
 
-// The address of a socket as the system writes it (`sockaddr`): all zeros where it has none.
+// The address of a socket as the system writes it (`sockaddr`); all zeros if it has none.
 fn name_of(fd: RawFd, side: Side) -> [u8; _SS_SIZE] {
     let mut name = [0u8; _SS_SIZE];
     let mut len = _SS_SIZE as u32;
@@ -112,8 +113,8 @@ fn name_of(fd: RawFd, side: Side) -> [u8; _SS_SIZE] {
     name
 }
 
-// Whether a system's address is this one: after its family in two octets come the port, the address of IPv4, or
-// four octets and the address of IPv6.
+// Whether a system's address is this one: two octets of family and then the port, followed by the IPv4 address, or by
+// four octets and the IPv6 address.
 fn is_at(name: [u8; _SS_SIZE], socket: SocketAddr) -> bool {
     name[2..4] == socket.port().to_be_bytes()[..]
         && match socket.ip() {
@@ -135,7 +136,7 @@ fn set(fd: RawFd, level: i32, option: i32, number: u32)
     let _ = unsafe { setsockopt(fd, level, option, &value, 4) };
 }
 
-// Whether one of the events is there now.
+// Whether one of the events is pending now.
 fn has(fd: RawFd, events: i16) -> bool {
     let mut watched = [pollfd {
         fd,

@@ -1,4 +1,4 @@
-//! Standard input and an output over a socket.
+//! Connects standard input and an output to a socket.
 ghost use Rattle.std.specs.Prelude.{◌≡◌};
 ghost use Rattle.he_stream.specs.Input.{Gives, GivesSoFar};
 ghost use Rattle.he_stream.specs.Output.{PutsInRounds, PutsRoundsPart};
@@ -11,23 +11,24 @@ use he_stream::{InputStream, OutputStream};
 use std::alloc::Global;
 use std::thread::Threads;
 
-/// Puts what the input gives into the connection, and what the connection gives into the output ([`relay`]), until
-/// the remote has ended and the input with it.
+/// Copies the input to the connection, and the connection to the output ([`relay`]), until the remote has ended and
+/// the input with it.
 ///
-/// The input is to be standard input: whether it can be read without waiting is asked of descriptor 0. Where it ends,
-/// the connection is shut down for sending alone. The connection is shut down both ways where the output fails.
+/// The input must be standard input: descriptor 0 is polled for data. When it ends, the connection is shut down only
+/// for sending. If the output fails, the connection is shut down both ways.
 ///
 /// # Errors
 ///
-/// The first of these that came to pass:
+/// The first of these that happened:
 ///
-/// - `Output` where a write or a flush of the output failed.
-/// - `Broken` where the connection broke, with how it did and how many bytes went over it; also where both ways ended
-///   and the remote then reset it, so that it has not all that this machine's system took to send.
-/// - `Unsent` where the remote had closed the connection before it took all that the input gave.
-/// - `Input` where a read of the input failed.
-/// - `Unread` where the remote had ended its way, the input gave nothing for as long as it was waited for, and then
-///   gave something before the other way had ended, and is no terminal.
+/// - `Output` if a write or a flush of the output failed.
+/// - `Broken` if the connection broke, with how it did and the number of bytes that passed over it; also if both ways
+///   ended and the remote then reset it, so that it lacks some of the bytes that this machine's system accepted for
+///   sending.
+/// - `Unsent` if the remote had closed the connection before it accepted all bytes of the input.
+/// - `Input` if a read of the input failed.
+/// - `Unread` if the remote had ended its way, the input gave nothing for the time of the wait, and then had data
+///   before the other way ended; never for a terminal.
 /// - `Memory` before anything was taken.
 #[tactic(auto, unfolding(crate::specs::Relays::RelaysStandard))]
 pub fn relay_standard<R: Threads, I: InputStream, O: OutputStream + Send>(
@@ -50,7 +51,7 @@ pub fn relay_standard<R: Threads, I: InputStream, O: OutputStream + Send>(
     end_of(connection, has_more, ends)
 }
 
-// How the relay ended: the output's way counts first.
+// The end of the relay; the output's way comes first.
 fn end_of(connection: &SocketConnection<'_>, has_more: bool, ends: Ends) -> Result<(), RelayFault>
     ensures { IsEnd has_more ends.sent ends.received result }
 {
@@ -74,7 +75,7 @@ fn broken(connection: &SocketConnection<'_>, how: Breakage) -> RelayFault
     RelayFault::Broken(how, connection.traffic())
 }
 
-// A connection that the remote has closed takes no more, and one that broke neither.
+// A connection that the remote has closed takes no more bytes, nor does a broken one.
 fn not_sent(connection: &SocketConnection<'_>) -> RelayFault
     ensures { IsNotSent (Err result) }
 {

@@ -1,4 +1,4 @@
-//! Two connections, each put into the other, a little at a time.
+//! Connects two connections to each other, a little at a time.
 ghost use Rattle.std.specs.Prelude.{◌≡◌, IfOk};
 ghost use Rattle.futures.specs.Poll.{OnPending};
 ghost use Rattle.futures.specs.Task.{IsArmed, Keeps};
@@ -20,8 +20,8 @@ pub enum Broke {
     Server,
 }
 
-/// Two connections, of which each is written what the other one gives. Where one ends, the other is shut down for
-/// sending alone, so that its remote can still answer (RFC 9293 section 3.6).
+/// Two connections, each of which gets the other's bytes. When one ends, the other is shut down only for sending, so
+/// that its remote can still answer (RFC 9293 section 3.6).
 #[derive(Drop)]
 pub struct Tunnel<A, B> {
     client: A,
@@ -30,18 +30,18 @@ pub struct Tunnel<A, B> {
     there: Way,
     // From the server to the client.
     back: Way,
-    // The connection that takes no more: what it gave before is still passed on.
+    // The connection that takes no more; the bytes that it gave before are still passed on.
     broke: Option<Broke>,
 }
 
 impl<A: AsyncRead + AsyncWrite, B: AsyncRead + AsyncWrite> Tunnel<A, B> {
     ghost use Rattle.he_relay.specs.Tunnels.{AreOver, HasGivenAll, IsBegun, MovesBoth};
 
-    /// A tunnel in which the server is written first what came early from the client.
+    /// A tunnel that first writes the client's early data to the server.
     ///
     /// # Errors
     ///
-    /// `AllocError` where an allocation was refused.
+    /// `AllocError` if an allocation failed.
     pub fn new(
         alloc: Global,
         client: A,
@@ -59,13 +59,13 @@ impl<A: AsyncRead + AsyncWrite, B: AsyncRead + AsyncWrite> Tunnel<A, B> {
         })
     }
 
-    /// Reads and writes until both ways would have to wait, but a few times at most, and then lets other tasks run.
-    /// Ready once both ways have ended. Where a connection takes no more, what it gave is passed on first, such as the
-    /// answer of a server that read no further (RFC 9110 section 9.3.6).
+    /// Reads and writes until both ways would have to wait, but only a few times, and then lets other tasks run.
+    /// Ready once both ways have ended. If a connection takes no more, the bytes that it gave are passed on first,
+    /// such as the response of a server that stopped reading (RFC 9110 section 9.3.6).
     ///
     /// # Errors
     ///
-    /// The connection of which a read or a write failed, as it does where the remote reset it.
+    /// The connection on which a read or a write failed, for example because the remote reset it.
     #[tactic(auto, using(crate::proofs::Moved::no_step))]
     pub fn poll_tunnel(&mut self, cx: &mut Context<'_>) -> Poll<Result<(), Broke>>
         ensures moves { MovesBoth A.reads A.writes A.is_at_end B.reads B.writes B.is_at_end self.old self.new }
@@ -108,7 +108,7 @@ impl<A: AsyncRead + AsyncWrite, B: AsyncRead + AsyncWrite> Tunnel<A, B> {
         }
     }
 
-    /// Both connections: the one to the client and the one to the server.
+    /// The two connections: the client's and the server's.
     pub fn into_ends(self) -> (A, B)
         ensures { (result.0 ≡ self.client) × (result.1 ≡ self.server) }
     {
@@ -122,7 +122,7 @@ impl<A: AsyncRead + AsyncWrite, B: AsyncRead + AsyncWrite> Tunnel<A, B> {
         (client, server)
     }
 
-    /// How many bytes were written: to the server, and to the client.
+    /// The number of bytes written: to the server, and to the client.
     pub fn traffic(&self) -> Traffic
         ensures { (result.sent ≡ self.now.there.moved) × (result.received ≡ self.now.back.moved) }
     {

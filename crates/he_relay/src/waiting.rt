@@ -1,15 +1,15 @@
-//! Standard input and output that are waited for where they don't wait themselves.
+//! Waits for standard input and output that are non-blocking.
 
 use libc::net::{POLLIN, POLLOUT, poll};
 use libc::types::pollfd;
 use std::io::{Error, ErrorKind, Read, Result, Write};
 
-// To wait as long as it takes.
+// Wait without a limit.
 const FOREVER: i32 = -1;
 
-/// A reader of standard input or a writer of standard output, of which another program may have made the descriptor
-/// one that does not wait (`O_NONBLOCK`, which all that share a pipe share). A step that would have to wait is
-/// reported as `Interrupted`, to be tried again, once poll(2) says that it need not.
+/// A reader of standard input or a writer of standard output whose descriptor another program may have made
+/// non-blocking (`O_NONBLOCK`, which all users of a pipe share). A step that would have to wait waits (poll(2)) and
+/// then reports `Interrupted`, so that it is tried again.
 #[derive(Drop)]
 pub struct Waiting<S> {
     stream: S,
@@ -17,7 +17,7 @@ pub struct Waiting<S> {
 }
 
 impl<S> Waiting<S> {
-    /// Standard input, which is descriptor 0.
+    /// A reader of standard input, descriptor 0.
     pub fn input(stream: S) -> Waiting<S> {
         Waiting {
             stream,
@@ -25,7 +25,7 @@ impl<S> Waiting<S> {
         }
     }
 
-    /// Standard output, which is descriptor 1.
+    /// A writer of standard output, descriptor 1.
     pub fn output(stream: S) -> Waiting<S> {
         Waiting {
             stream,
@@ -33,7 +33,7 @@ impl<S> Waiting<S> {
         }
     }
 
-    // What is told of a step that failed so. Where it would have had to wait, it is waited for.
+    // The error to report for a failed step. If the step would have had to wait, it waits first.
     fn told(&self, error: Error, events: i16) -> Error {
         if error.kind() != ErrorKind::WouldBlock {
             return error;

@@ -1,12 +1,12 @@
-//! What is asked and reported beside the bytes of a way.
+//! Decisions and reports of a way, beside its bytes.
 
 use crate::fault::PumpFault;
 
-/// What decides how long a way goes on, and does what comes after its end.
+/// Decides how long a way goes on, and acts on its end.
 pub trait Watch {
-    /// Whether another step of the input is wanted. It may wait until one can be made.
+    /// Whether another step of the input is wanted. It may wait until one is possible.
     fn wants_more(&mut self) -> bool;
 
-    /// Is told how the way ended.
+    /// Is called at the way's end, with its result.
     fn end(&mut self, end: Result<(), PumpFault>);
 }

@@ -1,4 +1,4 @@
-//! One way of a polled relay: what a reader gives is put into a writer, a little at a time.
+//! One way of a polled relay: copies a reader to a writer, a little at a time.
 ghost use Rattle.std.specs.Prelude.{◌≡◌, ◌^◌, ◌<◌, ◌≤◌, true, length, IfOk, Ok};
 ghost use Rattle.futures.specs.Poll.{OnPending};
 ghost use Rattle.futures.specs.Task.{IsArmed, Keeps};
@@ -10,12 +10,12 @@ use std::alloc::AllocError;
 use std::io;
 use tokio::io::{AsyncRead, AsyncWrite};
 
-// The most bytes that are read at once: at first, and once a read has filled that.
+// The maximum number of bytes read at once: at first, and once a read has filled that room.
 const LEAST_ROOM: usize = 2_048;
 
 const ROOM: usize = 16_384;
 
-// The most reads and writes of one poll, before other tasks are polled.
+// The maximum number of reads and writes in one poll, before other tasks are polled.
 const MOST_STEPS: usize = 4;
 
 /// Why a way broke off.
@@ -27,7 +27,7 @@ pub enum WayFault {
     Writer,
 }
 
-/// One way of a polled relay: what was read and isn't written yet.
+/// One way of a polled relay: the bytes that were read and aren't written yet.
 #[derive(Drop)]
 pub struct Way {
     room: Vec<u8>,
@@ -39,7 +39,7 @@ pub struct Way {
     is_shut: bool,
     // Whether the last read filled the room.
     is_busy: bool,
-    // How many bytes were written.
+    // The number of bytes written.
     moved: u64,
     ghost within: { (from ≤ to) × (to ≤ length room.items) × (0 < length room.items) },
     ghost over: { is_shut ≡ true → (has_ended ≡ true) × (from ≡ to) },
@@ -49,11 +49,11 @@ pub struct Way {
 impl Way {
     ghost use Rattle.he_relay.specs.Ways.{Begins, Breaks, IsAfter, IsAsEmpty, IsOver, Moves, held};
 
-    /// A way that writes these bytes first, which came early, and then what is read.
+    /// A way that first writes these early bytes, and then those that it reads.
     ///
     /// # Errors
     ///
-    /// `AllocError` where an allocation was refused.
+    /// `AllocError` if an allocation failed.
     pub fn new(early: Vec<u8>) -> Result<Way, AllocError>
         ensures { IfOk result (Begins early.items) }
     {
@@ -71,20 +71,20 @@ impl Way {
         })
     }
 
-    /// How many bytes were written, at most 2^64 - 1.
+    /// The number of bytes written, at most 2^64 - 1.
     pub fn moved(&self) -> u64
         ensures { result ≡ self.now.moved }
     {
         self.moved
     }
 
-    /// Reads and writes until it would have to wait, but a few times at most, and then lets other tasks run. Ready
-    /// once the reader has ended, all that it gave is written, and the writer is shut down.
+    /// Reads and writes until it would have to wait, but only a few times, and then lets other tasks run. Ready once
+    /// the reader has ended, all its bytes are written, and the writer is shut down.
     ///
     /// # Errors
     ///
-    /// - `Reader` where a read failed.
-    /// - `Writer` where a write or the shutdown failed, or a write took no byte.
+    /// - `Reader` if a read failed.
+    /// - `Writer` if a write or the shutdown failed, or a write took no byte.
     pub fn poll_way<R: AsyncRead, W: AsyncWrite>(
         &mut self,
         reader: &mut R,
@@ -110,7 +110,7 @@ impl Way {
         cx.yield_now()
     }
 
-    // One read, one write, or the shutdown at the end.
+    // Does one read, one write, or the shutdown at the end.
     fn poll_step<R: AsyncRead, W: AsyncWrite>(
         &mut self,
         reader: &mut R,
@@ -157,7 +157,7 @@ impl Way {
         }
     }
 
-    // More room, where the last read filled what there is. Where no memory is granted it stays as it is.
+    // Enlarges the room if the last read filled it. If the allocation fails, it is unchanged.
     fn widen(&mut self)
         requires empty { self.old.to ≡ 0 }
         ensures { IsAsEmpty self.old self.new }
@@ -167,7 +167,7 @@ impl Way {
         }
     }
 
-    // Less room, where nothing is to be read now: a tunnel on which nothing moves keeps little memory.
+    // Shrinks the room when there is nothing to read now: an idle tunnel keeps little memory.
     fn narrow(&mut self)
         requires empty { self.old.to ≡ 0 }
         ensures { IsAsEmpty self.old self.new }
@@ -176,7 +176,7 @@ impl Way {
         self.room.shrink_to_fit();
     }
 
-    // One write of what is held, of which a count is taken.
+    // Writes held bytes once, and counts those written.
     fn poll_put<W: AsyncWrite>(
         &mut self,
         writer: &mut W,

@@ -1,10 +1,9 @@
-//! Replaying races: texts of timelines read from an input, and what happens in each written to an output; or a batch of
-//! races in memory, whose attempts workers share.
+//! Replaying races: reads texts of timelines from an input, and writes the events of each to an output; or replays a
+//! batch of races in memory, whose attempts workers share.
 //!
-//! The first are the streams of `he_streaming`: [`replay`] writes of each race what is asked for ([`Content`], by a
-//! [`Printer`] where it is a course). The second is the pool of
-//! `he_pool`: [`replay_batch`] returns the transcripts of a batch, and a [`Gate`] hears of each job. Neither goes
-//! through the other. What is proved of each stands in its own crate; here both have one name.
+//! `he_streaming` has the former: [`replay`] writes the text that is asked for of each race ([`Content`], by a
+//! [`Printer`] for a course). `he_pool` has the latter: [`replay_batch`] returns the transcripts of a batch, and
+//! calls a [`Gate`] for each job. Neither uses the other. Each crate has its own proofs; here both have one name.
 #![tactic(auto)]
 
 pub use he_pool::{Gate, NoGate, batch_jobs, replay_batch};

@@ -1,5 +1,6 @@
-// Batches of four races: which jobs, plans and skips the gate is told of, that workers run at the same time, what the
-// pass tells at the end, and what is answered and still done where memory is refused. And batches of other sizes.
+// Batches of four races: the jobs, plans and skips that the gate is called for, that workers run at the same time,
+// the state of the pass at the end, and the result and the work done if memory is refused. And batches of other
+// sizes.
 ghost use Rattle.std.specs.Prelude.{◌≡◌};
 ghost use Rattle.he_board.specs.declared.limits.TheConstants.{PARTS};
 ghost use Rattle.he_board.specs.Passes.{IsPassOf, jobs_of, notes, races_of};
@@ -81,10 +82,10 @@ const JOBS: usize = 2_048;
 
 const RACES: usize = 4;
 
-// The most turns for which a gate holds a worker: tens of seconds, so that another is run by then on a busy machine.
+// The most turns for which a gate holds a worker: tens of seconds, enough for another one to run on a busy machine.
 const TURNS: u64 = 50_000_000;
 
-// So many races: the four of the text, again and again.
+// `count` races: the four of the text, again and again.
 fn timelines_of<A: Allocator + Copy>(alloc: A, count: usize) -> Option<Vec<Timeline<A>, A>> {
     let mut timelines = Vec::new(alloc);
     let mut from = 0;
@@ -94,7 +95,7 @@ fn timelines_of<A: Allocator + Copy>(alloc: A, count: usize) -> Option<Vec<Timel
     Some(timelines)
 }
 
-// Appends the race that begins at the place, and answers the place after it.
+// Appends the race that begins at the place, and returns the place after it.
 fn append_race<A: Allocator + Copy>(
     alloc: A,
     from: usize,
@@ -108,7 +109,7 @@ fn append_race<A: Allocator + Copy>(
     Some(end)
 }
 
-// How a batch ended: whether it was done, whether its transcripts are right, and what the pass and the board tell
+// The end of a batch: whether it was done, whether its transcripts are right, and the state of the pass and the board
 // after it.
 #[derive(Clone, Copy, Debug, PartialEq, Eq)]
 struct Ended {
@@ -116,7 +117,7 @@ struct Ended {
     is_right: bool,
     parts: u32,
     winners: [Option<(u64, usize)>; RACES],
-    // How many jobs from 0 on are taken.
+    // The number of taken jobs, from 0 on.
     taken: usize,
 }
 
@@ -128,7 +129,7 @@ const DONE: Ended = Ended {
     taken: 11,
 };
 
-// Runs the batch of the four races by so many workers. None where the allocator has refused before the batch began.
+// Runs the batch of the four races with `workers` workers. None if the allocator has refused before the batch began.
 fn run<R: Threads + Sync, A: Allocator + Copy + Send + Sync>(
     rt: &R,
     alloc: A,
@@ -175,7 +176,7 @@ fn are_written<A: Allocator + Copy>(alloc: A, transcripts: &[Transcript<A>]) -> 
     is_whole && written.as_slice() == TRANSCRIPTS
 }
 
-// What the pass and the board tell.
+// The state of the pass and the board.
 fn look<A: Allocator>(board: &Board<A>, pass: Pass, is_done: bool, is_right: bool) -> Ended
     requires own { IsPassOf board.now pass }
     requires parts { (notes pass).parts ≡ PARTS }
@@ -212,17 +213,17 @@ fn first_free<A: Allocator>(board: &Board<A>, pass: &mut Pass) -> usize
     JOBS
 }
 
-// Workers, whom the gate holds, until how many jobs have begun, for how many turns at most, and how many jobs must be
-// skipped at least: both late ones where one worker does all.
+// The workers; whom the gate holds; until this number of jobs has begun; for at most this number of turns; and the
+// least number of jobs that must be skipped: both late ones if one worker does all.
 static BATCHES: [(u16, Held, u64, u64, u64); 9] = [
     (1, Held::Nobody, 0, 0, 2),
     (2, Held::Nobody, 0, 0, 0),
     (7, Held::Nobody, 0, 0, 0),
     (64, Held::Nobody, 0, 0, 0),
-    // Both ways round, one of two workers waits for the other: they run at the same time.
+    // In either order, one of two workers waits for the other: they run at the same time.
     (2, Held::Worker(0), 1, TURNS, 0),
     (2, Held::Worker(1), 1, TURNS, 0),
-    // One worker does all jobs but the first, which another holds: no job is dealt out before.
+    // One worker does all jobs but the first, which another holds: no job is assigned beforehand.
     (2, Held::Job(0), 10, TURNS, 1),
     (7, Held::Job(10), 10, TURNS, 0),
     // Some workers are slow.
@@ -245,8 +246,8 @@ fn batches_end_right(rt: HostRuntime) -> Result<(), Fail> {
     Ok(())
 }
 
-// Whether a batch whose allocator may refuse ended right, or memory was refused and the pass is whole. Then no job was
-// taken, since no worker had begun; or each was, since the other of two workers went on to its end.
+// Whether a batch whose allocator may refuse ended right, or memory was refused and the pass is whole. In the latter
+// case no job was taken, since no worker had begun; or each was, since the other of two workers went on to its end.
 fn is_refused_well(ended: Option<Ended>, workers: u16, tally: &Tally) -> bool {
     match ended {
         Some(ended) => {
@@ -283,8 +284,8 @@ fn refused_workers_hand_back_their_pass(rt: HostRuntime) {
     }
 }
 
-// Batches: their races, which are the four again and again, their jobs, how many of these start too late to run where
-// one worker does all, and the workers.
+// Batches: their races, which are the four again and again, their jobs, the number of these that start too late to
+// run if one worker does all, and the workers.
 static SIZES: [(usize, usize, u64, u16); 8] = [
     (0, 0, 0, 1),
     (0, 0, 0, 7),
@@ -301,7 +302,7 @@ fn batches_of_any_size(rt: HostRuntime) -> Result<(), Fail> {
     let heap = Refusing::new(rt.alloc());
     for (races, jobs, late, workers) in &SIZES {
         let tally = Tally::new(rt.alloc(), *races, *jobs)?;
-        // All workers for whom there is a job run at the same time.
+        // All workers for which there is a job run at the same time.
         let begun = (*workers as u64).min(*jobs as u64);
         let gate = Holding::new(Held::Each, begun, TURNS, &heap, tally);
         let is_right = run_batch(&rt, rt.alloc(), *races, *workers, &gate);
@@ -317,7 +318,7 @@ fn batches_of_any_size(rt: HostRuntime) -> Result<(), Fail> {
     Ok(())
 }
 
-// Whether a batch of so many races is done and right.
+// Whether a batch of `races` races is done and right.
 fn run_batch<R: Threads + Sync>(
     rt: &R,
     alloc: Global,
@@ -336,7 +337,7 @@ fn run_batch<R: Threads + Sync>(
     Some(are_repeated(alloc, told, races))
 }
 
-// Whether these are so many transcripts: those of the four races, again and again.
+// Whether these are `size` transcripts: those of the four races, again and again.
 fn are_repeated(alloc: Global, told: Result<Vec<Transcript>, Memory>, size: usize) -> bool {
     let Ok(transcripts) = told else {
         return false;

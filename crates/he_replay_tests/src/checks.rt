@@ -1,5 +1,6 @@
-// Checks of texts with each growth refused in turn: want of memory is told only where a growth was refused, with
-// nothing written and nothing explained, and all else as ever. `check` goes through `check_input` and `explain_fault`.
+// Checks of texts with each growth refused in turn: want of memory is reported only if a growth was refused, with
+// nothing written and nothing explained; all else is unchanged. `check` goes through `check_input` and
+// `explain_fault`.
 
 use he_check::check;
 use he_inputs::StreamFault;
@@ -10,7 +11,7 @@ use refusing::{Refusing, each_growth_refused};
 use std::alloc::Global;
 use stream_fakes::{FakeReader, FakeWriter};
 
-// A text; what is answered, written and explained.
+// A text; the result, the output and the explanation.
 type Row = (
     &'static [u8],
     Result<(), StreamFault>,
@@ -56,7 +57,7 @@ rows 0 and 1, on lines 2 and 3, share the precedence 40: one is inside ::ffff:0:
     ),
 ];
 
-// Whether the check of the row, whose allocator may refuse, ends as it must.
+// Whether the check of the row, whose allocator may refuse, ends as required.
 fn is_right(heap: &Refusing<Global>, alloc: Global, row: &Row) -> bool {
     let (text, wanted, written, explained) = row;
     let mut input = FromReader::new(FakeReader::new(text, 16));

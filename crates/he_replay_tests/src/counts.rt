@@ -1,6 +1,7 @@
 // Numbers by place that threads change without a lock.
 
-use std::alloc::{AllocError, Global};
+use he_addr::Memory;
+use std::alloc::Global;
 use std::sync::atomic::{AtomicU64, Ordering};
 
 #[derive(Drop)]
@@ -9,8 +10,8 @@ pub struct Counts {
 }
 
 impl Counts {
-    // So many numbers, all 0.
-    pub fn new(alloc: Global, count: usize) -> Result<Counts, AllocError> {
+    // `count` numbers, all 0.
+    pub fn new(alloc: Global, count: usize) -> Result<Counts, Memory> {
         let mut numbers = Vec::new(alloc);
         for _ in 0..count {
             numbers.push(AtomicU64::new(0))?;
@@ -36,7 +37,7 @@ impl Counts {
         self.at(place) & bit_of(worker) != 0
     }
 
-    // The number at the place, 0 where there is none.
+    // The number at the place, 0 if there is none.
     pub fn at(&self, place: usize) -> u64 {
         match self.numbers.get(place) {
             Some(number) => number.load(Ordering::SeqCst),
@@ -61,7 +62,7 @@ impl Counts {
         true
     }
 
-    // Whether they are the others, of which there are as many.
+    // Whether the numbers equal the others, of which there are as many.
     pub fn are(&self, others: &Counts) -> bool {
         for place in 0..self.numbers.len() {
             if self.at(place) != others.at(place) {

@@ -1,4 +1,4 @@
-// A gate that holds some workers until others have begun jobs, and keeps a tally of what it is told.
+// A gate that holds some workers until others have begun jobs, and keeps a tally of its calls.
 
 use crate::tally::Tally;
 use he_replay::Gate;
@@ -7,17 +7,17 @@ use std::alloc::Global;
 use std::sync::atomic::{AtomicU64, Ordering};
 use std::thread;
 
-// Whom the gate holds until so many jobs have begun: those of workers that aren't held, but for `Each`.
+// The workers that the gate holds until `jobs` jobs have begun: jobs of other workers, except for `Each`.
 #[derive(Clone, Copy)]
 pub enum Held {
     Nobody,
     // This worker.
     Worker(usize),
-    // Who took this job.
+    // The worker that took this job.
     Job(usize),
     // Each worker of odd number.
     Odd,
-    // Each worker. All jobs count, so those that wait run at the same time.
+    // Each worker. All jobs count, so the waiting workers run at the same time.
     Each,
 }
 
@@ -37,21 +37,21 @@ impl Held {
     }
 }
 
-// How many turns a worker that was held waits after another's refusal, so that the other comes to its end.
+// The turns that a held worker waits after another's refusal, so that the other comes to its end.
 const TURNS_AFTER_REFUSAL: u64 = 1_000;
 
 #[derive(Drop)]
 pub struct Holding<'a> {
     held: Held,
-    // How many jobs a worker waits for, and how many turns at most. In each it lets others run.
+    // The number of jobs that a worker waits for, and the most turns. In each turn it yields to others.
     jobs: u64,
     turns: u64,
-    // Whose refusal ends the waiting too.
+    // The heap whose refusal ends the waiting too.
     heap: &'a Refusing<Global>,
     pub tally: Tally,
-    // How many jobs that count have begun.
+    // The number of begun jobs that count.
     begun: AtomicU64,
-    // How often a worker waited in vain.
+    // The number of times that a worker waited in vain.
     pub vain: AtomicU64,
 }
 

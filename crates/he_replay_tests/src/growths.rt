@@ -1,19 +1,21 @@
-// Each growth refused in turn: the fault is Memory and what some first races ask for is written, or all is.
+// Each growth refused in turn: the fault is Memory and the text of some first races is written, or all is.
 
 use crate::hostile::{CONTENTS, EXPLAINED, TEXT, output_of, run_over};
+use he_addr::Memory;
 use he_inputs::StreamFault;
 use he_replay::Content;
 use he_stream::{FromReader, ToWriter};
 use refusing::{Refusing, each_growth_refused};
-use std::alloc::{AllocError, Global};
+use std::alloc::Global;
 use std::test::Fail;
 use std::thread::Threads;
 use stream_fakes::{FakeReader, FakeWriter};
 
-// How often the text stands in the input, so that what is held of the input and the output grows more than once.
+// The number of copies of the text in the input: enough that the memory for the input and the output grows more than
+// once.
 const TIMES: usize = 8;
 
-fn repeated(alloc: Global, text: &[u8]) -> Result<Vec<u8>, AllocError> {
+fn repeated(alloc: Global, text: &[u8]) -> Result<Vec<u8>, Memory> {
     let mut all = Vec::new(alloc);
     for _ in 0..TIMES {
         all.extend_from_slice(text)?;
@@ -21,8 +23,8 @@ fn repeated(alloc: Global, text: &[u8]) -> Result<Vec<u8>, AllocError> {
     Ok(all)
 }
 
-// Whether a call whose allocator may refuse answers Memory only where it has refused, and has then written the whole
-// output of some first races, and writes all else.
+// Whether a call whose allocator may refuse returns Memory only if it has refused, and has then written the whole
+// output of some first races, and writes everything otherwise.
 fn is_right<R: Threads + Sync>(
     rt: &R,
     heap: &Refusing<Global>,

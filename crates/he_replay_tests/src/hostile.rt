@@ -1,11 +1,12 @@
 // Replays, orders and explanations of texts that break off, over readers and writers that fail.
 
+use he_addr::Memory;
 use he_inputs::StreamFault;
 use he_replay::{Content, Printer, TextRequest, replay};
 use he_select::PolicyFault;
 use he_stream::{FromReader, InputStream, ToWriter};
 use he_words::{TextFault, TextKind};
-use std::alloc::{AllocError, Allocator, Global};
+use std::alloc::{Allocator, Global};
 use std::io::Read;
 use std::mem::drop;
 use std::test::Fail;
@@ -38,12 +39,12 @@ const EXPLANATION: &[u8] = b"{\"file\":null,\"race\":1,\"line\":1,\"order\":[\
 {\"tick\":55,\"event\":\"won\",\"attempt\":0}]}
 ";
 
-// What is asked for, of which the text is the same wherever the race stands; and what has its place, too.
+// Contents whose text doesn't depend on the race's place in the input; and one whose text has that place.
 pub const CONTENTS: [Content; 2] = [Content::Transcript, Content::Order];
 
 pub const EXPLAINED: Content = Content::Course(Printer::Json);
 
-// What is written for the text above.
+// The output for the text above.
 pub fn output_of(content: Content) -> &'static [u8] {
     match content {
         Content::Transcript => TRANSCRIPT,
@@ -63,7 +64,8 @@ pub fn run_over<R: Threads + Sync, A: Allocator + Copy + Send + Sync, I: InputSt
     replay(rt, alloc, &asked, 4, input, output)
 }
 
-// Whether the call over the reader and the writer answers this, has written this, and has flushed so often.
+// Whether the call over the reader and the writer returns this, has written this, and has flushed this number of
+// times.
 fn is_right<R: Threads + Sync>(
     rt: &R,
     alloc: Global,
@@ -83,8 +85,8 @@ fn fault(line: u64, kind: TextKind) -> Result<(), StreamFault> {
     Err(StreamFault::Text(TextFault { line, kind }))
 }
 
-// Whether this first part of the text is unfinished where the input ends after it, and a failed read where it breaks
-// there. Nothing is written of it.
+// Whether this first part of the text is unfinished if the input ends after it, and a failed read if it breaks there.
+// Nothing is written of it.
 fn is_cut_right<R: Threads + Sync>(rt: &R, alloc: Global, content: Content, cut: &[u8]) -> bool {
     let ends = cut.iter().filter(|byte| **byte == b'\n').count() as u64;
     let unfinished = fault(ends.saturating_add(1), TextKind::Unfinished);
@@ -107,7 +109,7 @@ fn is_cut_right<R: Threads + Sync>(rt: &R, alloc: Global, content: Content, cut:
     )
 }
 
-// How many first parts of the text, the empty one and the whole left out, end so.
+// The number of first parts of the text, except the empty one and the whole, that end so.
 fn right_cuts<R: Threads + Sync>(rt: &R, alloc: Global, content: Content) -> usize {
     let mut right: usize = 0;
     for count in 1..TEXT.len() {
@@ -119,7 +121,7 @@ fn right_cuts<R: Threads + Sync>(rt: &R, alloc: Global, content: Content) -> usi
     right
 }
 
-// How many bytes the writer may take, fewer than all, so that exactly these are written.
+// The number of limits on the bytes that the writer takes, each below all, with which exactly these are written.
 fn right_rooms<R: Threads + Sync>(rt: &R, alloc: Global, content: Content) -> usize {
     let wanted = output_of(content);
     let mut right: usize = 0;
@@ -149,7 +151,7 @@ fn right_rooms<R: Threads + Sync>(rt: &R, alloc: Global, content: Content) -> us
     right
 }
 
-// The texts after which the reader breaks, whether the text above stands before them, and what is answered.
+// The texts after which the reader breaks, whether the text above comes before them, and the result.
 static BROKEN: [(bool, &[u8], Result<(), StreamFault>); 6] = [
     (false, b"", Err(StreamFault::Read)),
     (true, b"", Err(StreamFault::Read)),
@@ -180,13 +182,13 @@ static BROKEN: [(bool, &[u8], Result<(), StreamFault>); 6] = [
     ),
 ];
 
-// How many of these end as they must, and have the output of the text where it stands before them: flushed when the
+// The number of these that end as required, and have the output of the text if it comes before them: flushed when the
 // text was whole, and again at the end.
 fn right_breaks<R: Threads + Sync>(
     rt: &R,
     alloc: Global,
     content: Content,
-) -> Result<usize, AllocError> {
+) -> Result<usize, Memory> {
     let mut right: usize = 0;
     for (is_behind, more, answer) in &BROKEN {
         let mut text = Vec::new(alloc);
@@ -216,7 +218,8 @@ fn right_breaks<R: Threads + Sync>(
     Ok(right)
 }
 
-// Whether the same is answered and written wherever the text, after which the reader breaks, is cut into two pieces.
+// Whether the result and the output are these wherever the text, after which the reader breaks, is cut into two
+// pieces.
 fn is_right_in_two<R: Threads + Sync>(
     rt: &R,
     alloc: Global,
@@ -240,8 +243,8 @@ fn is_right_in_two<R: Threads + Sync>(
     true
 }
 
-// How many reads of the text, byte by byte, and as many writes and flushes may each answer `Interrupted` once, and
-// change nothing.
+// The number of reads of the text, byte by byte, and as many writes and flushes, of which each may return
+// `Interrupted` once and change nothing.
 fn right_interruptions<R: Threads + Sync>(rt: &R, alloc: Global, content: Content) -> usize {
     let mut right: usize = 0;
     for number in 0..=TEXT.len() {

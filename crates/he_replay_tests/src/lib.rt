@@ -1,5 +1,5 @@
 //! Tests of streams, replays and checks over readers, writers and an allocator that fail, and of batches with a gate
-//! that holds workers and counts what they do.
+//! that holds workers and counts their calls.
 #![tactic(auto)]
 
 #[cfg(test)]

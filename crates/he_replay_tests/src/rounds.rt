@@ -1,17 +1,18 @@
-// What is written while the input still comes: of 100 races, each of which one read gives.
+// The output while the input still comes: of 100 races, each of which one read gives.
 
 use crate::hostile::{CONTENTS, TEXT, output_of, run_over};
+use he_addr::Memory;
 use he_inputs::StreamFault;
 use he_replay::{Content, Printer, TextRequest, replay};
 use he_stream::{FromReader, ToWriter};
-use std::alloc::{AllocError, Global};
+use std::alloc::Global;
 use std::test::Fail;
 use std::thread::Threads;
 use stream_fakes::{FakeReader, FakeWriter};
 
 const RACES: usize = 100;
 
-fn text_of(alloc: Global, races: usize) -> Result<Vec<u8>, AllocError> {
+fn text_of(alloc: Global, races: usize) -> Result<Vec<u8>, Memory> {
     let mut text = Vec::new(alloc);
     for _ in 0..races {
         text.extend_from_slice(TEXT)?;
@@ -19,8 +20,8 @@ fn text_of(alloc: Global, races: usize) -> Result<Vec<u8>, AllocError> {
     Ok(text)
 }
 
-// The answer where the output takes that of so many races and no more; how often the input was read, and the output
-// flushed; and how many bytes the output then holds.
+// The result if the output takes the text of `races` races and no more; the number of reads and of flushes; and the
+// number of bytes that the output then holds.
 fn run<R: Threads + Sync>(
     rt: &R,
     alloc: Global,
@@ -61,7 +62,7 @@ fn races_are_told_as_they_come(rt: HostRuntime) -> Result<(), Fail> {
     Ok(())
 }
 
-// Of two races, each of which one read gives, the second is told with its number and its line in the input.
+// Of two races, each of which one read gives, the second is printed with its number and its line in the input.
 #[test]
 fn stories_know_their_place(rt: HostRuntime) -> Result<(), Fail> {
     let alloc = rt.alloc();

@@ -1,20 +1,21 @@
-// Texts so long that workers share their races: what is written, and what is wrong, is as with one worker; and want of
-// memory is told only where a growth was refused, after the whole texts of some first races.
+// Texts long enough for workers to share their races: the output and the fault are those of one worker; and want of
+// memory is reported only if a growth was refused, after the whole texts of some first races.
 ghost use Rattle.std.specs.Prelude.{◌≤◌};
 
+use he_addr::Memory;
 use he_inputs::StreamFault;
 use he_replay::limits::{PIECE_BYTES, PIECES_OF_A_WORKER};
 use he_replay::{Content, TextRequest, replay};
 use he_stream::{FromReader, ToWriter};
 use he_words::{TextFault, TextKind};
 use refusing::{Refusing, each_growth_refused};
-use std::alloc::{AllocError, Global};
+use std::alloc::Global;
 use std::test::Fail;
 use std::thread::Threads;
 use stream_fakes::{FakeReader, FakeWriter};
 
-// The lines of a race of 64 addresses, as many sources and as many routes: what stands before the first number of each
-// kind, and what before and after each number.
+// The lines of a race of 64 addresses, with as many sources and routes: the text before the first number of each
+// kind, and the text before and after each number.
 static LINES: [(&[u8], &[u8], &[u8]); 4] = [
     (
         b"race 1\n",
@@ -36,16 +37,16 @@ static LINES: [(&[u8], &[u8], &[u8]); 4] = [
 
 static DIGITS: &[u8] = b"0123456789abcdef";
 
-// So many races that workers share those of some steps, and some are left; and so many that two workers share the
-// first of two steps.
+// Enough races that workers share those of some steps, and some are left; and enough that two workers share the first
+// of two steps.
 const RACES: usize = 200;
 
 const FEW_RACES: usize = 24;
 
-// What stands after them: a race with a fault.
+// The race after them, which has a fault.
 static FAULTY: &[u8] = b"race 1\na 010 none\nend\n";
 
-fn race_of(alloc: Global) -> Result<Vec<u8>, AllocError> {
+fn race_of(alloc: Global) -> Result<Vec<u8>, Memory> {
     let mut race = Vec::new(alloc);
     for (first, before, behind) in &LINES {
         race.extend_from_slice(first)?;
@@ -60,8 +61,8 @@ fn race_of(alloc: Global) -> Result<Vec<u8>, AllocError> {
     Ok(race)
 }
 
-// So many races, and one with a fault.
-fn text_of(alloc: Global, races: usize) -> Result<Vec<u8>, AllocError> {
+// `races` races, and one with a fault.
+fn text_of(alloc: Global, races: usize) -> Result<Vec<u8>, Memory> {
     let race = race_of(alloc)?;
     let mut text = Vec::new(alloc);
     for _ in 0..races {
@@ -71,10 +72,10 @@ fn text_of(alloc: Global, races: usize) -> Result<Vec<u8>, AllocError> {
     Ok(text)
 }
 
-// How many bytes a read gives.
+// The number of bytes that a read gives.
 const STEP: usize = 1_000_000;
 
-// What is wrong with the text: the address of the last race, in the line after all the others.
+// The fault of the text: the address of the last race, in the line after all the others.
 fn fault_in(text: &[u8]) -> Result<(), StreamFault> {
     let ends = text.iter().filter(|byte| **byte == b'\n').count() as u64;
     let line = ends.saturating_sub(1);
@@ -116,8 +117,8 @@ fn workers_share_long_texts(rt: HostRuntime) -> Result<(), Fail> {
     Ok(())
 }
 
-// Whether two workers whose allocator may refuse tell want of memory only where it has refused, and have then written
-// the transcripts of some first races, each like this one, and tell and write all else.
+// Whether two workers whose allocator may refuse report want of memory only if it has refused, and have then written
+// the transcripts of some first races, each like this one, and otherwise report and write everything.
 fn is_right<R: Threads + Sync>(
     rt: &R,
     heap: &Refusing<Global>,

@@ -1,10 +1,10 @@
-// What each step of a reader and of a writer answers, as the reader and the writer answered it.
+// The results of each step of a reader and of a writer.
 
 use he_stream::{Flushed, FromReader, InputStream, OutputStream, Put, Taken, ToWriter};
 use std::alloc::Global;
 use stream_fakes::{FakeReader, FakeWriter};
 
-// The answers of steps into a buffer of three bytes, and whether a read has failed after each.
+// The results of steps into a buffer of three bytes, and whether a read has failed after each.
 static TAKEN: [(Taken, bool); 6] = [
     (Taken::Bytes(2), false),
     (Taken::Interrupted, false),
@@ -21,7 +21,7 @@ static TAKEN_TO_THE_END: [(Taken, bool); 4] = [
     (Taken::End, false),
 ];
 
-// The answers of steps with three bytes, and whether a write has failed after each.
+// The results of steps with three bytes, and whether a write has failed after each.
 static PUT: [(Put, bool); 4] = [
     (Put::Bytes(2), false),
     (Put::Interrupted, false),
@@ -31,7 +31,7 @@ static PUT: [(Put, bool); 4] = [
 
 static PUT_TO_THE_FULL: [(Put, bool); 2] = [(Put::Bytes(3), false), (Put::Full, true)];
 
-// How many steps answer as they must, up to the first that does not.
+// The number of steps with the required results, up to the first wrong one.
 fn right_takes(reader: FakeReader<'_>, wanted: &[(Taken, bool)]) -> usize {
     let mut input = FromReader::new(reader);
     let mut room = [0u8; 3];

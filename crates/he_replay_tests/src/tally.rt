@@ -1,7 +1,8 @@
-// What a gate was told of a batch whose races are the four of `batches`, again and again.
+// The calls of a gate for a batch whose races are the four of `batches`, again and again.
 
 use crate::counts::Counts;
-use std::alloc::{AllocError, Global};
+use he_addr::Memory;
+use std::alloc::Global;
 use std::sync::atomic::{AtomicU64, Ordering};
 
 // The jobs of four races, and the race of each.
@@ -9,7 +10,7 @@ pub const JOBS_OF_FOUR: usize = 11;
 
 static RACES_OF_JOBS: [usize; JOBS_OF_FOUR] = [0, 0, 1, 1, 2, 2, 3, 3, 3, 3, 3];
 
-// Those of them that start at or after the tick at which their race is won: both at 270, with a win at 55 and at 270.
+// The jobs that start at or after the tick at which their race is won: both at 270, with a win at 55 and at 270.
 static LATE_JOBS: [usize; 2] = [1, 5];
 
 fn race_of(job: usize) -> usize {
@@ -22,18 +23,18 @@ fn is_late(job: usize) -> bool {
 
 #[derive(Drop)]
 pub struct Tally {
-    // By job, how often it was told as taken, and how often as skipped.
+    // By job, the number of calls for it as taken, and as skipped.
     taken: Counts,
     skipped: Counts,
     // By race a bit for each worker that has taken a job of it, and for each that has planned it.
     takers: Counts,
     planners: Counts,
-    // How often a worker planned a race again, or without a job of it, or skipped a job that runs.
+    // The number of times a worker planned a race again, or without a job of it, or skipped a job that runs.
     wrong: AtomicU64,
 }
 
 impl Tally {
-    pub fn new(alloc: Global, races: usize, jobs: usize) -> Result<Tally, AllocError> {
+    pub fn new(alloc: Global, races: usize, jobs: usize) -> Result<Tally, Memory> {
         Ok(Tally {
             taken: Counts::new(alloc, jobs)?,
             skipped: Counts::new(alloc, jobs)?,
@@ -67,13 +68,13 @@ impl Tally {
         self.taken.are_all(1)
     }
 
-    // Whether each worker has planned the races of which it took a job, each once and after it took the first, and no
-    // other race, and only late jobs were skipped.
+    // Whether each worker has planned the races of which it took a job, each once and after it took the first job,
+    // and no other race, and only late jobs were skipped.
     pub fn is_right(&self) -> bool {
         self.takers.are(&self.planners) && self.wrong.load(Ordering::SeqCst) == 0
     }
 
-    // How often jobs were skipped.
+    // The number of skips of jobs.
     pub fn skips(&self) -> u64 {
         self.skipped.sum()
     }

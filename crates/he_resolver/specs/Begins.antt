@@ -1,4 +1,4 @@
--- What a look-up begins with.
+-- The start of a look-up.
 use Rattle.std.specs.Prelude.{ℕ, ◌≡◌, ◌&&◌, Bool, true, false, List, Option, Some, None, Err, not, if◌then◌else◌}
 use Rattle.he_addr.specs.declared.ip.Family.{Family}
 use Rattle.he_addr.specs.declared.ip.Family.TheVariants as families
@@ -15,7 +15,7 @@ use Rattle.he_resolver.specs.declared.lookup.Source.{Source}
 use Rattle.he_resolver.specs.declared.lookup.Source.TheVariants as sources
 use Rattle.he_resolver.specs.declared.resolver.Resolver.{Resolver}
 
--- a family is asked for alone, or both are
+-- the family is the only one wanted, or both are
 abbrev pub wants : Option Family → Family → Bool
 wants None family = true
 wants (Some families.V6) families.V6 = true
@@ -23,20 +23,20 @@ wants (Some families.V6) families.V4 = false
 wants (Some families.V4) families.V6 = false
 wants (Some families.V4) families.V4 = true
 
--- nothing is told of a family that is asked for; one that is not asked for is told so
+-- a wanted family has no answer yet; one that is not wanted has that as its answer
 abbrev pub BeginsPart : Bool → FamilyLookup → Type 0
 BeginsPart is_wanted asking =
     (asking.told ≡ (if is_wanted then None else Some (Err faults.NotAsked))) × (asking.is_settled ≡ not is_wanted)
 
 module _ {R : Type 0} where
-  -- both families are asked for, or one alone; IPv6 is left out where the settings say so (no-aaaa of resolver(5))
+  -- both families are queried, or only one; IPv6 is not if the options have no-aaaa (resolver(5))
   abbrev pub AsksFor : Option Family → Resolver R → Type 0
   AsksFor only resolver =
       BeginsPart (wants only families.V6 && not resolver.setup.plan.no_aaaa) resolver.v6
       × BeginsPart (wants only families.V4) resolver.v4
 
-  -- What is known without asking; or name servers, by the file of settings of this machine, as the environment amends
-  -- it, or the one that is chosen; or the system's resolver, where that is chosen.
+  -- The addresses known without a query; or name servers, by this machine's resolver configuration with the
+  -- environment's changes, or the chosen one; or the system's resolver, if it is chosen.
   abbrev pub BeginsWith : Choice → Environment → Option Family → Target → Source R → Type 0
   BeginsWith choice environment only target (sources.Known known) = IsKnown target (Some known.items)
   BeginsWith choice environment only target (sources.Servers resolver) =
@@ -44,7 +44,7 @@ module _ {R : Type 0} where
   BeginsWith choice environment only target (sources.System query) = AsksSystem choice target
   BeginsWith choice environment only target (sources.Told told) = ⊥
 
-  -- the look-up of the host that a text names
+  -- the look-up of the host in a text
   abbrev pub BeginsFor : List ℕ → Choice → Environment → Option Family → Source R → Type 0
   BeginsFor text choice environment only source =
       (target : Target) × Means text target × BeginsWith choice environment only target source

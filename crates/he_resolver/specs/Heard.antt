@@ -1,4 +1,4 @@
--- What is told of a host: of what a name server says to the query for one of the names, or of what is known without one.
+-- The answers for a host: from a name server's message for one of the names, or from the addresses known without one.
 use Rattle.std.specs.Prelude.{◌≡◌, ◌⊎◌, ⊤, true, false, ℕ, List, Option, Some, None, Result, Ok, Err, map, slice_get}
 use Rattle.std.specs.Global.{Vec}
 use Rattle.he_addr.specs.declared.ip.Family.{Family}
@@ -18,52 +18,52 @@ use Rattle.he_resolver.specs.declared.resolver.Resolver.{Resolver}
 
 -- ---- one family of the names
 
--- what was told is as it was, or is now heard
+-- the answer is as it was, or is one heard now
 abbrev pub HearsOf : List ℕ → Family → Option Heard → Option Heard → Type 0
 HearsOf octets family old None = ⊤
 HearsOf octets family old (Some told) = (Some told ≡ old) ⊎ IsHeardOf octets family told
 
--- addresses are those that are meant by what some message answers to the query for one of the names
+-- the addresses are those in some message's answer to the query for one of the names, with unspecified ones replaced
 abbrev pub AreHeard : List HostName → Family → List Ip → Type 0
 AreHeard names family ips =
     (place : ℕ) × (name : HostName) × (slice_get names place ≡ Some name) × (id : ℕ) × (given : List Ip)
     × IsAnswered id name.octets family given × (ips ≡ map meant_by given)
 
--- that there is no address, or no such name, is what some message says to the query for one of the names
+-- that there is no address, or no such name, is some message's answer to the query for one of the names
 abbrev pub IsSaidOfOne : List HostName → Family → NamesFault → Type 0
 IsSaidOfOne names family fault = is_absence fault ≡ true
     → (place : ℕ) × (name : HostName) × (slice_get names place ≡ Some name) × IsSaidOf name.octets family fault
 
--- so is what was told so far
+-- so is the answer so far
 abbrev pub IsHeardOfOne : List HostName → Family → Option Heard → Type 0
 IsHeardOfOne names family None = ⊤
 IsHeardOfOne names family (Some (Ok answer)) =
     (place : ℕ) × (name : HostName) × (slice_get names place ≡ Some name) × IsHeardOf name.octets family (Ok answer)
 IsHeardOfOne names family (Some (Err fault)) = IsSaidOfOne names family fault
 
--- the family's part of a look-up, which was told so
+-- the family's part of a look-up, with this answer
 abbrev pub IsPart : List HostName → Family → FamilyLookup → Type 0
 IsPart names family asking = (asking.family ≡ family) × IsHeardOfOne names family asking.told
 
--- ---- what is told
+-- ---- the results
 
 abbrev pub Told : Type 0
 Told = Result (Vec Ip) NamesFault
 
--- the family's addresses, cleaned, of all that a message answers for one of the names; or that a message says that
--- there are none
+-- the family's addresses, cleaned, in a message's answer for one of the names; or that a message answers that there
+-- are none
 abbrev pub TellsHeard : List HostName → Family → Told → Type 0
 TellsHeard names family (Ok ips) =
     (all : List Ip) × AreHeard names family all × (ips.items ≡ cleaned family all)
 TellsHeard names family (Err fault) = IsSaidOfOne names family fault
 
--- the addresses are those that are meant by the answer that was heard, cleaned
+-- the addresses are those of the answer that was heard, with unspecified ones replaced, cleaned
 abbrev pub AreOwn : Option Heard → Family → List Ip → Type 0
 AreOwn None family ips = ⊥
 AreOwn (Some (Ok answer)) family ips = ips ≡ cleaned family (map meant_by answer.addresses.items)
 AreOwn (Some (Err fault)) family ips = ⊥
 
--- or the fault is the one that was heard, or of this machine
+-- or the fault is the one that was heard, or one of this machine
 abbrev pub IsOwn : Option Heard → Family → Told → Type 0
 IsOwn told family (Ok ips) = AreOwn told family ips.items
 IsOwn told family (Err fault) = (told ≡ Some (Err fault)) ⊎ (is_absence fault ≡ false)
@@ -74,14 +74,13 @@ ttl_of None = None
 ttl_of (Some (Ok answer)) = answer.ttl
 ttl_of (Some (Err fault)) = None
 
--- the family's addresses, cleaned, of all that is known without asking a name server
+-- the family's addresses, cleaned, among those known without a name server
 abbrev pub TellsKnown : Told → Family → Told → Type 0
 TellsKnown (Ok all) family (Ok ips) = ips.items ≡ cleaned family all.items
 TellsKnown (Ok all) family (Err fault) = fault ≡ faults.Memory
 TellsKnown (Err why) family told = told ≡ Err why
 
--- the addresses of a host are known; or messages answer them, for names that are asked; or the system's resolver has
--- them
+-- the host's addresses are known; or messages answer the queries for the names; or the system's resolver has them
 pub data Origin : Type 0 where
   Listed : (known : List Ip) → Origin
   Asked : (names : List HostName) → Origin
@@ -93,12 +92,12 @@ module _ {R : Type 0} where
   abbrev pub names_of : Resolver R → List HostName
   names_of resolver = resolver.setup.plan.names.items
 
-  -- what was heard of a family so far
+  -- the answer of a family so far
   abbrev pub heard_of : Resolver R → Family → Option Heard
   heard_of resolver families.V6 = resolver.v6.told
   heard_of resolver families.V4 = resolver.v4.told
 
-  -- each family has been told what was heard of one of the names that are to be asked
+  -- the answer of each family is one that was heard for one of the names to query
   abbrev pub IsFaithful : Resolver R → Type 0
   IsFaithful resolver =
       IsPart (names_of resolver) families.V6 resolver.v6 × IsPart (names_of resolver) families.V4 resolver.v4
@@ -109,21 +108,21 @@ module _ {R : Type 0} where
   IsSound (sources.Servers resolver) = IsFaithful resolver
   IsSound other = ⊤
 
-  -- where the addresses come from, which stays as it is from the beginning to the end
+  -- the origin of the addresses, which doesn't change during the look-up
   abbrev pub origin_of : Source R → Origin
   origin_of (sources.Known known) = Listed known.items
   origin_of (sources.Servers resolver) = Asked (names_of resolver)
   origin_of (sources.System query) = BySystem
   origin_of (sources.Told found) = BySystem
 
-  -- what is told of a family: of what was heard, or of what is known, also by the system
+  -- the result of a family: from an answer that was heard, or from known addresses, the system's among them
   abbrev pub Tells : Source R → Family → Told → Type 0
   Tells (sources.Known known) family told = TellsKnown (Ok known) family told
   Tells (sources.Told found) family told = TellsKnown found family told
   Tells (sources.Servers resolver) family told = TellsHeard (names_of resolver) family told
   Tells (sources.System query) family told = ⊥
 
-  -- where name servers were asked, the addresses are those of the answer that was heard, and the TTL is that of it
+  -- with name servers, the addresses and the TTL are those of the answer that was heard
   abbrev pub AreOwnOf : Source R → Family → List Ip → Type 0
   AreOwnOf (sources.Servers resolver) family ips = AreOwn (heard_of resolver family) family ips
   AreOwnOf other family ips = ⊤

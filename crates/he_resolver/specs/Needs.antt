@@ -1,5 +1,5 @@
--- Which sources of events a look-up waits for, of its sockets and its timers. What is settled and not yet told waits
--- for nothing: every source counts as one of its own, so that only a poll that has asked for another one has
+-- The sources of events that a look-up waits for: its sockets and its timers. A final answer that is not yet returned
+-- waits for nothing: it counts every source as its own, so that only a poll that has asked to be polled again has
 -- registered at all.
 use Rattle.std.specs.Prelude.{ℕ, ◌≡◌, ◌<◌, ◌⊎◌, ⊤, true, false, Bool, List, [], Option, is_some, length, slice_index_or}
 use Rattle.futures.specs.Channel.{completed_source}
@@ -22,11 +22,11 @@ use Rattle.he_resolver.specs.declared.resolver.Resolver.{Resolver}
 
 -- ---- one family of a name
 
--- each of the queries
+-- each query
 abbrev pub any_needs : List Query → ℕ → Type 0
 any_needs queries s = (k : ℕ) × (d : Query) × (k < length queries) × query_needs (slice_index_or queries k d) s
 
--- the time at which the next server is asked; where that is now, all
+-- the time to ask the next server; all sources if that is now
 abbrev pub next_server_needs : NextServer → ℕ → Type 0
 next_server_needs Now s = ⊤
 next_server_needs (After timer) s = s ≡ sleep_source timer
@@ -35,14 +35,14 @@ next_server_needs Never s = ⊥
 abbrev pub IsTold : FamilyLookup → Type 0
 IsTold asking = is_some asking.told ≡ true
 
--- Until it is told, a family's part waits for each query and for the next server's time; where it has no query under
--- way it is to be polled again.
+-- Until it has an answer, a family's part waits for each query and for the time of the next server; without a query
+-- it must be polled again.
 unfoldable pub family_needs : FamilyLookup → ℕ → Type 0
 family_needs asking s =
     (is_some asking.told ≡ false)
     × ((asking.queries.items ≡ []) ⊎ any_needs asking.queries.items s ⊎ next_server_needs asking.next s)
 
--- it is told, or has registered for all that it waits for
+-- it has an answer, or has registered for all that it waits for
 abbrev pub Listens : Context → FamilyLookup → Type 0
 Listens cx asking = IsTold asking ⊎ Covers cx (family_needs asking)
 
@@ -64,12 +64,12 @@ module _ {R : Type 0} where
   abbrev pub names_needs : Resolver R → ℕ → Type 0
   names_needs resolver s = family_needs resolver.v6 s ⊎ family_needs resolver.v4 s
 
-  -- A family of which it is settled what is told is to be polled for. Any other waits for both parts, since what one
-  -- is told may settle the other.
+  -- A family with a final answer must be polled. Any other waits for both parts, since the answer of one may make
+  -- that of the other final.
   abbrev pub resolver_needs : Resolver R → Family → ℕ → Type 0
   resolver_needs resolver family s = (is_settled resolver family ≡ true) ⊎ names_needs resolver s
 
-  -- a look-up: what is known without asking, or has come, is to be polled for
+  -- a look-up: addresses that are known or have come must be polled for
   abbrev pub source_needs : Source R → Family → ℕ → Type 0
   source_needs (sources.Known known) family s = ⊤
   source_needs (sources.Told found) family s = ⊤
@@ -79,17 +79,17 @@ module _ {R : Type 0} where
   abbrev pub lookup_needs : Lookup R → Family → ℕ → Type 0
   lookup_needs lookup family s = source_needs lookup.source family s
 
-  -- what is told of a family so far
+  -- the result of a family so far
   abbrev pub told_of : Gathering R → Family → Option FamilyAnswer
   told_of gathering families.V6 = gathering.v6
   told_of gathering families.V4 = gathering.v4
 
-  -- a look-up of both families: each until it is told
+  -- a look-up of both families: each until it has its result
   abbrev pub gathering_needs : Gathering R → ℕ → Type 0
   gathering_needs gathering s =
       (family : Family) × (is_some (told_of gathering family) ≡ false) × lookup_needs gathering.lookup family s
 
-  -- the family is told, or the look-up has registered for all that it waits for
+  -- the family has its result, or the look-up has registered for all that it waits for
   abbrev pub IsHeard : Context → Gathering R → Family → Type 0
   IsHeard cx gathering family =
       (is_some (told_of gathering family) ≡ true) ⊎ Covers cx (lookup_needs gathering.lookup family)

@@ -1,4 +1,4 @@
-// What one family asks: the servers in their order, beside one another, until one of them tells.
+// The look-up of one family: it asks the servers in order, side by side, until one has an answer.
 
 ghost use Rattle.std.specs.Prelude.{◌≡◌, ◌<◌, ◌||◌, ◌⊎◌, Err, IfErr, None, Some, true, if◌then◌else◌, is_some, not, vec_len};
 ghost use Rattle.futures.specs.Poll.{IfReady, OnPending};
@@ -24,36 +24,36 @@ use std::random::RandomSource;
 use std::time::Clock;
 use tokio::time::Sleep;
 
-// When the next server is asked.
+// When to ask the next server.
 #[derive(Drop)]
 pub(crate) enum NextServer {
     Now,
     After(Sleep),
-    // There is no other.
+    // No server is left.
     Never,
 }
 
-// One family's part of a name: what was told, or how far the asking is.
+// One family's part of a look-up: its answer, or the queries for it.
 #[derive(Drop)]
 pub(crate) struct FamilyLookup {
     family: Family,
-    // The queries that are waited for.
+    // The queries in progress.
     queries: Vec<Query>,
-    // How many servers were asked.
+    // The number of servers asked.
     begun: usize,
-    // How many of the first servers are not waited for alone: they failed, or did not answer for an earlier name in
-    // time.
+    // The number of first servers that the next one doesn't wait for: for an earlier name they failed, or did not
+    // answer in time.
     passed: usize,
     next: NextServer,
     // The first server that failed.
     failed: Option<ServerFault>,
     told: Option<Result<Answer, NamesFault>>,
-    // Whether no other name can change what is told.
+    // Whether no other name can change the answer.
     is_settled: bool,
 }
 
 impl FamilyLookup {
-    // Of a family that isn't wanted that is told and settled at once.
+    // A family that isn't wanted has its final answer at once.
     pub(crate) fn new(alloc: Global, family: Family, is_wanted: bool) -> FamilyLookup
         ensures family { result.family ≡ family }
         ensures told { result.told ≡ (if is_wanted then None else Some (Err NotAsked)) }
@@ -75,7 +75,7 @@ impl FamilyLookup {
         }
     }
 
-    // Asks for another name, unless it is settled what is told.
+    // Starts over for another name, unless the answer is final.
     pub(crate) fn start_again(&mut self)
         ensures same { IsSame self.old self.new }
         ensures told { (self.new.told ≡ self.old.told) ⊎ (self.new.told ≡ None) }
@@ -96,12 +96,12 @@ impl FamilyLookup {
         self.told.is_some()
     }
 
-    // Whether it was told of addresses.
+    // Whether it has addresses.
     pub(crate) fn has_found(&self) -> bool {
         matches!(&self.told, Some(Ok(_)))
     }
 
-    // Why there are no addresses, once that was told.
+    // Why it has no addresses, if that is the answer.
     pub(crate) fn lack(&self) -> Option<NamesFault> {
         match &self.told {
             Some(Err(fault)) => Some(*fault),
@@ -109,28 +109,28 @@ impl FamilyLookup {
         }
     }
 
-    // The addresses, or why there are none, once that was told.
+    // The addresses, or why there are none, once there is an answer.
     pub(crate) fn told(&self) -> &Option<Result<Answer, NamesFault>>
         ensures { result.now ≡ self.now.told }
     {
         &self.told
     }
 
-    // Whether nothing can change what is told.
+    // Whether nothing can change the answer.
     pub(crate) fn is_settled(&self) -> bool
         ensures { result ≡ self.now.is_settled }
     {
         self.is_settled
     }
 
-    // Notes that nothing can change it, where that is so.
+    // Makes the answer final, if `is_final`.
     pub(crate) fn settle(&mut self, is_final: bool)
         ensures { self.new ≡ record self.old { is_settled = self.old.is_settled || is_final } }
     {
         self.is_settled = self.is_settled || is_final;
     }
 
-    // Ends the asking, which was told this.
+    // Ends the look-up with this answer.
     fn tell(&mut self, told: Result<Answer, NamesFault>)
         ensures told { self.new.told ≡ Some told }
         ensures same { IsSame self.old self.new }
@@ -142,8 +142,8 @@ impl FamilyLookup {
         self.told = Some(told);
     }
 
-    // Asks for the name at this place. Ready once it is told what addresses the family has, or why none: by a message
-    // that answers the query for this family, or since no server tells anything.
+    // Queries the name at this place. Ready once there is an answer, addresses or why there are none: from a message
+    // that answers the query for this family, or because no server has an answer.
     #[tactic(auto, using(crate::proofs::Asking::heard_of_one, crate::proofs::Asking::ends_next))]
     pub(crate) fn poll<R: Net + RandomSource + Clock>(
         &mut self,
@@ -177,7 +177,7 @@ impl FamilyLookup {
         cx.yield_now()
     }
 
-    // One step: asks the next server where that is due, or looks what became of the queries.
+    // One step: asks the next server if that is due, or polls the queries.
     #[tactic(auto, unfolding(crate::specs::Needs::family_needs), using(crate::proofs::Asking::hears_asked, crate::proofs::Asking::hears_same, crate::proofs::Asking::hears_taken, crate::proofs::Asking::ends_same, crate::proofs::Asking::ends_taken))]
     fn step<R: Net + RandomSource + Clock>(
         &mut self,
@@ -212,8 +212,8 @@ impl FamilyLookup {
         }
     }
 
-    // Asks the next server, beside those that are waited for. Where there is none and none is waited for, it is told
-    // that none tells anything.
+    // Asks the next server, beside the queries in progress. If no server and no query is left, the answer is that no
+    // server has one.
     fn ask_next<R: Net + RandomSource + Clock>(
         &mut self,
         setup: &Setup<'_, R>,
@@ -253,15 +253,15 @@ impl FamilyLookup {
         Ok(())
     }
 
-    // Notes that the server that was asked last has not answered, where there is another one.
+    // Records that the last server asked has not answered, if there is another one.
     fn note_slow<R: Clock>(&self, setup: &Setup<'_, R>) {
         if let (Some(query), Some(next)) = (self.queries.last(), setup.plan.server(self.begun)) {
             setup.note(self.family, LookupEventKind::Slow(query.server(), next));
         }
     }
 
-    // Takes what a server told: that there is no such name or no address is an answer, where a server fails the next
-    // one is asked.
+    // Takes a server's answer. No such name and no address are answers; after a server's failure the next server is
+    // asked.
     fn take<R: Clock>(
         &mut self,
         setup: &Setup<'_, R>,
@@ -292,7 +292,7 @@ impl FamilyLookup {
         }
     }
 
-    // Why none of the servers told anything.
+    // Why no server had an answer.
     fn failed(&self) -> NamesFault
         ensures { is_of_server result ≡ true }
     {
@@ -303,7 +303,7 @@ impl FamilyLookup {
     }
 }
 
-// When the next server is asked, where the one that is asked now is waited for alone or not.
+// When to ask the next server: after `ALONE` milliseconds, or at once.
 fn next_server<R: Clock>(setup: &Setup<'_, R>, is_alone: bool) -> io::Result<NextServer> {
     if is_alone {
         Ok(NextServer::After(setup.sleep(ALONE)?))
@@ -317,7 +317,7 @@ impl NextServer {
         matches!(self, NextServer::Now)
     }
 
-    // Ready once the next server is to be asked.
+    // Ready once the next server must be asked.
     fn poll_due(&mut self, cx: &mut Context<'_>) -> Poll<()>
         requires armed { IsArmed cx.old }
         ensures waits { OnPending result (Covers cx.new (next_server_needs self.new)) }
@@ -334,7 +334,7 @@ impl NextServer {
     }
 }
 
-// Polls each query in turn, up to the first that has an answer: its place, and the answer.
+// Polls each query in turn, up to the first with an answer. Returns its index and the answer.
 fn poll_any<R: Net + RandomSource + Clock>(
     queries: &mut Vec<Query>,
     setup: &Setup<'_, R>,

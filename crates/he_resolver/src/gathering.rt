@@ -1,4 +1,4 @@
-// Both answers of a host, each with the tick at which it came.
+// The results of both families of a host, each with its tick.
 
 ghost use Rattle.std.specs.Prelude.{◌≡◌, ◌≢◌, ◌&&◌, is_some};
 ghost use Rattle.std.specs.Result.{result_err};
@@ -16,14 +16,14 @@ use std::net::Net;
 use std::random::RandomSource;
 use std::time::Clock;
 
-// What a family was told, and the milliseconds since the look-up began at which that came.
+// A family's result, and when it came, in milliseconds since the look-up began.
 #[derive(Drop)]
 pub(crate) struct FamilyAnswer {
     tick: u64,
     answer: Result<Vec<Ip>, NamesFault>,
 }
 
-// Both answers; or, where neither family has an address, why. Beside it why each family has none, where it has none.
+// The results of both families or, if neither has an address, why; and why each family has none, if it has none.
 #[derive(Drop)]
 pub(crate) struct Gathered {
     pub(crate) found: Result<Found, NamesFault>,
@@ -31,7 +31,7 @@ pub(crate) struct Gathered {
     pub(crate) v4: Option<NamesFault>,
 }
 
-// Waits for both answers.
+// Waits for both results.
 #[derive(Drop)]
 pub(crate) struct Gathering<'h, R> {
     alloc: Global,
@@ -50,7 +50,7 @@ impl<'h, R: Net + RandomSource + Clock> Gathering<'h, R> {
         }
     }
 
-    // Polls for the family, where it isn't told, and notes what it is told at this tick.
+    // Polls for the family, unless it has its result, and records the result at this tick.
     fn poll_for(&mut self, family: Family, tick: u64, cx: &mut Context<'_>)
         ensures own { IsHeard cx.new self.new family }
         ensures other { (other : _) → other ≢ family → IsHeard cx.old self.old other → IsHeard cx.new self.new other }
@@ -83,7 +83,7 @@ impl<'h, R: Net + RandomSource + Clock> Gathering<'h, R> {
         self.v6.is_some() && self.v4.is_some()
     }
 
-    // Both answers, which are given away.
+    // Takes both results out.
     fn join(&mut self) -> Gathered {
         match (self.v6.take(), self.v4.take()) {
             (Some(v6), Some(v4)) => join(self.alloc, v6, v4),
@@ -113,7 +113,7 @@ impl<R: Net + RandomSource + Clock> Future for Gathering<'_, R> {
     }
 }
 
-// Both answers, and why each family has none.
+// Joins both results, with why each family has no address.
 fn join(alloc: Global, v6: FamilyAnswer, v4: FamilyAnswer) -> Gathered
     ensures six { result.v6 ≡ result_err v6.answer }
     ensures four { result.v4 ≡ result_err v4.answer }

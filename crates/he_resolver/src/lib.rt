@@ -2,27 +2,27 @@
 //!
 //! [`Lookup`] asks name servers for both families of a host at once (RFC 1035, RFC 3596), and is polled: it returns
 //! each family's addresses as soon as they are known. [`write_names`] finds a host's addresses and writes them as the
-//! two answers of a timeline: `he names` is this call. Which names and which servers are asked is `he_settings`, one
-//! query to one server `he_asking`, the messages `he_dns`.
+//! two answers of a timeline: `he names` is this call. `he_settings` plans the names and the servers, `he_asking` has
+//! one query to one server, and `he_dns` the messages.
 //!
-//! # How it is asked
+//! # The queries
 //!
-//! The names of the plan are asked for in their order, each until one has an address of either family. Each family has
-//! an answer of its own: that a server has no such name for one type says nothing of the other (RFC 4074 section 4.2),
-//! and the next name is asked for where both families have ended without an address. A name server that has not
-//! answered for 250 milliseconds is not waited for alone: the next one is asked beside it, at once where a server
-//! fails, where the query can't be sent, or where the server did not answer in time for an earlier name, and the first
-//! that answers counts, whichever it is. None answers only where each had all its time. In place of name servers the
-//! system's resolver may be asked, in a thread ([`system`]).
+//! The names of the plan are queried in order, until one has an address of either family. Each family has its own
+//! answer: that a server has no such name for one type means nothing for the other (RFC 4074 section 4.2). The next
+//! name is queried once both families have ended without an address. If a name server has not answered for 250
+//! milliseconds, the next one is asked too; it is asked at once if a server fails, if the query can't be sent, or if
+//! the server did not answer in time for an earlier name. The first answer counts, from whichever server. No server
+//! answers only after each had all its time. The system's resolver may be asked instead of name servers, in a thread
+//! ([`system`]).
 //!
-//! What the contracts say: a look-up begins with what is known of the host, or with the names and the servers that are
-//! to be asked, for both families or one (`specs/Begins`); a family gets its own addresses, none twice, at most 256, of
-//! all that is meant by what a message answers to the question for one of these names, or of what is known, and the TTL
-//! is that of this message; that it has none, or that there is no such name, is what a message says to this question
-//! (`specs/Heard`); where a poll is pending, it has registered at every socket and timer that the family waits for, and
-//! where it settles what the other family gets, the task is polled again (`specs/Needs`); [`write_names`] writes the
-//! two lines, and nothing after any fault but `Write` (`specs/Told`). And, of functions inside: when the next server is
-//! asked, and after which faults (`specs/Asking`). Only tested, on loopback: when queries leave, and to whom.
+//! Proved: a look-up begins with the host's known addresses, or with the names and the servers to query, for both
+//! families or one (`specs/Begins`). A family gets its own addresses, each once, at most 256, from a message's answer
+//! to the question for one of these names, or from the known ones, with unspecified ones replaced; the TTL is that of
+//! this message; that it has none, or that there is no such name, is a message's answer to this question
+//! (`specs/Heard`). A pending poll has registered for every socket and timer that the family waits for; if it makes
+//! the other family's result final, the task is polled again (`specs/Needs`). [`write_names`] writes the two lines,
+//! and nothing after any fault but `Write` (`specs/Told`). For internal functions: when the next server is asked, and
+//! after which faults (`specs/Asking`). Tested only, on loopback: when queries are sent, and to which server.
 #![tactic(auto)]
 
 mod family_lookup;

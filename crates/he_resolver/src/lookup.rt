@@ -1,4 +1,4 @@
-//! A look-up of a host's addresses that is polled, as a race polls it.
+//! A look-up of a host's addresses, to be polled as by a race.
 
 ghost use Rattle.std.specs.Prelude.{◌≡◌, ◌≢◌, IfOk, Ok};
 ghost use Rattle.futures.specs.Poll.{IfReady, OnPending};
@@ -12,11 +12,11 @@ ghost use Rattle.he_resolver.specs.declared.lookup.Source.TheVariants as sources
 use crate::resolver::Resolver;
 use crate::system::{SystemQuery, SystemResolver};
 use futures::task::{Context, Poll};
-use he_addr::{Family, Ip};
+use he_addr::{Family, Ip, Memory};
 use he_asking::{LookupEventKind, LookupLog, Origin, Setup};
 use he_names::{Target, clean_of, read_host};
 use he_settings::{Choice, NamesFault, Wanted, known_by_itself, plan_for};
-use std::alloc::{AllocError, AllocGlobal, Global};
+use std::alloc::{AllocGlobal, Global};
 use std::net::Net;
 use std::random::RandomSource;
 use std::rt::Files;
@@ -24,8 +24,8 @@ use std::thread::Threads;
 use std::time::Clock;
 use tokio::runtime::Handle;
 
-/// Finds the addresses of a host, and returns each family's as soon as they are known: a resolver for a race that runs
-/// (RFC 8305 section 3).
+/// Finds the addresses of a host, and returns each family's as soon as they are known: a resolver for a race in
+/// progress (RFC 8305 section 3).
 #[derive(Drop)]
 pub struct Lookup<'h, R> {
     rt: &'h R,
@@ -34,26 +34,26 @@ pub struct Lookup<'h, R> {
     log: LookupLog,
 }
 
-// Where the addresses come from.
+// The origin of the addresses.
 #[derive(Drop)]
 pub(crate) enum Source<'h, R> {
     Known(Vec<Ip>),
     Servers(Resolver<'h, R>),
     System(SystemQuery),
-    // What the system's resolver told.
+    // The result of the system's resolver.
     Told(Result<Vec<Ip>, NamesFault>),
 }
 
 impl<'h, R: Net + RandomSource + Clock> Lookup<'h, R> {
-    /// A look-up of a host of which nothing is known ([`find_known`](he_settings::find_known)): the file of hosts is not
-    /// read. What is an address, or this machine, is its own answer. Nothing is sent before the first poll; the
-    /// system's own resolver is called at once, in a thread.
+    /// A look-up of a host without known addresses ([`find_known`](he_settings::find_known)): it doesn't read the
+    /// hosts file. An address, or this machine, is its own answer. Nothing is sent before the first poll; the
+    /// system's resolver is called at once, in a thread.
     ///
     /// # Errors
     ///
-    /// `Host` and `Name` where it is no host name, or one that is not asked for; `Unreadable` and `Files` where a file
-    /// of the system is there and can't be read; `Interface` where this machine has none such as the chosen name
-    /// server is to be asked over; `Runtime` where no thread can be made; `Memory`.
+    /// `Host` and `Name` if it is not a host name, or one that may not be queried; `Unreadable` and `Files` if a
+    /// system file exists but can't be read; `Interface` if this machine doesn't have the chosen name server's
+    /// interface; `Runtime` if no thread can be made; `Memory`.
     pub fn new(
         rt: &'h R,
         alloc: Global,
@@ -72,11 +72,11 @@ impl<'h, R: Net + RandomSource + Clock> Lookup<'h, R> {
         }
     }
 
-    /// The same by name servers alone, for a caller that may start no thread.
+    /// As [`new`](Lookup::new), with name servers only, for a caller that must not start a thread.
     ///
     /// # Errors
     ///
-    /// As those of [`new`](Lookup::new), and `System` where the system's resolver is to be asked.
+    /// Those of [`new`](Lookup::new), and `System` if the system's resolver is chosen.
     pub fn by_servers(
         rt: &'h R,
         alloc: Global,
@@ -109,7 +109,7 @@ impl<'h, R: Net + RandomSource + Clock> Lookup<'h, R> {
         Ok(Lookup::with(rt, alloc, Source::Servers(resolver), log))
     }
 
-    // By the system's own resolver, which gives both families.
+    // By the system's resolver, which returns both families.
     fn by_system(rt: &'h R, alloc: Global, wanted: Wanted<'_>) -> Result<Lookup<'h, R>, NamesFault>
     where
         R: AllocGlobal + SystemResolver + Threads + Copy + Send + 'static,
@@ -136,8 +136,8 @@ impl<'h, R: Net + RandomSource + Clock> Lookup<'h, R> {
         }
     }
 
-    /// A look-up of a host whose addresses are known, by [`find_known`](he_settings::find_known) or from an earlier one: it
-    /// returns these; nothing is read or asked.
+    /// A look-up of a host with known addresses, from [`find_known`](he_settings::find_known) or an earlier look-up:
+    /// it returns these, and reads and sends nothing.
     ///
     /// # Errors
     ///
@@ -161,30 +161,29 @@ impl<'h, R: Net + RandomSource + Clock> Lookup<'h, R> {
         }
     }
 
-    // The whole milliseconds since the look-up began, as its events have them; 0 where the clock fails.
+    // Whole milliseconds since the look-up began, as in its events; 0 if the clock fails.
     pub(crate) fn tick(&self) -> u64 {
         self.log.tick(self.rt)
     }
 
-    /// What happened in the look-up so far, for a holder that reads it while the look-up goes on.
+    /// The events of the look-up, for a holder that reads them during it.
     ///
     /// # Errors
     ///
-    /// `AllocError` where there are too many holders.
-    pub fn log(&self) -> Result<LookupLog, AllocError> {
+    /// `Memory` if there are too many handles.
+    pub fn log(&self) -> Result<LookupLog, Memory> {
         self.log.share()
     }
 
-    /// The addresses of the family, each once and at most 256, or why it has none. Each family is to be polled until
-    /// it is returned, and not after that.
+    /// The addresses of the family, each once and at most 256, or why it has none. Poll each family until it is
+    /// ready, and not after.
     ///
-    /// Both families are asked for at the first poll, that of IPv6 first. The name servers are asked beside one
-    /// another, each [`ALONE`](he_asking::limits::ALONE) milliseconds after the one before it or as soon as that has
-    /// failed, and the first that answers counts. To each the query is sent once a second, `timeout` times `attempts`
-    /// times by the file of resolver settings. The system's resolver has its own time, and returns both families at
-    /// once.
+    /// The first poll asks for both families, IPv6 first. The name servers are asked side by side, each
+    /// [`ALONE`](he_asking::limits::ALONE) milliseconds after the one before it or as soon as that has failed, and
+    /// the first answer counts. The query is sent to each once a second, `timeout` times `attempts` times
+    /// (resolv.conf). The system's resolver has its own time limit, and returns both families at once.
     ///
-    /// A poll may settle what the other family gets: then it has the task polled again.
+    /// A poll may make the other family's result final; the task is then polled again.
     ///
     /// # Errors
     ///
@@ -226,9 +225,9 @@ impl<'h, R: Net + RandomSource + Clock> Lookup<'h, R> {
         }
     }
 
-    /// The seconds for which the addresses of the family may be kept, once [`poll_answer`](Lookup::poll_answer) has
-    /// had them: the TTL of the name server's answer, at most 2^31 - 1. None where they are of no name server, or
-    /// there are none.
+    /// How long the family's addresses may be kept, in seconds, after [`poll_answer`](Lookup::poll_answer) returned
+    /// them: the TTL of the name server's answer, at most 2^31 - 1. None if they are from no name server, or there
+    /// are none.
     pub fn ttl(&self, family: Family) -> Option<u32>
         ensures { result ≡ ttl_in self.now.source family }
     {
@@ -239,7 +238,7 @@ impl<'h, R: Net + RandomSource + Clock> Lookup<'h, R> {
     }
 }
 
-// The family's part of what the system's resolver told.
+// The family's part of the result of the system's resolver.
 fn answer_of(
     alloc: Global,
     family: Family,
@@ -254,7 +253,7 @@ fn answer_of(
     }
 }
 
-// The family's part of the addresses, each once and at most 256.
+// The family's addresses, each once and at most 256.
 fn part_of(alloc: Global, family: Family, ips: &Vec<Ip>) -> Result<Vec<Ip>, NamesFault>
     ensures answer { IfOk result (λ part. IsAnswer family part.items) }
     ensures told { TellsKnown (Ok ips.now) family result }
@@ -262,7 +261,7 @@ fn part_of(alloc: Global, family: Family, ips: &Vec<Ip>) -> Result<Vec<Ip>, Name
     Ok(clean_of(alloc, family, ips)?)
 }
 
-// Notes how many addresses of each family count.
+// Records the number of addresses of each family.
 fn note_counts<R: Clock>(rt: &R, alloc: Global, log: &LookupLog, known: &[Ip], origin: Origin) {
     for family in [Family::V6, Family::V4] {
         if let Ok(ips) = clean_of(alloc, family, known) {

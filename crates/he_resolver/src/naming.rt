@@ -1,4 +1,4 @@
-//! What a name has, found and returned.
+//! Finds and writes the addresses of a name.
 
 ghost use Rattle.std.specs.Prelude.{◌≡◌, IfOk};
 ghost use Rattle.he_stream.specs.Output.{PutsPart, PutsWhole};
@@ -21,19 +21,19 @@ use std::thread::Threads;
 use std::time::Clock;
 use tokio::runtime::{Handle, LocalRuntime};
 
-/// What is to be said of a look-up beside its answers.
+/// The report of a look-up, beside its answers.
 #[derive(Drop)]
 pub struct LookupReport {
-    /// Why IPv6 has no address, where it has none.
+    /// Why IPv6 has no address, if it has none.
     pub v6: Option<NamesFault>,
-    /// Why IPv4 has no address, where it has none.
+    /// Why IPv4 has no address, if it has none.
     pub v4: Option<NamesFault>,
-    /// What happened, in its order.
+    /// The events, in order.
     pub events: Vec<LookupEvent>,
 }
 
 impl LookupReport {
-    /// Nothing is to be said.
+    /// An empty report.
     pub fn new(alloc: Global) -> LookupReport {
         LookupReport {
             v6: None,
@@ -43,15 +43,15 @@ impl LookupReport {
     }
 }
 
-/// Finds the addresses of a host and writes them as the two answers of a timeline, each with the tick at which it
-/// came, in milliseconds since the host was asked for. The report says what happened, and why a family has no address:
-/// that stands in it also where the other one has some, and where the call fails.
+/// Finds the addresses of a host and writes them as the two answers of a timeline, each with its tick, in
+/// milliseconds since the look-up began. The report has the events, and why a family has no address, even if the
+/// other family has some or the call fails.
 ///
 /// # Errors
 ///
-/// `Names` where the host has no address of either family (`NoSuchName`, `NoAddress`, `NoAnswer`, `Server`, `System`),
-/// is no host name or none to be asked for (`Host`, `Name`), or could not be asked for (`Unreadable`, `Files`,
-/// `Runtime`, `Memory`): then nothing was written. After `Write` a first part was.
+/// `Names` if the host has no address of either family (`NoSuchName`, `NoAddress`, `NoAnswer`, `Server`, `System`),
+/// is not a host name or may not be queried (`Host`, `Name`), or could not be queried (`Unreadable`, `Interface`,
+/// `Files`, `Runtime`, `Memory`): nothing was written. `Write` after a first part was written.
 pub fn write_names<R, O>(
     rt: &R,
     alloc: Global,
@@ -81,7 +81,7 @@ fn text_of(alloc: Global, found: &Found) -> Result<Vec<u8>, NamesFault>
     Ok(text)
 }
 
-// Asks, and waits for both answers.
+// Starts the look-up and waits for both results.
 fn find<R>(
     rt: &R,
     alloc: Global,
@@ -104,7 +104,7 @@ where
     found
 }
 
-// A look-up of the host, of what is known of it or by asking.
+// A look-up of the host, from known addresses or by queries.
 fn look_up<'h, R>(
     rt: &'h R,
     alloc: Global,

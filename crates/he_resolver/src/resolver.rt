@@ -1,4 +1,4 @@
-// Name servers that are asked for a host.
+// The queries for a host to name servers.
 
 ghost use Rattle.std.specs.Prelude.{◌≡◌, ◌&&◌, IfOk, ⊤, true, false, is_some, not};
 ghost use Rattle.futures.specs.Poll.{OnPending};
@@ -20,23 +20,23 @@ use std::net::Net;
 use std::random::RandomSource;
 use std::time::Clock;
 
-// Asks name servers for the families of a host at once, and tells each family's addresses as they come.
+// Asks name servers for both families of a host at once, and returns each family's addresses as they come.
 //
-// The queries leave at the first poll, that for IPv6 first. That there is no such name is an answer for its own
-// family, as that there is no address is: there are servers that say so of AAAA and have an A (RFC 4074 section 4.2).
-// Where neither family has an address of a name, the next name is asked for: so a family without one is told at once
-// only where no other name can follow.
+// The first poll sends the queries, IPv6 first. No such name is an answer for its own family only, as no address is:
+// some servers answer so for AAAA although they have an A (RFC 4074 section 4.2). If neither family has an address
+// for a name, the next name is queried; so a family without an address is ready at once only if no other name can
+// follow.
 #[derive(Drop)]
 pub(crate) struct Resolver<'h, R> {
     setup: Setup<'h, R>,
-    // The name that is asked for, by its place.
+    // The place of the name being queried.
     place: usize,
     v6: FamilyLookup,
     v4: FamilyLookup,
 }
 
 impl<'h, R: Net + RandomSource + Clock> Resolver<'h, R> {
-    // Nothing is sent before the first poll. Where one family alone is wanted, the other isn't asked for.
+    // Sends nothing before the first poll. If only one family is wanted, the other isn't queried.
     pub(crate) fn new(setup: Setup<'h, R>, only: Option<Family>) -> Resolver<'h, R>
         ensures asks { AsksFor only result }
         ensures faithful { IsFaithful result }
@@ -61,8 +61,8 @@ impl<'h, R: Net + RandomSource + Clock> Resolver<'h, R> {
         }
     }
 
-    // Ready once it is settled what the family is told. Both families go on, whichever is polled for; where that
-    // settles what the other one is told, the task is woken, so that it polls for the other one.
+    // Ready once the family's result is final. Both families go on, whichever is polled; if the other's result
+    // becomes final, the task is woken to poll for it.
     pub(crate) fn poll_settled(&mut self, family: Family, cx: &mut Context<'_>) -> Poll<()>
         ensures waits { OnPending result (Covers cx.new (resolver_needs self.new family)) }
         ensures other { Covers cx.old (resolver_needs self.old (other_of family))
@@ -83,7 +83,7 @@ impl<'h, R: Net + RandomSource + Clock> Resolver<'h, R> {
         }
     }
 
-    // The addresses of the family, each once and at most 256, or why there are none, once that is settled.
+    // The addresses of the family, each once and at most 256, or why there are none, once the result is final.
     pub(crate) fn answer(&self, family: Family) -> Result<Vec<Ip>, NamesFault>
         ensures answer { IfOk result (λ ips. IsAnswer family ips.items) }
         ensures told { IsFaithful self.now → TellsHeard (names_of self.now) family result }
@@ -92,7 +92,7 @@ impl<'h, R: Net + RandomSource + Clock> Resolver<'h, R> {
         answer_of(self.setup.alloc, family, self.asking(family).told())
     }
 
-    // The TTL of the answer that the addresses of the family are of.
+    // The TTL of the answer that has the family's addresses.
     pub(crate) fn ttl(&self, family: Family) -> Option<u32>
         ensures { result ≡ ttl_of (heard_of self.now family) }
     {
@@ -117,7 +117,7 @@ impl<'h, R: Net + RandomSource + Clock> Resolver<'h, R> {
         self.asking(family).is_settled()
     }
 
-    // Goes on as far as it goes. Whether no more is asked.
+    // Goes on as far as possible. Returns whether all queries have ended.
     fn poll_names(&mut self, cx: &mut Context<'_>) -> bool
         ensures waits { result ≡ false → Covers cx.new (names_needs self.new) }
         ensures settled { (family : _) → is_settled self.new family ≡ is_settled self.old family }
@@ -138,7 +138,7 @@ impl<'h, R: Net + RandomSource + Clock> Resolver<'h, R> {
         false
     }
 
-    // Both families begin anew, with the next name.
+    // Starts both families over with the next name.
     fn go_on(&mut self)
         ensures settled { (family : _) → is_settled self.new family ≡ is_settled self.old family }
         ensures faithful { IsFaithful self.old → IsFaithful self.new }
@@ -149,7 +149,7 @@ impl<'h, R: Net + RandomSource + Clock> Resolver<'h, R> {
         self.v4.start_again();
     }
 
-    // Both families go on with the name. Whether both are told.
+    // Goes on with the name for both families. Returns whether both have an answer.
     fn poll_name(&mut self, cx: &mut Context<'_>) -> bool
         ensures waits { result ≡ false → Covers cx.new (names_needs self.new) }
         ensures settled { (family : _) → is_settled self.new family ≡ is_settled self.old family }
@@ -162,7 +162,7 @@ impl<'h, R: Net + RandomSource + Clock> Resolver<'h, R> {
         are_told(&self.v6, &self.v4)
     }
 
-    // Whether the next name is asked for: neither family has an address of this one, and a server said so of one.
+    // Whether to query the next name: neither family has an address for this one, and a server answered so for one.
     fn goes_on(&self) -> bool {
         match (self.v6.lack(), self.v4.lack()) {
             (Some(v6), Some(v4)) => !self.is_last() && (v6.is_absence() || v4.is_absence()),
@@ -174,8 +174,7 @@ impl<'h, R: Net + RandomSource + Clock> Resolver<'h, R> {
         self.setup.plan.is_last(self.place)
     }
 
-    // Settles the families of which nothing that is still asked can change what they are told: both, where no more is
-    // asked.
+    // Makes the results final that no remaining query can change: both, if no query remains.
     fn settle(&mut self, is_over: bool)
         ensures over { is_over ≡ true → (family : _) → is_settled self.new family ≡ true }
         ensures kept { (family : _) → is_settled self.old family ≡ true → is_settled self.new family ≡ true }
@@ -192,7 +191,7 @@ impl<'h, R: Net + RandomSource + Clock> Resolver<'h, R> {
     }
 }
 
-// Whether the family is asked for.
+// Whether the family is wanted.
 fn wants(only: Option<Family>, family: Family) -> bool
     ensures { result ≡ wants only family }
 {
@@ -202,7 +201,7 @@ fn wants(only: Option<Family>, family: Family) -> bool
     }
 }
 
-// Has the task polled again, where it is so now, and was not before.
+// Has the task polled again, if `is` and not `was`.
 fn wake_if(is: bool, was: bool, cx: &mut Context<'_>)
     ensures woken { (is && not was) ≡ true → Covers cx.new (λ _. ⊤) }
     ensures kept { Keeps cx.old cx.new }
@@ -227,13 +226,13 @@ fn are_told(v6: &FamilyLookup, v4: &FamilyLookup) -> bool
     v6.is_told() && v4.is_told()
 }
 
-// Whether no other answer and no other name can change what a family is told: it has addresses; or it has none, and
-// the other has some, or there is no other name.
+// Whether no other answer and no other name can change a family's result: it has addresses; or it has none, and the
+// other has some or no other name is left.
 fn can_settle(own: &FamilyLookup, other: &FamilyLookup, is_last: bool) -> bool {
     own.has_found() || (own.lack().is_some() && (is_last || other.has_found()))
 }
 
-// What is told of a family of which this was heard.
+// The result of a family with this answer.
 fn answer_of(
     alloc: Global,
     family: Family,

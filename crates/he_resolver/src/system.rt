@@ -1,4 +1,4 @@
-//! The system's resolver, which is called in a thread.
+//! The system's resolver, called in a thread.
 
 ghost use Rattle.std.specs.Prelude.{◌≡◌};
 ghost use Rattle.futures.specs.Channel.{completed_source};
@@ -15,18 +15,18 @@ use std::net::{IpAddr, ToSocketAddrs};
 use std::string::String;
 use std::thread::{self, Threads};
 
-/// A machine with a resolver of its own.
+/// A runtime with a system resolver.
 pub trait SystemResolver {
-    /// The addresses of a host, of both families, in the order in which the system has them. It blocks.
+    /// The addresses of a host, of both families, in the system's order. It blocks.
     ///
     /// # Errors
     ///
-    /// `System` where it has none, `Memory`.
+    /// `System` if there are none, `Memory`.
     fn system_addresses(&self, alloc: Global, host: &str) -> Result<Vec<Ip>, NamesFault>;
 }
 
 impl SystemResolver for HostRuntime {
-    // By getaddrinfo, at most 32.
+    // From getaddrinfo, at most 32.
     fn system_addresses(&self, alloc: Global, host: &str) -> Result<Vec<Ip>, NamesFault> {
         let Ok(found) = (host, 0u16).to_socket_addrs(self) else {
             return Err(NamesFault::System);
@@ -46,7 +46,7 @@ fn ip_of(ip: IpAddr) -> Ip {
     }
 }
 
-// A call of the system's resolver that is under way. Its thread isn't waited for once this is dropped.
+// A call of the system's resolver in progress. Dropping it doesn't wait for its thread.
 #[derive(Drop)]
 pub(crate) struct SystemQuery {
     found: Receiver<Result<Vec<Ip>, NamesFault>>,
@@ -68,7 +68,7 @@ impl SystemQuery {
         }
     }
 
-    // The addresses that the system has of the host, once.
+    // The host's addresses, once.
     pub(crate) fn poll_found(&mut self, cx: &mut Context<'_>) -> Poll<Result<Vec<Ip>, NamesFault>>
         ensures waits { OnPending result (Covers cx.new (λ s. s ≡ completed_source self.new.found)) }
         ensures kept { Keeps cx.old cx.new }

@@ -10,16 +10,16 @@ use thiserror::Error;
 /// Why the addresses of a name were not written.
 #[derive(Clone, Copy, Debug, PartialEq, Eq, Error)]
 pub enum TellFault {
-    /// There are none to write.
+    /// There are no addresses to write.
     #[error(transparent)]
     Names(NamesFault),
-    /// A step of the output failed or took no byte, the flush failed, or the bound of steps was reached.
+    /// A step of the output failed or took no byte, the flush failed, or the limit of steps was reached.
     #[error("cannot write the output")]
     Write,
 }
 
 impl TellFault {
-    /// Whether the host is what the fault is about, so that a line that reports the fault is to name it.
+    /// Whether the fault concerns the host, so that its message must name the host.
     pub fn is_of_host(self) -> bool {
         match self {
             TellFault::Names(fault) => fault.is_of_host(),

@@ -1,5 +1,5 @@
--- What the rules look at of an address: `attributes_of`. The rest mirrors the code: what it computes of an address,
--- and the rule that it finds between two.
+-- The attributes of an address that the rules compare: `attributes_of`. The rest mirrors the code: the attributes
+-- that it computes, and the rule that it finds between two addresses.
 use Rattle.std.specs.Prelude.{ℕ, ◌==◌, ◌&&◌, ◌||◌, Bool, false, not, cond, List, [], ◌∷◌, None, Option, is_none, is_some, option_and_then, option_map}
 use Rattle.std.specs.Bool.{beq}
 use Rattle.std.specs.List.{list_any}
@@ -24,7 +24,7 @@ use Rattle.he_select.specs.Selection.{SelectionInput, known_rtt, known_used, lon
 use Rattle.he_select.specs.Tables.{label_of, precedence_of}
 use Rattle.he_select.specs.Walking.{walk_fitting}
 
--- what the rules look at of an address that has this route and this source, with what is known
+-- the attributes of an address that has this route and this source, with this knowledge
 abbrev pub attributes_with : List Row → Option Route → Option LabelledSource → List Known → Ip → DestinationAttributes
 attributes_with rows route source known ip = record {
   ip = ip;
@@ -38,7 +38,7 @@ attributes_with rows route source known ip = record {
   used = known_used known ip;
 }
 
--- what they look at of an address
+-- the attributes of an address
 abbrev pub attributes_of : SelectionInput → Ip → DestinationAttributes
 attributes_of input ip =
     attributes_with input.rows (route_of input ip)
@@ -64,7 +64,7 @@ attributes_from rows routes labelled known ip =
 abbrev pub tells : Known → Bool
 tells one = is_some one.rtt || one.used
 
--- nothing need be looked up in a list that tells nothing
+-- the list, or an empty one if no entry holds any knowledge
 abbrev pub told_of : List Known → List Known
 told_of known = cond (list_any tells known) known []
 
@@ -80,7 +80,7 @@ has_deprecated s = option_map_or (λ labelled. labelled.source.deprecated) s.sou
 abbrev pub has_other_label : DestinationAttributes → Bool
 has_other_label s = option_map_or (λ labelled. not (labelled.label == s.label)) s.source false
 
--- prefers the one of which the test doesn't hold
+-- prefers the one for which the test fails
 abbrev pub no_first : (DestinationAttributes → Bool) → Rule DestinationAttributes
 no_first is a b = bool_cmp (is a) (is b)
 

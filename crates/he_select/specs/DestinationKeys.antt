@@ -1,4 +1,4 @@
--- The keys by which destinations are sorted: one number for each rule, the least key is preferred.
+-- The keys by which destinations are sorted: one number for each rule. The least key is preferred.
 use Rattle.std.specs.Prelude.{ℕ, ◌+◌, List, [], ◌∷◌, is_none, not}
 use Rattle.std.specs.declared.cmp.Ordering.{Ordering}
 use Rattle.std.specs.Ordering.{nat_cmp, bool_cmp, ordering_then}
@@ -9,7 +9,7 @@ use Rattle.he_select.specs.Preference.{Member}
 use Rattle.he_select.specs.Selection.{SelectionInput, rtt_or_unknown}
 use Rattle.he_select.specs.Attributes.{has_deprecated, has_other_label, has_other_scope, attributes_of}
 
--- the destination rules as numbers; 0 in those about the source, where there is none
+-- the destination rules as numbers; 0 for those about the source, if there is none
 abbrev pub key_of : DestinationAttributes → ℕ → Key
 key_of s place = record {
   unreachable = is_none s.source;

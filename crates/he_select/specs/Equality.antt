@@ -1,4 +1,5 @@
--- Mirrors the code: when two tables or two hosts are equal, field by field. A law in proofs/ ties it to equal lists.
+-- Mirrors the code: equality of two tables or two hosts, field by field. A law in proofs/ shows that it is equality
+-- of the lists.
 use Rattle.std.specs.Prelude.{◌==◌, ◌&&◌, Bool, List}
 use Rattle.std.specs.Bool.{beq}
 use Rattle.std.specs.Cmp.Lexicographic.{pointwise}

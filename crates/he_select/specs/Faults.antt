@@ -1,5 +1,5 @@
--- Why rows are no policy table, and lists no host: the first check that fails, the earlier ones passed, and the least
--- place at which it fails.
+-- Why rows are not a policy table, and lists not a host's: the first check that fails after the earlier ones pass,
+-- and the least place at which it fails.
 use Rattle.std.specs.Prelude.{List, All}
 use Rattle.he_select.specs.declared.host.HostFault.{HostFault}
 use Rattle.he_select.specs.declared.host.HostFault.TheVariants as hosts

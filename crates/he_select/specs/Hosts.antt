@@ -1,4 +1,4 @@
--- A host's sources and routes, and which lists of them are a host's.
+-- A host's sources and routes, and the lists that are a host's.
 use Rattle.std.specs.Prelude.{◌≤◌, ◌≢◌, Bool, List, length, All, AllPairs, IsTrue}
 use Rattle.he_addr.specs.Ip.{is_usable, same_ip}
 use Rattle.he_addr.specs.Prefix.{width_of}
@@ -7,7 +7,7 @@ use Rattle.he_select.specs.declared.host.Route.{Route}
 use Rattle.he_select.specs.Tables.{same_prefix}
 use Rattle.he_select.specs.Ranges.{least_interface, most_routes, most_sources}
 
--- what a host has
+-- the lists of a host
 pub record HostLists : Type 0 where
   pub sources : List Source
   pub routes : List Route
@@ -18,7 +18,7 @@ same_source a b = same_ip a.ip b.ip
 abbrev pub same_route : Route → Route → Bool
 same_route a b = same_prefix a.prefix b.prefix
 
--- a usable address, a prefix no longer than it, and an interface, which are numbered from 1
+-- a usable address, a prefix length that fits its family, and an interface number of at least 1
 pub record IsSoundSource (source : Source) : Type 0 where
   pub usable : IsTrue (is_usable source.ip)
   pub plen : source.plen ≤ width_of source.ip
@@ -36,8 +36,8 @@ AddressesDiffer host = AllPairs (λ a b. a.ip ≢ b.ip) host.sources
 abbrev pub RoutesDiffer : HostLists → Type 0
 RoutesDiffer host = AllPairs (λ a b. a.prefix ≢ b.prefix) host.routes
 
--- lists are a host's: at most 64 sources and 64 routes, addresses and prefixes pairwise different, and each member
--- sound
+-- lists are a host's: at most 64 sources and 64 routes, with pairwise different addresses and prefixes, and each
+-- member sound
 pub record IsHost (host : HostLists) : Type 0 where
   pub size : HasHostSize host
   pub different_sources : AddressesDiffer host

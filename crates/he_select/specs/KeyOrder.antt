@@ -1,5 +1,5 @@
--- Mirrors the code: the order of keys, `key_cmp` of `DestinationKeys`, in the parts of the standard library; and that
--- it is a total one.
+-- Mirrors the code: the order of keys, `key_cmp` of `DestinationKeys`, built from the standard library's parts; and a
+-- proof that it is total.
 use Rattle.std.specs.declared.cmp.Ordering.{Ordering}
 use Rattle.std.specs.Cmp.{IsTotalOrder, bool_cmp_total, nat_cmp_total, on_total, back_total, then_total}
 use Rattle.std.specs.Ordering.{nat_cmp, bool_cmp, on, flip_args, then_cmp}
@@ -22,7 +22,7 @@ key_order =
     (then_cmp (on (λ k. k.deprecated) bool_cmp)
     (then_cmp (on (λ k. k.other_label) bool_cmp) late_key_order)))
 
--- the same, for the code
+-- `late_key_order`, for the code
 unfoldable pub late_key_cmp : Key → Key → Ordering
 late_key_cmp a b = late_key_order a b
 

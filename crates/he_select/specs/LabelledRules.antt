@@ -1,5 +1,5 @@
--- Mirrors the code: the source rules by what it keeps of a destination and of a source. A law in proofs/ ties them to
--- those of `Selection`.
+-- Mirrors the code: the source rules on what the code keeps of a destination and of a source. A law in proofs/
+-- relates them to those of `Selection`.
 use Rattle.std.specs.Prelude.{ℕ, ◌==◌, ◌&&◌, ◌||◌, Bool, not, List, [], ◌∷◌}
 use Rattle.std.specs.Bool.{beq}
 use Rattle.std.specs.Ordering.{is_lt}
@@ -18,11 +18,11 @@ use Rattle.he_select.specs.Tables.{label_of}
 abbrev pub labelled_of : List Row → Source → LabelledSource
 labelled_of rows source = record { source = source; scope = scope_of source.ip; label = label_of rows source.ip }
 
--- what the source rules look at of a destination with this label and route
+-- the attributes of a destination with this label and route that the source rules compare
 abbrev pub destination_of : Ip → ℕ → Route → Destination
 destination_of ip label route = record { ip = ip; scope = scope_of ip; label = label; interface = route.interface }
 
--- a source that may be used for the destination: as a candidate over its route
+-- a source that may be used for the destination: `is_candidate` over its route
 abbrev pub admits : Destination → LabelledSource → Bool
 admits destination labelled =
     beq (is_v6 labelled.source.ip) (is_v6 destination.ip)

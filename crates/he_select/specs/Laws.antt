@@ -1,4 +1,4 @@
--- What follows from the definitions, in words of its own.
+-- Consequences of the definitions, stated independently.
 use Rattle.std.specs.Prelude.{All, ◌≡◌, ◌≢◌, ◌<◌, ◌⊎◌, ◌↔◌, Bool, List, filter, length, IsTrue, IsFalse, IsSome}
 use Rattle.std.specs.Ordering.{is_lt}
 use Rattle.he_addr.specs.declared.ip.Ip.{Ip}
@@ -21,14 +21,14 @@ use Rattle.he_select.specs.Hosts.{HostLists, IsHost}
 use Rattle.he_select.specs.Ranges.{least_interface, most_routes, most_rows, most_sources}
 use Rattle.he_select.specs.TableFaults.{table_fault}
 
--- of members of which P holds none is before itself, what is before one that is before a third is before the third,
--- and of two at different places one is before the other
+-- on members for which P holds, `before` is irreflexive and transitive, and of two members at different places one is
+-- before the other
 pub record IsStrictTotalOrderOn (P : Member → Type 0) (before : Member → Member → Bool) : Type 0 where
   pub irreflexive : (a : Member) → P a → IsFalse (before a a)
   pub transitive : (a b c : Member) → P a → P b → P c → IsTrue (before a b) → IsTrue (before b c) → IsTrue (before a c)
   pub total : (a b : Member) → P a → P b → a.place ≢ b.place → IsTrue (before a b) ⊎ IsTrue (before b a)
 
--- under an admitted table the preference between usable addresses is the lexicographic comparison of keys, one number
+-- with an admitted table, the preference between usable addresses is the lexicographic comparison of keys, one number
 -- for each rule
 abbrev pub PreferenceIsByKeys : Type 0
 PreferenceIsByKeys =
@@ -40,23 +40,23 @@ abbrev pub PreferenceIsStrictTotalOrder : Type 0
 PreferenceIsStrictTotalOrder =
     (input : SelectionInput) → IsAdmitted input.rows → IsStrictTotalOrderOn (λ m. IsUsable m.ip) (prefers input)
 
--- a list has one order of preference, and that is the one that `order_of` names
+-- a list has one order of preference, the one that `order_of` returns
 pub record IsOneOrder (input : SelectionInput) (ips : List Ip) : Type 0 where
   pub is : IsOrder input ips (order_of input ips)
   pub only : (other : List Ip) → IsOrder input ips other → other ≡ order_of input ips
 
--- so it is for usable addresses under an admitted table
+-- usable addresses have one order, with an admitted table
 abbrev pub EachListHasOneOrder : Type 0
 EachListHasOneOrder =
     (input : SelectionInput) → IsAdmitted input.rows → (ips : List Ip) → All IsUsable ips → IsOneOrder input ips
 
--- the order of those addresses that pass a test is what passes it of the order of all
+-- the order of the addresses that pass a test is the order of all addresses, filtered by that test
 abbrev pub OrderOfFilterIsFilterOfOrder : Type 0
 OrderOfFilterIsFilterOfOrder =
     (input : SelectionInput) → IsAdmitted input.rows → (keep : Ip → Bool) (ips : List Ip) → All IsUsable ips
     → order_of input (filter keep ips) ≡ filter keep (order_of input ips)
 
--- an address is reachable where it has a route and a candidate: there is a best candidate where there is any
+-- an address is reachable exactly if it has a route and a candidate: if there are candidates, one is the best
 abbrev pub ReachableWhereCandidates : Type 0
 ReachableWhereCandidates =
     (input : SelectionInput) (ip : Ip) → IsTrue (is_reachable input ip) ↔ (0 < length (candidates input ip))
@@ -65,23 +65,23 @@ ReachableWhereCandidates =
 abbrev pub EveryAddressHasRow : Type 0
 EveryAddressHasRow = (rows : List Row) → IsAdmitted rows → (ip : Ip) → InRange ip → IsSome (row_of rows ip)
 
--- a list with one more member has the first repeat of the list, or else one at its end, where the member stands in the
--- list
+-- a list extended by a member has the first repeat of the shorter list, or else one at its end, if the list contains
+-- the member
 abbrev pub RepeatsByOneMore : {X : Type 0} → (X → X → Bool) → Type 0
 RepeatsByOneMore {X} same =
     (xs : List X) (x : X)
     → first_repeat same (xs ++ x ∷ [])
     ≡ option_or (first_repeat same xs) (cause_if (list_any (same x) xs) (length xs))
 
--- rows are a table exactly where the search for what is wrong finds nothing ..
+-- rows are a table exactly if the search for a fault finds none ..
 abbrev pub AdmittedWhereNoFault : Type 0
 AdmittedWhereNoFault = (rows : List Row) → IsAdmitted rows ↔ (table_fault rows ≡ None)
 
--- .. and what it finds is the first cause in the order of the checks, with the least places
+-- .. and the fault that it finds is the first in the order of the checks, with the least places
 abbrev pub TableFaultsAreFirst : Type 0
 TableFaultsAreFirst = (rows : List Row) (fault : PolicyFault) → table_fault rows ≡ Some fault → IsTableFault rows fault
 
--- so it is with a host's lists
+-- likewise for a host's lists
 abbrev pub HostWhereNoFault : Type 0
 HostWhereNoFault = (host : HostLists) → IsHost host ↔ (host_fault host.sources host.routes ≡ None)
 
@@ -89,7 +89,7 @@ abbrev pub HostFaultsAreFirst : Type 0
 HostFaultsAreFirst =
     (host : HostLists) (fault : HostFault) → host_fault host.sources host.routes ≡ Some fault → IsHostFault host fault
 
--- the limits of the code are the numbers of Ranges
+-- the limits of the code are the numbers of `Ranges`
 abbrev pub LimitsAreStated : Type 0
 LimitsAreStated =
     (ROWS ≡ most_rows) × (SOURCES ≡ most_sources) × (ROUTES ≡ most_routes) × (NO_INTERFACE + 1 ≡ least_interface)

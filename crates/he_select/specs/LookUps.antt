@@ -1,4 +1,4 @@
--- Mirrors the code: the rows in which it looks an address up, what it keeps of the row, and what it gives to the
+-- Mirrors the code: the rows that it searches for an address, what it keeps of the row, and what it passes to the
 -- rules.
 use Rattle.std.specs.Prelude.{List, Option}
 use Rattle.std.specs.Option.{option_map_or}
@@ -22,7 +22,7 @@ abbrev pub rows_in : Rows → List Row
 rows_in (rows.Standard some) = some
 rows_in (rows.Listed some) = some.now
 
--- the precedence and the label of a row; 0 and 0 without one
+-- the precedence and the label of a row; 0 and 0 if there is none
 abbrev pub class_of : Option Row → Class
 class_of row = record {
   precedence = option_map_or (λ row. row.precedence) row 0;

@@ -1,4 +1,4 @@
--- Which of two destinations is preferred (RFC 6724 section 6, RFC 8305 section 4), and a list in this order.
+-- The preference between two destinations (RFC 6724 section 6, RFC 8305 section 4), and a list in this order.
 use Rattle.std.specs.Prelude.{ℕ, ◌+◌, ◌≡◌, ◌==◌, Bool, true, false, not, cond, List, [], ◌∷◌, length, map, slice_get, count_by, find, filter_map, Option, Some, IsPermutation}
 use Rattle.std.specs.Bool.{beq}
 use Rattle.std.specs.List.{range_with_len}
@@ -26,7 +26,7 @@ members_from place (ip ∷ ips) = record { ip = ip; place = place } ∷ members_
 abbrev pub has_like_scope : SelectionInput → Ip → Bool
 has_like_scope input ip = option_map_or (λ source. scope_of source.ip == scope_of ip) (source_of input ip) false
 
--- Source(D) isn't deprecated
+-- Source(D) is not deprecated
 abbrev pub has_current_source : SelectionInput → Ip → Bool
 has_current_source input ip = option_map_or (λ source. not source.deprecated) (source_of input ip) false
 
@@ -43,7 +43,7 @@ common_with_source input ip = option_map_or (λ source. common_of source.ip sour
 abbrev pub is_native : SelectionInput → Ip → Bool
 is_native input ip = option_map_or (λ route. not route.tunnel) (route_of input ip) true
 
--- a rule about the sources doesn't decide where an address has none
+-- applies the rule only if both addresses have a source
 abbrev pub by_sources : SelectionInput → Rule Member → Rule Member
 by_sources input = where_both (λ m. is_reachable input m.ip)
 
@@ -116,19 +116,18 @@ destination_rules input =
 abbrev pub prefers : SelectionInput → Member → Member → Bool
 prefers input a b = is_lt (first_of (destination_rules input) a b)
 
--- the result has the members of the list, and each stands at the place that equals the number of members preferred to
--- it
+-- the result has the members of the list, each at the place that equals the number of members preferred to it
 pub record IsOrder (input : SelectionInput) (list result : List Ip) : Type 0 where
   pub members : IsPermutation list result
   pub places : (n : ℕ) (ip : Ip) → slice_get list n ≡ Some ip
       → slice_get result
       (count_by (λ other. prefers input other (record { ip = ip; place = n })) (members_from 0 list)) ≡ Some ip
 
--- the member to which this many members are preferred
+-- the member to which exactly n members are preferred
 abbrev pub member_at : SelectionInput → List Member → ℕ → Option Member
 member_at input members n = find (λ member. count_by (λ other. prefers input other member) members == n) members
 
--- the addresses in the order in which they are to be tried: at each place the one to which as many are preferred as
+-- the addresses in the order in which to try them: at each place, the one to which as many addresses are preferred as
 -- there are places before it
 unfoldable pub order_of : SelectionInput → List Ip → List Ip
 order_of input ips =

@@ -1,5 +1,5 @@
--- How much a policy table and a host hold, and from where interfaces are numbered. A law ties the code's limits to
--- these.
+-- The maximum sizes of a policy table and of a host, and the first interface number. A law shows that the code's
+-- limits equal these.
 use Rattle.std.specs.Prelude.{ℕ}
 
 abbrev pub most_rows : ℕ

@@ -1,4 +1,4 @@
--- Which route and which source the host uses for a destination (RFC 6724 sections 4 and 5).
+-- The route and the source that the host uses for a destination (RFC 6724 sections 4 and 5).
 use Rattle.std.specs.Prelude.{ℕ, ◌-◌, min, ◌==◌, ◌&&◌, ◌||◌, ◌^◌, Bool, false, not, cond, nat_lt, List, [], ◌∷◌, filter, find, None, Option, is_some, option_and_then}
 use Rattle.std.specs.Bool.{beq}
 use Rattle.std.specs.Option.{option_map_or}
@@ -15,30 +15,30 @@ use Rattle.he_select.specs.Rules.{Rule, yes_first, higher_first, first_of, best_
 use Rattle.he_select.specs.Tables.{label_of}
 use Rattle.he_select.specs.Hosts.{HostLists}
 
--- what the rules look at
+-- the input of the rules
 pub record SelectionInput : Type 0 where
   pub rows : List Row
   pub sources : List Source
   pub routes : List Route
   pub known : List Known
 
--- with what is known of destinations from earlier connections
+-- an input with knowledge of destinations from earlier connections
 abbrev pub known_input : List Row → HostLists → List Known → SelectionInput
 known_input rows host known = record { rows = rows; sources = host.sources; routes = host.routes; known = known }
 
--- with nothing known
+-- an input without such knowledge
 abbrev pub selection_input : List Row → HostLists → SelectionInput
 selection_input rows host = known_input rows host []
 
--- an address of which nothing is known
+-- an entry without knowledge of the address
 abbrev pub nothing_known : Ip → Known
 nothing_known ip = record { ip = ip; rtt = None; used = false }
 
--- what is known of an address: the first that is told of it
+-- the first entry for the address
 abbrev pub known_of : List Known → Ip → Option Known
 known_of known ip = find (λ one. same_ip one.ip ip) known
 
--- the known round trip time of an address in milliseconds; none where it is unknown
+-- the known round trip time of an address in milliseconds, if there is one
 abbrev pub known_rtt : List Known → Ip → Option ℕ
 known_rtt known ip = option_and_then (λ one. one.rtt) (known_of known ip)
 
@@ -46,36 +46,36 @@ known_rtt known ip = option_and_then (λ one. one.rtt) (known_of known ip)
 abbrev pub known_used : List Known → Ip → Bool
 known_used known ip = option_map_or (λ one. one.used) (known_of known ip) false
 
--- a round trip time counts as at most 2 ^ 64 - 2 milliseconds, and an unknown one as greater than every known one
+-- a round trip time counts as at most 2 ^ 64 - 2 milliseconds; an unknown one is greater than every known one
 abbrev pub rtt_or_unknown : Option ℕ → ℕ
 rtt_or_unknown rtt = option_map_or (λ n. min n (2 ^ 64 - 2)) rtt (2 ^ 64 - 1)
 
 abbrev pub is_longer_route : Route → Route → Bool
 is_longer_route a b = nat_lt b.prefix.len a.prefix.len
 
--- a route inside ::ffff:0:0/96 serves IPv4 destinations alone, any other route IPv6 destinations alone
+-- a route inside ::ffff:0:0/96 serves only IPv4 destinations, any other route only IPv6 destinations
 abbrev pub serves : Ip → Route → Bool
 serves ip route = contains route.prefix ip && beq (is_inside_mapped route.prefix) (not (is_v6 ip))
 
--- the route of a destination: the route of greatest length among those of its family that contain it
+-- the route of a destination: the one of its family with the longest prefix that contains it
 unfoldable pub longest_route : List Route → Ip → Option Route
 longest_route routes ip = best_by is_longer_route (filter (serves ip) routes)
 
 abbrev pub route_of : SelectionInput → Ip → Option Route
 route_of input ip = longest_route input.routes ip
 
--- the scope of a link, whose addresses are reached from that link alone
+-- link-local scope: such addresses are reachable only on their link
 abbrev pub link_scope : ℕ
 link_scope = 2
 
 -- a source that may be used over this route: one of the destination's family on any interface, since all interfaces
--- count as one site (RFC 6724 section 4 recommends those of the outgoing interface); for a destination of link scope
+-- count as one site (RFC 6724 section 4 recommends those of the outgoing interface); for a link-local destination
 -- only one on the route's interface, which counts as the link
 abbrev pub is_candidate : Route → Ip → Source → Bool
 is_candidate route ip source =
     beq (is_v6 source.ip) (is_v6 ip) && (not (scope_of ip == link_scope) || source.interface == route.interface)
 
--- the candidate set of a destination (RFC 6724 section 4); none where there is no route
+-- the candidate set of a destination (RFC 6724 section 4); empty if there is no route
 unfoldable pub candidates : SelectionInput → Ip → List Source
 candidates input ip = option_map_or (λ route. filter (is_candidate route ip) input.sources) (route_of input ip) []
 
@@ -104,7 +104,7 @@ abbrev pub prefers_outgoing_interface : SelectionInput → Ip → Rule Source
 prefers_outgoing_interface input ip =
     yes_first (λ source. option_map_or (λ route. source.interface == route.interface) (route_of input ip) false)
 
--- Rule 5.5, prefer addresses in a prefix advertised by the next hop, is left out: a host doesn't tell it
+-- Rule 5.5, prefer addresses in a prefix advertised by the next hop, is left out: a host doesn't report such prefixes
 
 -- Rule 6: prefer matching label
 abbrev pub prefers_matching_label : SelectionInput → Ip → Rule Source
@@ -134,8 +134,8 @@ source_rules input ip =
 abbrev pub is_better : SelectionInput → Ip → Source → Source → Bool
 is_better input ip a b = is_lt (first_of (source_rules input ip) a b)
 
--- Source(D): the candidate than which no candidate is better, of several the one that was given first; none where
--- there is no candidate
+-- Source(D): the candidate that no candidate is better than, of several the one given first; None if there is no
+-- candidate
 unfoldable pub source_of : SelectionInput → Ip → Option Source
 source_of input ip = best_by (is_better input ip) (candidates input ip)
 

@@ -2,7 +2,7 @@
 use Rattle.std.specs.Prelude.{ℕ, ◌*◌, ◌^◌, ◌-◌, List, [], ◌∷◌}
 use Rattle.he_select.specs.declared.policy.Row.{Row}
 
--- a row: the first `groups` of the prefix as a number of `width` bits, its length, precedence and label
+-- a row: the first `width` bits of the prefix as the number `groups`, its length, precedence and label
 abbrev pub standard_row : ℕ → ℕ → ℕ → ℕ → ℕ → Row
 standard_row groups width len precedence label =
     record { prefix = record { bits = groups * 2 ^ (128 - width); len = len }; precedence = precedence; label = label }

@@ -1,4 +1,4 @@
--- Policy tables (RFC 6724 section 2.1): the row of an address, and which rows are a table.
+-- Policy tables (RFC 6724 section 2.1): the row of an address, and the rows that are a table.
 use Rattle.std.specs.Prelude.{ℕ, ◌*◌, ◌^◌, ◌≤◌, ◌≡◌, ◌≢◌, ◌==◌, ◌&&◌, Bool, not, nat_lt, List, length, filter, Option, All, Any, AllPairs, IsTrue, IsFalse}
 use Rattle.std.specs.Bool.{beq}
 use Rattle.std.specs.Option.{option_map_or}
@@ -8,11 +8,11 @@ use Rattle.he_select.specs.declared.policy.Row.{Row}
 use Rattle.he_select.specs.Ranges.{most_rows}
 use Rattle.he_select.specs.Rules.{best_by}
 
--- of two rows that contain an address the one with the longer prefix says more
+-- of two rows that contain an address, the one with the longer prefix wins
 abbrev pub is_longer_row : Row → Row → Bool
 is_longer_row a b = nat_lt b.prefix.len a.prefix.len
 
--- the row of an address: the row of greatest length among those that contain it
+-- the row of an address: the one with the longest prefix that contains it
 unfoldable pub row_of : List Row → Ip → Option Row
 row_of rows ip = best_by is_longer_row (filter (λ row. contains row.prefix ip) rows)
 
@@ -30,16 +30,16 @@ same_prefix a b = a.bits == b.bits && a.len == b.len
 abbrev pub same_row : Row → Row → Bool
 same_row a b = same_prefix a.prefix b.prefix
 
--- one row inside ::ffff:0:0/96 and one outside it with the same precedence
+-- one row is inside ::ffff:0:0/96, one outside it, and both have one precedence
 abbrev pub shares_precedence : Row → Row → Bool
 shares_precedence a b =
     a.precedence == b.precedence && not (beq (is_inside_mapped a.prefix) (is_inside_mapped b.prefix))
 
--- ::/0, which every address begins with
+-- ::/0, the prefix of every address
 abbrev pub any_address : PrefixBits
 any_address = record { bits = 0; len = 0 }
 
--- ::ffff:0:0/96, which every mapped IPv4 address begins with
+-- ::ffff:0:0/96, the prefix of every mapped IPv4 address
 abbrev pub any_v4_address : PrefixBits
 any_v4_address = record { bits = 65535 * 2 ^ 32; len = 96 }
 
@@ -49,21 +49,21 @@ HasTableSize rows = (1 ≤ length rows) × (length rows ≤ most_rows)
 abbrev pub PrefixesDiffer : List Row → Type 0
 PrefixesDiffer rows = AllPairs (λ a b. a.prefix ≢ b.prefix) rows
 
--- the prefix stands in a row
+-- a row has the prefix
 abbrev pub HasPrefix : List Row → PrefixBits → Type 0
 HasPrefix rows prefix = Any (λ row. row.prefix ≡ prefix) rows
 
--- not one precedence inside ::ffff:0:0/96 and outside it
+-- no precedence occurs both inside ::ffff:0:0/96 and outside it
 abbrev pub PrecedencesApart : Row → Row → Type 0
 PrecedencesApart a b =
     IsTrue (is_inside_mapped a.prefix) → IsFalse (is_inside_mapped b.prefix) → a.precedence ≢ b.precedence
 
--- where a precedence stood both inside and outside ::ffff:0:0/96, rules 6, 9 and 10 could prefer three addresses of
+-- if a precedence occurred both inside and outside ::ffff:0:0/96, rules 6, 9 and 10 could prefer three addresses of
 -- two families in a circle
 abbrev pub PrecedencesDiffer : List Row → Type 0
 PrecedencesDiffer rows = All (λ a. All (PrecedencesApart a) rows) rows
 
--- rows are a policy table: 1 to 64, their prefixes pairwise different, ::/0 and ::ffff:0:0/96 among them, and no
+-- rows are a policy table: 1 to 64, with pairwise different prefixes, ::/0 and ::ffff:0:0/96 among them, and no
 -- precedence both inside and outside ::ffff:0:0/96
 pub record IsAdmitted (rows : List Row) : Type 0 where
   pub size : HasTableSize rows

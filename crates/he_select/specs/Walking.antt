@@ -1,4 +1,4 @@
--- Mirrors the code: what the private loops keep, the best so far of the members that fit. Laws in proofs/ tie it to
+-- Mirrors the code: the best fitting member so far, which the private loops keep. Laws in proofs/ relate it to
 -- `best_by`.
 use Rattle.std.specs.Prelude.{Bool, cond, List, [], ◌∷◌, Option, None, Some}
 

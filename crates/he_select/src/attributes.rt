@@ -1,4 +1,4 @@
-// What the destination rules look at of an address (RFC 6724 section 6, RFC 8305 section 4).
+// The attributes of an address that the destination rules compare (RFC 6724 section 6, RFC 8305 section 4).
 
 ghost use Rattle.std.specs.Prelude.{◌≡◌, IsTrue, IfSome};
 ghost use Rattle.std.specs.List.{list_all};
@@ -19,37 +19,37 @@ use crate::selection::{Destination, LabelledSource};
 use crate::standard::Class;
 use he_addr::{Ip, common_len};
 
-/// What the rules look at of a destination.
+/// The attributes of a destination that the rules compare.
 #[derive(Clone, Copy, Debug, PartialEq, Eq)]
 pub struct DestinationAttributes {
     /// The destination.
     pub ip: Ip,
-    /// The source that the host uses for it; none where the host does not reach it.
+    /// The source that the host uses for it; None if the host does not reach it.
     pub source: Option<LabelledSource>,
     pub scope: u8,
     pub label: u16,
     pub precedence: u16,
-    /// The destination is reached by encapsulation.
+    /// Whether the destination is reached by encapsulation.
     pub tunnel: bool,
-    /// The common prefix length of the destination and its source in bits, 0 without a source.
+    /// The common prefix length of the destination and its source, in bits; 0 without a source.
     pub common: u8,
     /// The last round trip time of the destination in milliseconds, if one is known.
     pub rtt: Option<u64>,
-    /// The destination is known to have been used before.
+    /// Whether the destination is known to have been used before.
     pub used: bool,
 }
 
-/// A destination, and the address of the source that the host uses for it; none where the host does not reach it.
+/// A destination, and the address of the source that the host uses for it; None if the host does not reach it.
 #[derive(Clone, Copy, Debug, PartialEq, Eq)]
 pub struct Sourced {
     /// The destination.
     pub ip: Ip,
-    /// What [`Host::source`] answers for it.
+    /// The source address that [`Host::source`] returns for it.
     pub source: Option<Ip>,
 }
 
 impl DestinationAttributes {
-    /// What the rules look at of the destination, with the source that is chosen of these.
+    /// The attributes of the destination, with the source chosen from `sources`.
     #[tactic(auto, unfolding(crate::specs::Attributes::chosen_over, crate::specs::Tables::precedence_of, crate::specs::Tables::label_of))]
     pub(crate) fn new(
         table: Table<'_>,
@@ -118,7 +118,7 @@ impl DestinationAttributes {
     }
 }
 
-/// The known round trip time of the address, and whether it was used before.
+/// The known round trip time of the address in milliseconds, and whether it was used before.
 fn history(known: &[Known], ip: Ip) -> (Option<u64>, bool)
     ensures rtt { result.0 ≡ known_rtt known.now ip }
     ensures used { result.1 ≡ known_used known.now ip }

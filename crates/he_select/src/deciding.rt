@@ -1,4 +1,4 @@
-// Which rule decides between two destinations (RFC 6724 section 6, RFC 8305 section 4).
+// The rule that decides between two destinations (RFC 6724 section 6, RFC 8305 section 4).
 
 ghost use Rattle.std.specs.Prelude.{◌≡◌};
 ghost use Rattle.he_addr.specs.declared.ip.Ip.{Ip};
@@ -10,8 +10,8 @@ ghost use Rattle.he_select.specs.Attributes.{has_deprecated, has_other_label, ha
 use crate::attributes::DestinationAttributes;
 use crate::known::rtt_or_unknown;
 
-/// A rule of destination address selection (RFC 6724 section 6, with rules 8a and 8b of RFC 8305 section 4), but for
-/// rule 4, which is left out: there are no home addresses here.
+/// A rule of destination address selection (RFC 6724 section 6, with rules 8a and 8b of RFC 8305 section 4). Rule 4
+/// is left out: there are no home addresses here.
 #[derive(Clone, Copy, Debug, PartialEq, Eq)]
 pub enum DestinationRule {
     /// Rule 1.
@@ -39,7 +39,7 @@ pub enum DestinationRule {
 }
 
 impl DestinationRule {
-    /// The first rule that tells the two destinations apart, in the order in which the rules stand.
+    /// The first rule that distinguishes the two destinations, in the order of the rules.
     pub fn between(
         earlier: &DestinationAttributes,
         later: &DestinationAttributes,

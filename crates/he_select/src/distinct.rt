@@ -1,10 +1,10 @@
-// Lists in which no two members are the same.
+// Lists without repeated members.
 
 ghost use Rattle.std.specs.Prelude.{◌≡◌, ℕ, Bool, ◌≤◌, length, take};
 ghost use Rattle.std.specs.List.{list_any};
 ghost use Rattle.he_select.specs.Refusals.{first_repeat};
 
-/// What may stand only once in a list.
+/// An item that may appear only once in a list.
 pub(crate) trait Distinct {
     ghost same: { Self → Self → Bool };
 
@@ -24,7 +24,7 @@ pub(crate) fn stands_in<T: Distinct>(item: &T, earlier: &[T]) -> bool
     false
 }
 
-/// The least place at which a member is the same as an earlier one.
+/// The least place of a member that repeats an earlier one.
 pub(crate) fn first_repeated<T: Distinct>(items: &[T]) -> Option<usize>
     ensures { result ≡ first_repeat T.same items.now }
 {

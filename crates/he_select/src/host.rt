@@ -19,25 +19,25 @@ use thiserror::Error;
 #[derive(Clone, Copy, Debug, PartialEq, Eq)]
 pub struct Source {
     pub ip: Ip,
-    /// The length of the prefix that the address shares with its link, at most 32 for IPv4 and 128 for IPv6.
+    /// The length of the prefix that the address shares with its link, in bits: at most 32 for IPv4 and 128 for IPv6.
     pub plen: u8,
-    /// The number of the address's interface, from 1.
+    /// The number of the address's interface, at least 1.
     pub interface: u16,
-    /// The address is valid still, and to be avoided (RFC 4862 section 5.5.4).
+    /// The address is still valid but should be avoided (RFC 4862 section 5.5.4).
     pub deprecated: bool,
-    /// The address is a temporary one (RFC 8981).
+    /// The address is temporary (RFC 8981).
     pub temporary: bool,
 }
 
 impl Source {
-    /// Whether one of the earlier sources has this source's address.
+    /// Whether an earlier source has this source's address.
     pub fn repeats(&self, earlier: &[Source]) -> bool
         ensures { result ≡ list_any (same_source self.now) earlier.now }
     {
         stands_in(self, earlier)
     }
 
-    /// Whether the address is usable, its prefix length is that of its family at most, and its interface has a number.
+    /// Whether the address is usable, its prefix length fits its family, and its interface is not 0.
     pub fn is_sound(&self) -> bool
         ensures { result ≡ is_sound_source self.now }
     {
@@ -59,21 +59,21 @@ fn width(ip: Ip) -> u8
 #[derive(Clone, Copy, Debug, PartialEq, Eq)]
 pub struct Route {
     pub prefix: Prefix,
-    /// The number of the interface that the route leads to, from 1.
+    /// The number of the interface that the route leads to, at least 1.
     pub interface: u16,
     /// The route leads through an encapsulating transport.
     pub tunnel: bool,
 }
 
 impl Route {
-    /// Whether one of the earlier routes has this route's prefix.
+    /// Whether an earlier route has this route's prefix.
     pub fn repeats(&self, earlier: &[Route]) -> bool
         ensures { result ≡ list_any (same_route self.now) earlier.now }
     {
         stands_in(self, earlier)
     }
 
-    /// Whether the interface has a number.
+    /// Whether the interface is not 0.
     pub fn is_sound(&self) -> bool
         ensures { result ≡ is_sound_route self.now }
     {
@@ -81,25 +81,25 @@ impl Route {
     }
 }
 
-/// Why lists are no host. Both lists are counted from 0.
+/// Why lists of sources and routes are not a host's. Places count from 0.
 #[derive(Clone, Copy, Debug, PartialEq, Eq, Error)]
 pub enum HostFault {
     /// More than [`crate::limits::SOURCES`] sources, or more than [`crate::limits::ROUTES`] routes.
     #[error("too many sources or routes")]
     TooMany,
-    /// The address of this source, the least one, stands earlier.
+    /// This source, the first such one, has the address of an earlier source.
     #[error("source {0} has an address that stands earlier")]
     RepeatedSource(usize),
-    /// The prefix of this route, the least one, stands earlier.
+    /// This route, the first such one, has the prefix of an earlier route.
     #[error("route {0} has a prefix that stands earlier")]
     RepeatedRoute(usize),
-    /// This source, the least one, has an address that isn't usable, or a prefix length or interface out of range.
+    /// This source, the first such one, has an unusable address, or a prefix length or interface out of range.
     #[error("source {0} is out of range")]
     BadSource(usize),
-    /// This route, the least one, has an interface out of range.
+    /// This route, the first such one, has an interface out of range.
     #[error("route {0} is out of range")]
     BadRoute(usize),
-    /// An allocation was refused.
+    /// An allocation failed.
     #[error("out of memory")]
     Memory,
 }
@@ -121,8 +121,7 @@ impl Distinct for Route {
 }
 
 impl HostFault {
-    /// Why the lists are no host, the first cause in the order of the variants; `None` for a host's lists. Never
-    /// `Memory`.
+    /// The first fault of the lists, in the order of the variants; `None` if they are a host's. Never `Memory`.
     #[tactic(auto, unfolding(crate::specs::HostFaults::host_fault))]
     pub fn find(sources: &[Source], routes: &[Route]) -> Option<HostFault>
         ensures { result ≡ host_fault sources.now routes.now }
@@ -166,8 +165,8 @@ fn first_unsound_route(routes: &[Route]) -> Option<usize>
     None
 }
 
-/// A host: at most [`SOURCES`] sources, no address twice, and at most [`ROUTES`] routes, no prefix twice. Contracts
-/// see it as its two lists.
+/// A host: at most [`SOURCES`] sources with different addresses, and at most [`ROUTES`] routes with different
+/// prefixes. Contracts see it as its two lists.
 #[derive(Drop)]
 pub struct Host<A: Allocator = Global> {
     sources: Vec<Source, A>,
@@ -198,7 +197,7 @@ impl<A: Allocator> PartialEq for Host<A> {
     ghost laws = { and_per (on_per (λ (h : HostLists). h.sources) (lists_per of_sources.laws-law))
         (on_per (λ (h : HostLists). h.routes) (lists_per of_routes.laws-law)) };
 
-    /// Whether both hosts have the same sources and the same routes, each list in its order.
+    /// Whether both hosts have equal sources and equal routes, in the same order.
     fn eq(&self, other: &Host<A>) -> bool
         ensures value { result ≡ (pointwise ⟦<Source as PartialEq>⟧.eq self.now.sources other.now.sources
             && pointwise ⟦<Route as PartialEq>⟧.eq self.now.routes other.now.routes) }
@@ -220,11 +219,11 @@ impl<A: Allocator> Eq for Host<A> {
 }
 
 impl<A: Allocator + Copy> Host<A> {
-    /// The host of these sources and routes.
+    /// A host with these sources and routes.
     ///
     /// # Errors
     ///
-    /// The first cause that there is, in the order of [`HostFault`].
+    /// The first fault of the lists, in the order of [`HostFault`].
     pub fn new(alloc: A, sources: &[Source], routes: &[Route]) -> Result<Host<A>, HostFault>
         ensures refused { IfErr (host_of sources.now routes.now) (λ fault. result ≡ Err fault) }
         ensures made { IfOk (host_of sources.now routes.now) (λ lists. IfOk result (λ host. host ≡ lists)) }
@@ -240,11 +239,11 @@ impl<A: Allocator + Copy> Host<A> {
 }
 
 impl<A: Allocator> Host<A> {
-    /// The host of these sources and routes, which it keeps as they are: it takes no memory.
+    /// A host of these sources and routes. It keeps the lists and allocates nothing.
     ///
     /// # Errors
     ///
-    /// The first cause that there is, in the order of [`HostFault`]; never `Memory`. The lists are dropped then.
+    /// The first fault of the lists, in the order of [`HostFault`]; never `Memory`. The lists are dropped then.
     pub fn from_lists(sources: Vec<Source, A>, routes: Vec<Route, A>) -> Result<Host<A>, HostFault>
         ensures { result ≡ host_of sources.items routes.items }
     {
@@ -260,7 +259,7 @@ impl<A: Allocator> Host<A> {
         self.sources == other.sources && self.routes == other.routes
     }
 
-    /// The sources, in the order in which they were given.
+    /// The sources, in the order given.
     pub fn sources(&self) -> &[Source]
         ensures sources { result.now ≡ self.now.sources }
         ensures host { IsHost self.now }
@@ -268,7 +267,7 @@ impl<A: Allocator> Host<A> {
         self.sources.as_slice()
     }
 
-    /// The routes, in the order in which they were given.
+    /// The routes, in the order given.
     pub fn routes(&self) -> &[Route]
         ensures routes { result.now ≡ self.now.routes }
         ensures host { IsHost self.now }
@@ -276,7 +275,7 @@ impl<A: Allocator> Host<A> {
         self.routes.as_slice()
     }
 
-    /// The same host with memory of this allocator.
+    /// A copy of the host in this allocator's memory.
     pub fn copy<B: Allocator + Copy>(&self, alloc: B) -> Result<Host<B>, Memory>
         ensures { IfOk result (λ host. host ≡ self.now) }
     {

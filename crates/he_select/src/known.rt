@@ -1,4 +1,4 @@
-// What is known of destinations from earlier connections (RFC 8305 section 4).
+// A client's knowledge of destinations from earlier connections (RFC 8305 section 4).
 
 ghost use Rattle.std.specs.Prelude.{◌≡◌};
 ghost use Rattle.std.specs.List.{list_any};
@@ -7,22 +7,22 @@ ghost use Rattle.he_select.specs.Attributes.{tells, told_of};
 
 use he_addr::Ip;
 
-/// What a client knows of a destination from earlier connections.
+/// A client's knowledge of one destination, from earlier connections.
 #[derive(Clone, Copy, Debug, PartialEq, Eq)]
 pub struct Known {
     /// The destination.
     pub ip: Ip,
-    /// The last round trip time in milliseconds, if one is known. 2^64 - 1 counts as one less.
+    /// The last round trip time in milliseconds, if one is known. 2^64 - 1 counts as 2^64 - 2.
     pub rtt: Option<u64>,
-    /// The address was used before.
+    /// Whether the address was used before.
     pub used: bool,
 }
 
-/// An unknown round trip time counts as this one, greater than every known one.
+/// The value of an unknown round trip time, greater than every known one.
 const UNKNOWN_RTT: u64 = u64::MAX;
 
 impl Known {
-    /// Of the destination nothing is known.
+    /// An entry without knowledge of the destination.
     pub fn nothing(ip: Ip) -> Known
         ensures { result ≡ nothing_known ip }
     {
@@ -40,7 +40,7 @@ impl Known {
     }
 }
 
-/// The list, or an empty one where it says nothing, in which nothing need be looked up.
+/// The list; an empty one if no entry holds any knowledge, so that nothing is looked up.
 pub(crate) fn told(known: &[Known]) -> &[Known]
     ensures { result.now ≡ told_of known.now }
 {
@@ -53,7 +53,7 @@ fn is_any_known(known: &[Known]) -> bool
     known.iter().any(|one| one.tells())
 }
 
-/// What is known of the address: the first entry for it.
+/// The first entry for the address.
 pub(crate) fn find_known(known: &[Known], ip: Ip) -> Option<Known>
     ensures { result ≡ known_of known.now ip }
 {
@@ -65,7 +65,7 @@ pub(crate) fn find_known(known: &[Known], ip: Ip) -> Option<Known>
     None
 }
 
-/// The round trip time as a number.
+/// The round trip time as a number; an unknown one is greater than every known one.
 pub(crate) fn rtt_or_unknown(rtt: Option<u64>) -> u64
     ensures { result ≡ rtt_or_unknown rtt }
 {

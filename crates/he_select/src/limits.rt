@@ -1,16 +1,16 @@
 // The limits of the crate.
 
-/// The most rows of a policy table.
+/// The maximum number of rows of a policy table.
 pub const ROWS: usize = 64;
 
-/// The rows of the standard policy table.
+/// The number of rows of the standard policy table.
 pub const STANDARD_ROWS: usize = 9;
 
-/// The most sources of a host.
+/// The maximum number of sources of a host.
 pub const SOURCES: usize = 64;
 
-/// The most routes of a host.
+/// The maximum number of routes of a host.
 pub const ROUTES: usize = 64;
 
-/// The number that names no interface: interfaces are numbered from 1.
+/// Names no interface: interface numbers start at 1.
 pub const NO_INTERFACE: u16 = 0;

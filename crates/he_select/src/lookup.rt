@@ -1,4 +1,4 @@
-// The row of an address in a policy table, and its route: the longest prefix that contains it.
+// Looks up the row of an address in a policy table, and its route: the longest prefix that contains it.
 
 ghost use Rattle.std.specs.Prelude.{◌≡◌, Option, None, not, option_map};
 ghost use Rattle.he_addr.specs.Bits.{agrees};
@@ -15,7 +15,7 @@ use crate::standard::{Class, NO_CLASS, standard_class};
 use he_addr::{Family, Ip};
 use std::alloc::Allocator;
 
-/// The row of greatest length among those that contain the address.
+/// The row with the longest prefix that contains the address.
 fn find_row(rows: &[Row], ip: Ip) -> Option<Row>
     ensures { result ≡ row_of rows.now ip }
 {
@@ -34,7 +34,7 @@ fn longest_row(rows: &[Row], number: u128) -> Option<Row>
     best.copied()
 }
 
-// The bits are looked at first, since few rows contain an address.
+// The bits are compared first, since few rows contain an address.
 #[inline(always)]
 fn keep_row<'a>(best: Option<&'a Row>, row: &'a Row, number: u128) -> Option<&'a Row>
     ensures { option_map (λ kept. kept.now) result
@@ -51,7 +51,7 @@ fn keep_row<'a>(best: Option<&'a Row>, row: &'a Row, number: u128) -> Option<&'a
 }
 
 impl<'a> Table<'a> {
-    /// The precedence and the label of the address, those of its row.
+    /// The precedence and the label of the address.
     pub(crate) fn class(self, ip: Ip) -> Class
         ensures { result ≡ class_of (row_of (rows_of self.entry) ip) }
     {
@@ -61,7 +61,7 @@ impl<'a> Table<'a> {
         }
     }
 
-    /// The label of the address, that of its row.
+    /// The label of the address.
     #[tactic(auto, unfolding(crate::specs::Tables::label_of))]
     pub(crate) fn label(self, ip: Ip) -> u16
         ensures { result ≡ label_of (rows_of self.entry) ip }
@@ -83,7 +83,7 @@ fn listed_class(rows: &[Row], ip: Ip) -> Class
 }
 
 impl<A: Allocator> Policy<A> {
-    /// The precedence of an address, that of the containing row with the longest prefix (RFC 6724 section 2.1).
+    /// The precedence of an address: that of the row with the longest prefix that contains it (RFC 6724 section 2.1).
     #[tactic(auto, unfolding(crate::specs::Tables::precedence_of))]
     pub fn precedence(&self, ip: Ip) -> u16
         ensures { result ≡ precedence_of self.now ip }
@@ -91,7 +91,7 @@ impl<A: Allocator> Policy<A> {
         self.table().class(ip).precedence
     }
 
-    /// The label of an address, that of the containing row with the longest prefix (RFC 6724 section 2.1).
+    /// The label of an address: that of the row with the longest prefix that contains it (RFC 6724 section 2.1).
     pub fn label(&self, ip: Ip) -> u16
         ensures { result ≡ label_of self.now ip }
     {
@@ -99,7 +99,7 @@ impl<A: Allocator> Policy<A> {
     }
 }
 
-/// The route of greatest length among those of the address's family that contain it.
+/// The route of the address's family with the longest prefix that contains the address.
 pub(crate) fn find_route(routes: &[Route], ip: Ip) -> Option<Route>
     ensures { result ≡ longest_route routes.now ip }
 {

@@ -23,23 +23,23 @@ use thiserror::Error;
 /// A row of a policy table.
 #[derive(Clone, Copy, Debug, PartialEq, Eq)]
 pub struct Row {
-    /// The addresses that the row is about, IPv4 addresses as mapped ones.
+    /// The addresses that the row applies to, IPv4 addresses as mapped ones.
     pub prefix: Prefix,
-    /// How much the addresses are preferred.
+    /// The preference of the addresses; the higher precedence wins.
     pub precedence: u16,
-    /// Sources are preferred for destinations of their own label.
+    /// A destination prefers sources with its own label.
     pub label: u16,
 }
 
 impl Row {
-    /// Whether one of the earlier rows has this row's prefix.
+    /// Whether an earlier row has this row's prefix.
     pub fn repeats(&self, earlier: &[Row]) -> bool
         ensures { result ≡ list_any (same_row self.now) earlier.now }
     {
         stands_in(self, earlier)
     }
 
-    /// Whether just one of the rows lies inside `::ffff:0:0/96` and both have one precedence.
+    /// Whether exactly one of the two rows is inside `::ffff:0:0/96` and both have one precedence.
     fn shares_precedence(&self, other: &Row) -> bool
         ensures { result ≡ shares_precedence self.now other.now }
     {
@@ -55,13 +55,13 @@ impl Distinct for Row {
     }
 }
 
-/// Why rows are no policy table. Rows are counted from 0.
+/// Why rows are not a policy table. Rows count from 0.
 #[derive(Clone, Copy, Debug, PartialEq, Eq, Error)]
 pub enum PolicyFault {
     /// No row, or more than [`ROWS`].
     #[error("policy has no row or too many")]
     Size,
-    /// The prefix of this row, the least one, stands in an earlier row.
+    /// This row, the first such one, has the prefix of an earlier row.
     #[error("policy row {0} has a prefix that stands earlier")]
     Repeated(usize),
     /// No row is `::/0`.
@@ -70,17 +70,16 @@ pub enum PolicyFault {
     /// No row is `::ffff:0:0/96`.
     #[error("policy has no ::ffff:0:0/96")]
     NoMapped,
-    /// Of these two rows one lies inside `::ffff:0:0/96` and one outside it, and their precedences are equal.
+    /// One of these two rows is inside `::ffff:0:0/96` and one outside it, and their precedences are equal.
     #[error("policy rows {0} and {1} share a precedence")]
     SharedPrecedence(usize, usize),
-    /// An allocation was refused.
+    /// An allocation failed.
     #[error("out of memory")]
     Memory,
 }
 
 impl PolicyFault {
-    /// Why the rows are no policy table, the first cause in the order of the variants; `None` for an admitted table.
-    /// Never `Memory`.
+    /// The first fault of the rows, in the order of the variants; `None` for an admitted table. Never `Memory`.
     #[tactic(auto, unfolding(crate::specs::TableFaults::table_fault))]
     pub fn find(rows: &[Row]) -> Option<PolicyFault>
         ensures { result ≡ table_fault rows.now }
@@ -108,7 +107,7 @@ fn has_prefix(rows: &[Row], prefix: Prefix) -> bool
     rows.iter().any(|row| row.prefix == prefix)
 }
 
-/// The first row that shares its precedence with a later one, and the first such later one.
+/// The first row that shares its precedence with a later one, and the first such later row.
 fn shared_precedence(rows: &[Row]) -> Option<(usize, usize)>
     ensures { result ≡ shared_from 0 rows.now }
 {
@@ -120,7 +119,7 @@ fn shared_precedence(rows: &[Row]) -> Option<(usize, usize)>
     None
 }
 
-/// The first row, from this place on, that shares its precedence with the given one.
+/// The first row, from `from` on, that shares its precedence with `row`.
 fn sharing_row(row: &Row, rows: &[Row], from: usize) -> Option<usize>
     requires { from ≤ length rows.now }
     ensures { result ≡ position_from (shares_precedence row.now) from (drop from rows.now) }
@@ -166,12 +165,12 @@ fn standard_row(bits: u128, len: u8, class: Class) -> Row
     }
 }
 
-/// The rows of a policy table, in the order in which they were given.
+/// The rows of a policy table, in the order given.
 #[derive(Drop)]
 pub enum Rows<'a> {
-    /// Those of the standard table, which no [`Policy`] holds.
+    /// The rows of the standard table, which no [`Policy`] stores.
     Standard([Row; STANDARD_ROWS]),
-    /// Those that a [`Policy`] holds.
+    /// The rows that a [`Policy`] stores.
     Listed(&'a [Row]),
 }
 
@@ -187,20 +186,20 @@ impl<'a> Rows<'a> {
     }
 }
 
-/// The rows of a policy table, as an address is looked up in them.
+/// The rows of a policy table, for looking up addresses.
 #[derive(Clone, Copy)]
 pub(crate) enum Table<'a> {
-    /// Those of the standard table, by the address's first bits.
+    /// The standard table, looked up by the address's first bits.
     Standard,
-    /// Those of another one, each in turn.
+    /// Another table, searched row by row.
     Listed(&'a [Row]),
 }
 
-/// A policy table: 1 to [`ROWS`] rows, no prefix twice, with `::/0` and `::ffff:0:0/96`, and no precedence both
-/// inside and outside `::ffff:0:0/96`. Contracts see it as its rows.
+/// A policy table: 1 to [`ROWS`] rows with different prefixes, among them `::/0` and `::ffff:0:0/96`, and no
+/// precedence both inside and outside `::ffff:0:0/96`. Contracts see it as its rows.
 #[derive(Drop)]
 pub struct Policy<A: Allocator = Global> {
-    /// None where the table is the standard one, whose rows need no memory.
+    /// None for the standard table, whose rows need no memory.
     listed: Option<Vec<Row, A>>,
 }
 
@@ -228,7 +227,7 @@ impl<A: Allocator> PartialEq for Policy<A> {
 
     ghost laws = { lists_per rows.laws-law };
 
-    /// Whether both tables have the same rows in the same order.
+    /// Whether both tables have equal rows in the same order.
     fn eq(&self, other: &Policy<A>) -> bool
         ensures value { result ≡ pointwise ⟦<Row as PartialEq>⟧.eq self.now other.now }
         ensures rows { IsTrue result ↔ (self.now ≡ other.now) }
@@ -245,7 +244,7 @@ impl<A: Allocator> Eq for Policy<A> {
 }
 
 impl<A: Allocator + Copy> Policy<A> {
-    /// The standard table (RFC 6724 section 2.1). It takes no memory, so there is always one.
+    /// The standard table (RFC 6724 section 2.1). It allocates nothing and always succeeds.
     pub fn standard(_alloc: A) -> Result<Policy<A>, Memory>
         ensures table { IfOk result (λ policy. policy ≡ standard_rows) }
         ensures made { IsOk result }
@@ -253,11 +252,11 @@ impl<A: Allocator + Copy> Policy<A> {
         Ok(Policy { listed: None })
     }
 
-    /// The table of these rows.
+    /// A table of these rows.
     ///
     /// # Errors
     ///
-    /// The first cause that there is, in the order of [`PolicyFault`].
+    /// The first fault of the rows, in the order of [`PolicyFault`].
     pub fn from_rows(alloc: A, rows: &[Row]) -> Result<Policy<A>, PolicyFault>
         ensures refused { IfErr (table_of rows.now) (λ fault. result ≡ Err fault) }
         ensures made { IfOk (table_of rows.now) (λ table. IfOk result (λ policy. policy ≡ table)) }
@@ -272,11 +271,11 @@ impl<A: Allocator + Copy> Policy<A> {
 }
 
 impl<A: Allocator> Policy<A> {
-    /// The table of these rows, which it keeps as they are: it takes no memory.
+    /// A table of these rows. It keeps the list and allocates nothing.
     ///
     /// # Errors
     ///
-    /// The first cause that there is, in the order of [`PolicyFault`]; never `Memory`. The rows are dropped then.
+    /// The first fault of the rows, in the order of [`PolicyFault`]; never `Memory`. The rows are dropped then.
     pub fn from_list(rows: Vec<Row, A>) -> Result<Policy<A>, PolicyFault>
         ensures { result ≡ table_of rows.items }
     {
@@ -292,7 +291,7 @@ impl<A: Allocator> Policy<A> {
         self.rows().as_slice() == other.rows().as_slice()
     }
 
-    /// The rows, in the order in which they were given.
+    /// The rows, in the order given.
     pub fn rows(&self) -> Rows<'_>
         ensures rows { rows_in result ≡ self.now }
         ensures admitted { IsAdmitted self.now }
@@ -303,7 +302,7 @@ impl<A: Allocator> Policy<A> {
         }
     }
 
-    /// The rows, as addresses are looked up in them.
+    /// The rows, for looking up addresses.
     pub(crate) fn table(&self) -> Table<'_>
         ensures rows { rows_of result ≡ self.now }
         ensures admitted { IsAdmitted self.now }
@@ -314,7 +313,7 @@ impl<A: Allocator> Policy<A> {
         }
     }
 
-    /// The same table with memory of this allocator.
+    /// A copy of the table in this allocator's memory.
     pub fn copy<B: Allocator + Copy>(&self, alloc: B) -> Result<Policy<B>, Memory>
         ensures { IfOk result (λ policy. policy ≡ self.now) }
     {

@@ -11,7 +11,7 @@ use crate::attributes::DestinationAttributes;
 use crate::known::rtt_or_unknown;
 use std::cmp::{Ordering, Reverse};
 
-/// A number for each rule, in the rules' order; the preferred destination has the least key.
+/// One number for each rule, in the rules' order. The preferred destination has the least key.
 #[derive(Clone, Copy)]
 pub(crate) struct Key {
     pub(crate) unreachable: bool,
@@ -27,8 +27,8 @@ pub(crate) struct Key {
     pub(crate) place: usize,
 }
 
-// Most keys that are compared differ in one of the last rules. To ask whether two fields differ costs less than to
-// tell their order, so the derived order, which tells it of each field, would take twice as long.
+// Most keys that are compared differ in one of the last rules. A test for equality of two fields costs less than a
+// comparison of their order, so the derived order, which compares the order of each field, would take twice as long.
 impl Ord for Key {
     ghost cmp = { key_order };
 
@@ -111,7 +111,7 @@ impl Key {
 }
 
 impl DestinationAttributes {
-    /// The key of the destination that stands at this place of the list.
+    /// The key of the destination at this place of the list.
     pub(crate) fn key(&self, place: usize) -> Key
         ensures { result ≡ key_of self.now place }
     {
@@ -134,8 +134,8 @@ impl DestinationAttributes {
             rtt: rtt_or_unknown(self.rtt),
             // Rule 8b: prefer the address used before.
             unused: !self.used,
-            // Rule 9: use longest matching prefix. Needs no test of the family: an admitted table's precedences part
-            // the families.
+            // Rule 9: use longest matching prefix. The families need no test: in an admitted table their precedences
+            // differ.
             common: Reverse(self.common),
             // Rule 10: otherwise, leave the order unchanged.
             place,

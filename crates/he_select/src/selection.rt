@@ -18,18 +18,18 @@ use he_addr::ip::LINK_LOCAL_SCOPE;
 use he_addr::{Ip, common_len};
 use std::alloc::Allocator;
 
-/// What the source rules look at of a destination.
+/// The attributes of a destination that the source rules compare.
 #[derive(Clone, Copy)]
 pub(crate) struct Destination {
     pub(crate) ip: Ip,
     pub(crate) scope: u8,
     pub(crate) label: u16,
 
-    /// The interface of its route.
+    /// The interface of the destination's route.
     pub(crate) interface: u16,
 }
 
-/// A source with what the rules look at of it for every destination.
+/// A source with the attributes that the rules compare for every destination.
 #[derive(Clone, Copy, Debug, PartialEq, Eq)]
 pub struct LabelledSource {
     pub source: Source,
@@ -61,7 +61,7 @@ impl Destination {
         }
     }
 
-    /// The best of the sources that may be used for this destination.
+    /// The best source that may be used for this destination.
     pub(crate) fn best_of(&self, sources: &[LabelledSource]) -> Option<LabelledSource>
         requires { IsTrue (list_all (λ labelled. is_sound_source labelled.source) sources.now) }
         ensures best { result ≡ walk_fitting (admits self.now) (is_better_labelled self.now) None sources.now }
@@ -74,7 +74,7 @@ impl Destination {
         best.copied()
     }
 
-    /// The better one of the best so far and a source, if that may be used at all.
+    /// The better of `best` and this source, if the source may be used at all.
     #[inline(always)]
     pub(crate) fn keep<'a>(
         &self,
@@ -97,7 +97,7 @@ impl Destination {
         }
     }
 
-    /// The same of a source that is at hand only for now.
+    /// Like `keep`, but copies the source that it keeps.
     fn keep_copy(
         &self,
         best: Option<LabelledSource>,
@@ -111,8 +111,8 @@ impl Destination {
         self.keep(best.as_ref(), &labelled).copied()
     }
 
-    /// Whether the source may be used: one of the destination's family, for a destination of link scope only one on
-    /// the route's interface.
+    /// Whether the source may be used: it is of the destination's family, and for a link-local destination on the
+    /// route's interface.
     #[inline(always)]
     fn admits(&self, labelled: &LabelledSource) -> bool
         ensures { result ≡ admits self.now labelled.now }
@@ -121,8 +121,8 @@ impl Destination {
             && (self.scope != LINK_LOCAL_SCOPE || labelled.source.interface == self.interface)
     }
 
-    /// Whether the first rule that tells the two sources apart prefers this one to the other. The rules are asked one
-    /// by one, since most pairs are told apart early.
+    /// Whether the first rule that distinguishes the two sources prefers `this` to `other`. The rules run one by one,
+    /// since an early rule decides most pairs.
     #[inline(always)]
     #[tactic(auto, unfolding(crate::specs::LabelledRules::labelled_rules))]
     fn is_better(&self, this: &LabelledSource, other: &LabelledSource) -> bool
@@ -146,7 +146,7 @@ impl Destination {
         self.is_better_late(this, other)
     }
 
-    /// The same by the rules from 5 on.
+    /// Like `is_better`, by the rules from 5 on.
     #[inline(always)]
     #[tactic(auto, unfolding(crate::specs::LabelledRules::late_rules))]
     fn is_better_late(&self, this: &LabelledSource, other: &LabelledSource) -> bool
@@ -154,7 +154,7 @@ impl Destination {
         requires other { IsTrue (is_sound_source other.now.source) }
         ensures { result ≡ is_lt (first_of (late_rules self.now) this.now other.now) }
     {
-        // Rule 5: prefer outgoing interface. Rule 5.5 is left out: no host tells the next hop's prefixes.
+        // Rule 5: prefer outgoing interface. Rule 5.5 is left out: no host reports the next hop's prefixes.
         let is_outgoing = this.source.interface == self.interface;
         if is_outgoing != (other.source.interface == self.interface) {
             return is_outgoing;
@@ -172,7 +172,8 @@ impl Destination {
         self.common(this) > self.common(other)
     }
 
-    /// Of two scopes the smaller one, unless it is smaller than the destination's; then the larger.
+    /// Whether rule 2 prefers the first scope: the smaller one, unless it is smaller than the destination's; then the
+    /// larger.
     #[inline(always)]
     fn prefers_scope(&self, this: u8, other: u8) -> bool
         ensures { result ≡ is_lt (by_appropriate_scope self.now.scope this other) }
@@ -193,7 +194,7 @@ impl Destination {
     }
 }
 
-/// The best of the sources that may be used for the destination, each with the label that the table gives it.
+/// The best source that may be used for the destination, with the label from the table.
 pub(crate) fn best_source(
     table: Table<'_>,
     sources: &[Source],
@@ -211,8 +212,8 @@ pub(crate) fn best_source(
 }
 
 impl<A: Allocator> Host<A> {
-    /// The source that the host uses for a destination (RFC 6724 section 5): of the candidates the best by the source
-    /// rules; `None` where the destination has no route or no candidate.
+    /// The source that the host uses for a destination (RFC 6724 section 5): the best candidate by the source rules.
+    /// `None` if the destination has no route or no candidate.
     #[tactic(auto, using(crate::proofs::Hosted::all_sound))]
     pub fn source<B: Allocator>(&self, policy: &Policy<B>, ip: Ip) -> Option<Ip>
         ensures { result ≡ option_map (λ source. source.ip) (source_of (selection_input policy.now self.now) ip) }

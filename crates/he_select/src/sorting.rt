@@ -19,10 +19,10 @@ use crate::policy::{Policy, Table};
 use crate::ranking::Key;
 use crate::selection::LabelledSource;
 use he_addr::{Ip, Memory};
-use std::alloc::{AllocError, Allocator};
+use std::alloc::Allocator;
 
-/// The addresses in the order in which they are to be tried (RFC 6724 section 6): each stands at the place that
-/// equals the number of addresses preferred to it. Each address is usable. Nothing is known of them.
+/// The addresses in the order in which to try them (RFC 6724 section 6): each is at the place that equals the number
+/// of addresses preferred to it. All must be usable. No earlier connections are taken into account.
 pub fn order<A: Allocator + Copy, P: Allocator, H: Allocator>(
     alloc: A,
     policy: &Policy<P>,
@@ -45,8 +45,8 @@ pub fn order<A: Allocator + Copy, P: Allocator, H: Allocator>(
     Ok(sorted)
 }
 
-/// The addresses in the order in which they are to be tried by what is known of them as well (RFC 8305 section 4).
-/// Each address is usable. Where one stands more than once, its first entry counts.
+/// The addresses in the order in which to try them, by the knowledge of them as well (RFC 8305 section 4). All must
+/// be usable. The first entry for an address counts.
 pub fn order_known<A: Allocator + Copy, P: Allocator, H: Allocator>(
     alloc: A,
     policy: &Policy<P>,
@@ -71,7 +71,7 @@ pub fn order_known<A: Allocator + Copy, P: Allocator, H: Allocator>(
     Ok(sorted)
 }
 
-/// The addresses in the order of [`order_known`], each with what the rules look at of it. Each address is usable.
+/// The addresses in the order of [`order_known`], each with its attributes. All must be usable.
 pub fn order_known_with_attributes<A: Allocator + Copy, P: Allocator, H: Allocator>(
     alloc: A,
     policy: &Policy<P>,
@@ -98,7 +98,7 @@ pub fn order_known_with_attributes<A: Allocator + Copy, P: Allocator, H: Allocat
     Ok(sorted)
 }
 
-fn known_addresses<A: Allocator>(alloc: A, known: &[Known]) -> Result<Vec<Ip, A>, AllocError>
+fn known_addresses<A: Allocator>(alloc: A, known: &[Known]) -> Result<Vec<Ip, A>, Memory>
     ensures { IfOk result (λ addresses. addresses.items ≡ map (λ one. one.ip) known.now) }
 {
     known.iter().map(|one| one.ip).collect(alloc)
@@ -112,7 +112,7 @@ fn sort_addresses<A: Allocator + Copy>(
     routes: &[Route],
     known: &[Known],
     addresses: &[Ip],
-) -> Result<Vec<Ip, A>, AllocError>
+) -> Result<Vec<Ip, A>, Memory>
     requires admitted { IsAdmitted (rows_of table) }
     requires sound { IsTrue (list_all is_sound_source sources.now) }
     requires usable { IsTrue (list_all is_usable addresses.now) }
@@ -126,7 +126,7 @@ fn sort_addresses<A: Allocator + Copy>(
     pick(alloc, addresses, &keys)
 }
 
-/// What the rules look at of the addresses, in the addresses' order.
+/// The attributes of the addresses, in order of preference.
 fn sort_attributes<A: Allocator + Copy>(
     alloc: A,
     table: Table<'_>,
@@ -134,7 +134,7 @@ fn sort_attributes<A: Allocator + Copy>(
     routes: &[Route],
     known: &[Known],
     addresses: &[Ip],
-) -> Result<Vec<DestinationAttributes, A>, AllocError>
+) -> Result<Vec<DestinationAttributes, A>, Memory>
     requires admitted { IsAdmitted (rows_of table) }
     requires sound { IsTrue (list_all is_sound_source sources.now) }
     requires usable { IsTrue (list_all is_usable addresses.now) }
@@ -149,7 +149,7 @@ fn sort_attributes<A: Allocator + Copy>(
     pick(alloc, &all_attributes, &keys)
 }
 
-/// What the rules look at, computed once for each source and for each address.
+/// The attributes of the addresses, in the addresses' order: computed once for each source and each address.
 fn all_attributes_of<A: Allocator + Copy>(
     alloc: A,
     table: Table<'_>,
@@ -157,7 +157,7 @@ fn all_attributes_of<A: Allocator + Copy>(
     routes: &[Route],
     known: &[Known],
     addresses: &[Ip],
-) -> Result<Vec<DestinationAttributes, A>, AllocError>
+) -> Result<Vec<DestinationAttributes, A>, Memory>
     requires { IsTrue (list_all is_sound_source sources.now) }
     ensures all_attributes { IfOk result (λ all_attributes. all_attributes.items
         ≡ map (attributes_of (given table.entry sources.now routes.now known.now)) addresses.now) }
@@ -171,7 +171,7 @@ fn label_sources<A: Allocator + Copy>(
     alloc: A,
     table: Table<'_>,
     sources: &[Source],
-) -> Result<Vec<LabelledSource, A>, AllocError>
+) -> Result<Vec<LabelledSource, A>, Memory>
     ensures { IfOk result (λ labelled. labelled.items ≡ map (labelled_of (rows_of table.entry)) sources.now) }
 {
     sources
@@ -180,7 +180,7 @@ fn label_sources<A: Allocator + Copy>(
         .collect(alloc)
 }
 
-/// What the rules look at of each destination, by the labels of the sources and what is known of them.
+/// The attributes of each destination, from the labelled sources and the knowledge of destinations.
 fn all_attributes_by<A: Allocator + Copy>(
     alloc: A,
     table: Table<'_>,
@@ -188,7 +188,7 @@ fn all_attributes_by<A: Allocator + Copy>(
     sources: &[LabelledSource],
     told: &[Known],
     addresses: &[Ip],
-) -> Result<Vec<DestinationAttributes, A>, AllocError>
+) -> Result<Vec<DestinationAttributes, A>, Memory>
     requires { IsTrue (list_all (λ labelled. is_sound_source labelled.source) sources.now) }
     ensures all_attributes { IfOk result (λ all_attributes. all_attributes.items
         ≡ map (attributes_from (rows_of table.entry) routes.now sources.now told.now) addresses.now) }
@@ -204,7 +204,7 @@ fn all_attributes_by<A: Allocator + Copy>(
 fn keys_of<A: Allocator + Copy>(
     alloc: A,
     all_attributes: &[DestinationAttributes],
-) -> Result<Vec<Key, A>, AllocError>
+) -> Result<Vec<Key, A>, Memory>
     ensures { IfOk result (λ keys. keys.items ≡ keys_of 0 all_attributes.now) }
 {
     let mut keys = Vec::with_capacity(alloc, all_attributes.len())?;
@@ -214,11 +214,11 @@ fn keys_of<A: Allocator + Copy>(
     Ok(keys)
 }
 
-/// What is sorted is keys alone, small as they are: each names the place of its destination.
+/// Sorts only keys, since they are small; each names the place of its destination.
 fn sorted_keys<A: Allocator + Copy>(
     alloc: A,
     all_attributes: &[DestinationAttributes],
-) -> Result<Vec<Key, A>, AllocError>
+) -> Result<Vec<Key, A>, Memory>
     ensures permutation { IfOk result (λ keys. IsPermutation (keys_of 0 all_attributes.now) keys.items) }
     ensures sorted { IfOk result (λ keys. IsSorted key_cmp keys.items) }
 {
@@ -227,12 +227,12 @@ fn sorted_keys<A: Allocator + Copy>(
     Ok(keys)
 }
 
-/// What stands at the places of the keys, in the order of the keys.
+/// The items at the places of the keys, in the order of the keys.
 fn pick<T: Copy, A: Allocator + Copy>(
     alloc: A,
     items: &[T],
     keys: &[Key],
-) -> Result<Vec<T, A>, AllocError>
+) -> Result<Vec<T, A>, Memory>
     ensures { IfOk result (λ picked. picked.items ≡ filter_map (λ key. slice_get items.now key.place) keys.now) }
 {
     keys.iter()
@@ -240,7 +240,7 @@ fn pick<T: Copy, A: Allocator + Copy>(
         .collect(alloc)
 }
 
-/// What stands at this place, if anything does.
+/// The item at this place, if there is one.
 fn item_at<T: Copy>(items: &[T], place: usize) -> Option<T>
     ensures { result ≡ slice_get items.now place }
 {

@@ -1,4 +1,4 @@
-// What the standard policy table says of an address (RFC 6724 section 2.1), told by the address's first bits.
+// The class of an address in the standard policy table (RFC 6724 section 2.1), found by the address's first bits.
 
 ghost use Rattle.std.specs.Prelude.{◌≡◌, ◌<◌, ◌^◌, None};
 ghost use Rattle.he_addr.specs.Bits.{agrees};
@@ -7,7 +7,7 @@ ghost use Rattle.he_select.specs.Standard.{standard_rows};
 ghost use Rattle.he_select.specs.Tables.{is_longer_row};
 ghost use Rattle.he_select.specs.Walking.{walk_fitting};
 
-/// What a policy table says of an address.
+/// The precedence and the label that a policy table gives an address.
 #[derive(Clone, Copy)]
 pub(crate) struct Class {
     pub(crate) precedence: u16,
@@ -68,13 +68,13 @@ pub(crate) const SIX_BONE: Class = Class {
     label: 12,
 };
 
-/// What a table without a row for an address says of it.
+/// The class of an address for which a table has no row.
 pub(crate) const NO_CLASS: Class = Class {
     precedence: 0,
     label: 0,
 };
 
-/// What the standard table says of the address with this number.
+/// The class of the address with this number in the standard table.
 pub(crate) fn standard_class(number: u128) -> Class
     ensures { result ≡ class_of
         (walk_fitting (λ row. agrees 128 number row.prefix.bits row.prefix.len) is_longer_row None standard_rows) }
@@ -90,7 +90,7 @@ pub(crate) fn standard_class(number: u128) -> Class
     }
 }
 
-/// The same of a number whose first 16 bits are zero.
+/// The class of a number whose first 16 bits are zero.
 fn zeros_class(number: u128) -> Class
     requires { number < 2 ^ 112 }
     ensures { result ≡ class_of

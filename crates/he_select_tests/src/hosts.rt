@@ -1,4 +1,4 @@
-// The faults of a host's lists (`host-faults`), long ones too.
+// The faults of a host's lists (`host-faults`), including long ones.
 
 use he_addr::{Ip, Prefix, read_prefix};
 use he_select::limits::SOURCES;
@@ -33,7 +33,7 @@ pub fn route(text: &str, interface: u16) -> Option<Route> {
     })
 }
 
-// Sources and routes of which the hosts below are made.
+// The sources and routes of the hosts below.
 fn sources() -> [Source; 10] {
     [
         source(V4, 24, 1),
@@ -72,7 +72,7 @@ static HOSTS: [(usize, usize, usize, usize, Option<HostFault>); 10] = [
     (8, 10, 1, 3, None),
 ];
 
-// Whether the lists have this fault, both copied and taken as they are.
+// Whether the lists have this fault, both when copied and when taken over.
 fn has_fault(
     heap: &Refusing,
     sources: &[Source],
@@ -90,7 +90,7 @@ fn taken_fault(heap: &Refusing, sources: &[Source], routes: &[Route]) -> Option<
     Some(Host::from_lists(source_list, route_list).err())
 }
 
-// How many hosts are refused as they must be, up to the first that isn't.
+// The number of hosts that are refused as required, up to the first wrong one.
 fn right_hosts(heap: &Refusing) -> Option<usize> {
     let sources = sources();
     let routes = routes()?;
@@ -106,10 +106,10 @@ fn right_hosts(heap: &Refusing) -> Option<usize> {
     Some(right)
 }
 
-// Lists of so many sources or routes are not looked at pair by pair at once.
+// Lists of this number of sources or routes are no longer compared pair by pair.
 const MANY: usize = 40;
 
-// Sources with no fault. Where the last one is the first one's address as a mapped one, both have one number.
+// Sources without a fault. If the last one is the first one's address as a mapped one, both have one number.
 fn long_sources(last: Ip) -> [Source; MANY] {
     let mut sources = [source(V4, 24, 1); MANY];
     for i in 1..MANY - 1 {
@@ -119,7 +119,7 @@ fn long_sources(last: Ip) -> [Source; MANY] {
     sources
 }
 
-// Routes with no fault. `::/0` and `::80/128` are those that differ and share a number, where both stand here.
+// Routes without a fault. `::/0` and `::80/128` differ and share a number, if both are here.
 fn long_routes(last: &str) -> Option<[Route; MANY]> {
     let mut routes = [route("::/0", 1)?; MANY];
     for i in 1..MANY - 1 {
@@ -129,7 +129,7 @@ fn long_routes(last: &str) -> Option<[Route; MANY]> {
     Some(routes)
 }
 
-// Whether the source at this place is refused where it has the address of an earlier one.
+// Whether the source at this place is refused if it has the address of an earlier one.
 fn is_source_refused(
     heap: &Refusing,
     all: &[Source],
@@ -141,15 +141,15 @@ fn is_source_refused(
     has_fault(heap, &sources, &[], Some(HostFault::RepeatedSource(place)))
 }
 
-// Whether the route at this place is refused where it has the prefix of an earlier one.
+// Whether the route at this place is refused if it has the prefix of an earlier one.
 fn is_route_refused(heap: &Refusing, all: &[Route], earlier: usize, place: usize) -> Option<bool> {
     let mut routes = Vec::from_slice(heap, all).ok()?;
     routes.get_mut(place)?.prefix = all.get(earlier)?.prefix;
     has_fault(heap, &[], &routes, Some(HostFault::RepeatedRoute(place)))
 }
 
-// At how many places sources and routes are refused that repeat the first ones, and those before them, up to the first
-// place where they aren't.
+// The number of places at which sources and routes are refused that repeat the first ones, and those before them, up
+// to the first place at which they aren't.
 fn right_places(heap: &Refusing, sources: &[Source], routes: &[Route]) -> Option<usize> {
     let mut right: usize = 0;
     for place in 1..MANY {
@@ -165,7 +165,7 @@ fn right_places(heap: &Refusing, sources: &[Source], routes: &[Route]) -> Option
     Some(right)
 }
 
-// Whether long lists have this fault, and at how many places repeats are refused in them.
+// Whether long lists have this fault, and the number of places at which repeats are refused in them.
 fn long_lists(
     heap: &Refusing,
     last: Ip,
@@ -178,7 +178,7 @@ fn long_lists(
     Some((whole, right_places(heap, &sources, &routes)?))
 }
 
-// Whether a source on no interface is refused, and one source more than there may be, each the same.
+// Whether a source on no interface is refused, and a list of one source more than the maximum, all equal.
 fn are_others_refused(heap: &Refusing) -> bool {
     let nowhere = Host::new(heap, &[source(V4, 24, 0)], &[]).err();
     let many = Host::new(heap, &[source(V4, 24, 1); SOURCES + 1], &[]).err();

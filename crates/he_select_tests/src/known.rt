@@ -1,4 +1,4 @@
-// Orders by what is known of addresses (`known-times`), and the rules that decide them.
+// Orders by round trip times and earlier uses (`known-times`), and the rules that decide them.
 
 ghost use Rattle.std.specs.Prelude.{◌≡◌, IsTrue};
 ghost use Rattle.std.specs.List.{list_all};
@@ -22,11 +22,11 @@ const FAR: Ip = Ip::V6(0x2001_0db8_0000_0002_0000_0000_0000_0001);
 
 const NEAR: Ip = Ip::V6(0x2001_0db8_0000_0001_0000_0000_0000_0009);
 
-// What is known of three addresses, and the order in which they are to be tried.
+// The knowledge of three addresses, and the order in which they are tried.
 type Case = ([(Ip, Option<u64>, bool); 3], [Ip; 3]);
 
-// `known-times` a to d; a round trip time as long as can be told is known still; and of an address that stands twice
-// what is told first counts.
+// `known-times` a to d; the greatest round trip time still counts as known; and of a repeated address the first entry
+// counts.
 const CASES: [Case; 6] = [
     (
         [
@@ -89,7 +89,7 @@ pub fn all_usable(known: &[Known]) -> bool
     known.iter().all(|one| one.ip.is_usable())
 }
 
-// Whether they are to be tried in this order.
+// Whether they are tried in this order.
 fn is_ordered<'h>(
     heap: &'h Refusing,
     policy: &Policy<&'h Refusing>,
@@ -106,7 +106,7 @@ fn is_ordered<'h>(
     }
 }
 
-// The rule that puts the second one after the first one, of the addresses in the order in which they are to be tried.
+// The rule that sorts the second address after the first one, in the order in which they are tried.
 fn first_rule<'h>(
     heap: &'h Refusing,
     policy: &Policy<&'h Refusing>,
@@ -132,7 +132,7 @@ const RULES: [DestinationRule; 6] = [
     DestinationRule::LowerRoundTripTime,
 ];
 
-// How many cases are right, up to the first that isn't.
+// The number of right cases, up to the first wrong one.
 fn right_cases<'h>(
     heap: &'h Refusing,
     policy: &Policy<&'h Refusing>,
@@ -158,7 +158,8 @@ fn host<'h>(heap: &'h Refusing, sources: &[Source]) -> Option<Host<&'h Refusing>
     Host::new(heap, sources, &routes).ok()
 }
 
-// How many cases are right on a host with these sources. Without any it reaches no address, and both rules decide too.
+// The number of right cases on a host with these sources. Without sources it reaches no address; both rules decide
+// then too.
 fn right_on(heap: &Refusing, sources: &[Source]) -> Option<usize> {
     let policy = Policy::standard(heap).ok()?;
     let host = host(heap, sources)?;

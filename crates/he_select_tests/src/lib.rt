@@ -1,6 +1,6 @@
-//! Tests of `he_select` that no file of races can hold: what a policy table says of an address, the faults of tables
-//! and hosts, orders by what is known of addresses, copies, and want of memory. The rules of RFC 6724 are tried by
-//! files, in `crates/cases/data`.
+//! Tests of `he_select` that no file of races can hold: the values of a policy table for an address, the faults of
+//! tables and hosts, orders by round trip times and earlier uses, copies, and want of memory. The files in
+//! `crates/cases/data` test the rules of RFC 6724.
 #![tactic(auto)]
 
 #[cfg(test)]

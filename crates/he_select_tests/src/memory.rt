@@ -1,4 +1,4 @@
-// Each growth refused in turn: what is refused answers Memory, and what isn't answers as ever. And copies (`copies`).
+// Each growth refused in turn: a refused call returns Memory, and any other its usual result. And copies (`copies`).
 
 ghost use Rattle.std.specs.Prelude.{◌≡◌, IsTrue};
 ghost use Rattle.std.specs.List.{list_all};
@@ -17,8 +17,7 @@ fn all_usable(addresses: &[Ip]) -> bool
     addresses.iter().all(|ip| ip.is_usable())
 }
 
-// Whether a copy of the table, and the table made again of its rows, are equal to it; none where a growth was
-// refused.
+// Whether a copy of the table, and the table made again of its rows, are equal to it; none if a growth was refused.
 fn is_policy_copied<'h>(heap: &'h Refusing, policy: &Policy<&'h Refusing>) -> Option<bool> {
     let copy = policy.copy(heap).ok()?;
     let is_same = copy == *policy && copy.rows().as_slice() == policy.rows().as_slice();
@@ -59,8 +58,8 @@ fn is_sorted<'h>(
     Some(sorted.as_slice() == [V6, V6, V6, FAR, FAR, FAR, V4, V4, V4].as_slice())
 }
 
-// The same with what the rules look at: precedence and label of the standard table, and the source. That of the
-// address that is none of the host's own is the one on the interface of its route.
+// Whether they are sorted so with the attributes that the rules compare: precedence and label of the standard table,
+// and the source. The address that is not the host's own has the source on the interface of its route.
 fn is_sorted_with_attributes<'h>(
     heap: &'h Refusing,
     policy: &Policy<&'h Refusing>,
@@ -124,7 +123,7 @@ fn is_policy_well<'h>(
     )
 }
 
-// Whether what all calls answer is right; none where one answered a fault, as none but `Memory` may be.
+// Whether the results of all calls are right; none if one returned a fault, which only `Memory` may be.
 fn is_well(heap: &Refusing, sources: &[Source], routes: &[Route]) -> Option<bool> {
     let policy = Policy::standard(heap).ok()?;
     let is_well = is_policy_well(heap, &policy, sources, routes);

@@ -1,4 +1,4 @@
-// Policy tables: the standard one (`default-table`) and the faults of others (`table-faults`), long ones too.
+// Policy tables: the standard one (`default-table`) and the faults of others (`table-faults`), including long ones.
 
 use he_addr::{Prefix, read_ip, read_prefix};
 use he_select::limits::ROWS;
@@ -18,7 +18,7 @@ static STANDARD: [(&str, u16, u16); 9] = [
     ("3ffe::1", 1, 12),
 ];
 
-// Whether the standard table says so of the address.
+// Whether the standard table gives the address this precedence and label.
 fn is_right(policy: &Policy<&Refusing>, address: &(&str, u16, u16)) -> bool {
     match read_ip(address.0.as_bytes()) {
         Some(ip) => (policy.precedence(ip), policy.label(ip)) == (address.1, address.2),
@@ -26,7 +26,7 @@ fn is_right(policy: &Policy<&Refusing>, address: &(&str, u16, u16)) -> bool {
     }
 }
 
-// How many addresses have the precedence and the label that they must have, up to the first that hasn't.
+// The number of addresses with the required precedence and label, up to the first wrong one.
 fn right_addresses(policy: &Policy<&Refusing>) -> usize {
     let mut right: usize = 0;
     for address in &STANDARD {
@@ -54,7 +54,7 @@ fn row(text: &str, precedence: u16) -> Option<Row> {
     })
 }
 
-// Rows of which the tables below are made.
+// The rows of the tables below.
 fn rows() -> Option<[Row; 8]> {
     Some([
         row("::/0", 41)?,
@@ -80,7 +80,7 @@ static TABLES: [(usize, usize, Option<PolicyFault>); 8] = [
     (1, 3, None),
 ];
 
-// Whether the rows have this fault, both copied and taken as they are.
+// Whether the rows have this fault, both when copied and when taken over.
 fn has_fault(heap: &Refusing, table: &[Row], wanted: Option<PolicyFault>) -> Option<bool> {
     let list = Vec::from_slice(heap, table).ok()?;
     let taken = Policy::from_list(list).err();
@@ -88,7 +88,7 @@ fn has_fault(heap: &Refusing, table: &[Row], wanted: Option<PolicyFault>) -> Opt
     Some(taken == wanted && copied == wanted)
 }
 
-// How many tables are refused as they must be, up to the first that isn't.
+// The number of tables that are refused as required, up to the first wrong one.
 fn right_tables(heap: &Refusing) -> Option<usize> {
     let rows = rows()?;
     let mut right: usize = 0;
@@ -102,10 +102,10 @@ fn right_tables(heap: &Refusing) -> Option<usize> {
     Some(right)
 }
 
-// A table of so many rows is not looked at pair by pair at once.
+// A table of this number of rows is no longer compared pair by pair.
 const MANY: usize = 40;
 
-// Rows with no fault. `::/0` and `::80/128` are those that differ and share a number, where both stand here.
+// Rows without a fault. `::/0` and `::80/128` differ and share a number, if both are here.
 fn long_table(third: &str) -> Option<[Row; MANY]> {
     let mut table = [row("::/0", 40)?; MANY];
     table[1] = row("::ffff:0:0/96", 35)?;
@@ -116,14 +116,14 @@ fn long_table(third: &str) -> Option<[Row; MANY]> {
     Some(table)
 }
 
-// Whether the table is refused where the row at this place has the prefix of an earlier row.
+// Whether the table is refused if the row at this place has the prefix of an earlier row.
 fn is_repeat_refused(heap: &Refusing, table: &[Row], earlier: usize, place: usize) -> Option<bool> {
     let mut rows = Vec::from_slice(heap, table).ok()?;
     rows.get_mut(place)?.prefix = table.get(earlier)?.prefix;
     has_fault(heap, &rows, Some(PolicyFault::Repeated(place)))
 }
 
-// Whether the table is refused where the row at this place has the precedence of the row `::ffff:0:0/96`.
+// Whether the table is refused if the row at this place has the precedence of the row `::ffff:0:0/96`.
 fn is_sharing_refused(heap: &Refusing, table: &[Row], place: usize) -> Option<bool> {
     let mut rows = Vec::from_slice(heap, table).ok()?;
     rows.get_mut(place)?.precedence = 35;
@@ -135,8 +135,8 @@ fn is_sharing_refused(heap: &Refusing, table: &[Row], place: usize) -> Option<bo
     has_fault(heap, &rows, Some(fault))
 }
 
-// How many rows of a long table are refused as they must be where they repeat the first row, the one before them, or a
-// precedence, up to the first that isn't.
+// The number of rows of a long table that are refused as required if they repeat the first row, the one before them,
+// or a precedence, up to the first wrong one.
 fn right_rows(heap: &Refusing, third: &str) -> Option<usize> {
     let table = long_table(third)?;
     let mut right: usize = 0;
@@ -151,8 +151,8 @@ fn right_rows(heap: &Refusing, third: &str) -> Option<usize> {
     Some(right)
 }
 
-// Whether a long table has no fault, and is refused where its second row repeats the first one, and where the first
-// row has the second one's precedence.
+// Whether a long table has no fault, and is refused if its second row repeats the first one, and if the first row has
+// the second one's precedence.
 fn is_long_table_right(heap: &Refusing, third: &str) -> Option<bool> {
     let table = long_table(third)?;
     let whole = has_fault(heap, &table, None)?;
@@ -160,7 +160,7 @@ fn is_long_table_right(heap: &Refusing, third: &str) -> Option<bool> {
     Some(whole && shared && is_repeat_refused(heap, &table, 0, 1)?)
 }
 
-// A table of one row more than there may be, each the same.
+// A table of one row more than the maximum, all rows equal.
 fn is_crowd_refused(heap: &Refusing) -> bool {
     match row("::/0", 40) {
         Some(row) => Policy::from_rows(heap, &[row; ROWS + 1]).err() == Some(PolicyFault::Size),

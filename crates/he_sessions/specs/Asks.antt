@@ -1,4 +1,4 @@
--- What octets of a client ask for.
+-- The request in a client's octets.
 use Rattle.std.specs.Prelude.{◌≡◌, ℕ, ⊤, Bool, true, false, List, Option, Some, string_bytes}
 use Rattle.std.specs.declared.alloc.Global.{Global}
 use Rattle.httparse.specs.declared.spans.Span.{Span}
@@ -20,7 +20,7 @@ use Rattle.he_sessions.specs.declared.asking.Extent.TheVariants as extents
 use Rattle.he_sessions.specs.declared.asking.Protocol.{Protocol}
 use Rattle.he_sessions.specs.declared.asking.Protocol.TheVariants as protocols
 
--- The octets begin with a request of so many octets for a tunnel to this host and port: a request of SOCKS 5 (RFC 1928
+-- The octets begin with a request of `len` octets for a tunnel to this host and port: a request of SOCKS 5 (RFC 1928
 -- section 4), or the head of a CONNECT with its target (RFC 9110 section 9.3.6).
 abbrev pub AsksTunnel : List ℕ → Protocol → Asked Global → ℕ → Type 0
 AsksTunnel octets protocols.OldSocks asked len = ⊥
@@ -30,7 +30,7 @@ AsksTunnel octets protocols.Http asked len =
     (target : Span) × HasHead octets (heads.Tunnel target) len
     × IsAuthority (span_bytes octets target) (string_bytes asked.host) asked.port
 
--- every end but a connection
+-- any end other than a connection
 abbrev pub IsFailure : Ended → Type 0
 IsFailure ends.Connected = ⊥
 IsFailure ends.Failed = ⊤
@@ -42,7 +42,7 @@ IsFailure ends.TimedOut = ⊤
 IsFailure ends.Command = ⊤
 IsFailure ends.Kind = ⊤
 
--- a client of SOCKS 5 greets before it asks (RFC 1928 section 3)
+-- a client of SOCKS 5 greets before its request (RFC 1928 section 3)
 abbrev pub greets : Protocol → Bool
 greets protocols.OldSocks = false
 greets protocols.Socks = true
@@ -57,8 +57,8 @@ page_head extents.Head path host = heads.Head path host
 abbrev pub AsksPage : List ℕ → Extent → Span → Option Span → Type 0
 AsksPage octets extent path host = (len : ℕ) × HasHead octets (page_head extent path host) len
 
--- A greeting, a tunnel or a page is one that the octets begin with, and what is refused is no connection. Only a
--- client that has greeted asks by SOCKS 5, and it greets once.
+-- The octets begin with the greeting, tunnel or page, and a refusal is not a connection. Only a client that has
+-- greeted makes a SOCKS 5 request, and it greets once.
 abbrev pub Asks : Bool → List ℕ → Ask → Type 0
 Asks has_greeted octets asks.More = ⊤
 Asks has_greeted octets (asks.Greeting len) = (has_greeted ≡ false) × IsGreeting octets true len

@@ -1,10 +1,10 @@
--- A law of what clients are told.
+-- A law of the replies to clients.
 use Rattle.std.specs.Prelude.{◌≢◌, ℕ, List, ◌++◌}
 use Rattle.std.specs.declared.alloc.Global.{Global}
 use Rattle.he_front.specs.declared.asked.Asked.{Asked}
 use Rattle.he_sessions.specs.Talks.{IsOpened, IsTurnedAway}
 
--- what a client is told that is turned away does not begin with anything that tells a client that its tunnel is open
+-- a reply that refuses a client does not begin with one that reports an open tunnel
 abbrev pub NoRefusalSucceeds : Type 0
 NoRefusalSucceeds =
     (refused : List ℕ) (asked : Asked Global) (asks told more : List ℕ) → IsTurnedAway refused → IsOpened asked asks told

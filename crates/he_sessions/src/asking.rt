@@ -1,18 +1,19 @@
-//! What a client's octets ask for.
+//! Parses the request in a client's octets.
 ghost use Rattle.std.specs.Prelude.{◌≡◌, IfOk, IfSome, drop, false, true};
 ghost use Rattle.httparse.specs.Spans.{span_bytes};
 ghost use Rattle.he_front.specs.Http.{HasHead};
 ghost use Rattle.he_front.specs.declared.http.Head.TheVariants as heads;
 ghost use Rattle.he_sessions.specs.Asks.{Asks, IsFailure, greets};
 
+use he_addr::Memory;
 use he_front::{
     Asked, Ended, Head, Opening, Read, ReadHead, Refusal, opening_of, read_greeting, read_head,
     read_request,
 };
 use httparse::spans::Span;
-use std::alloc::{AllocError, Global};
+use std::alloc::Global;
 
-/// Which protocol a client speaks.
+/// The protocol of a client.
 #[derive(Clone, Copy, Debug, PartialEq, Eq)]
 pub enum Protocol {
     /// SOCKS 4, which is refused.
@@ -23,7 +24,7 @@ pub enum Protocol {
     Http,
 }
 
-/// How much of a page is asked for (RFC 9110 sections 9.3.1 and 9.3.2).
+/// How much of a page is requested (RFC 9110 sections 9.3.1 and 9.3.2).
 #[derive(Clone, Copy, Debug, PartialEq, Eq)]
 pub enum Extent {
     /// All of it, by GET.
@@ -32,27 +33,27 @@ pub enum Extent {
     Head,
 }
 
-/// What octets ask for.
+/// The request in a client's octets.
 #[derive(Drop)]
 pub enum Ask {
-    /// More of them decide.
+    /// More octets are needed to decide.
     More,
-    /// A greeting of so many octets, after which the request comes.
+    /// A greeting of this number of octets; the request follows.
     Greeting(usize),
-    /// A greeting that offers no method that will do.
+    /// A greeting without an acceptable method.
     NoMethod,
-    /// A tunnel, by so many octets.
+    /// A tunnel, by a request of this number of octets.
     Tunnel(Protocol, Asked, usize),
-    /// A page, or its head alone: where its path and the value of the field Host stand.
+    /// A page, or only its head: the positions of its path and of the value of the field Host.
     Page(Extent, Span, Option<Span>),
-    /// What is refused, with how it ends.
+    /// A refused request, and the end of its session.
     Refused(Protocol, Ended),
-    /// No protocol of this proxy.
+    /// Not a protocol of this proxy.
     Unknown,
 }
 
-// What the octets ask for. A client of SOCKS 5 that was greeted asks by a request.
-pub(crate) fn read_ask(alloc: Global, octets: &[u8], was_greeted: bool) -> Result<Ask, AllocError>
+// Parses the request in the octets. After a SOCKS 5 greeting they are a SOCKS 5 request.
+pub(crate) fn read_ask(alloc: Global, octets: &[u8], was_greeted: bool) -> Result<Ask, Memory>
     ensures { IfOk result (Asks was_greeted octets.now) }
 {
     if was_greeted {
@@ -80,7 +81,7 @@ fn greeting_in(octets: &[u8]) -> Ask
     }
 }
 
-fn read_socks(alloc: Global, octets: &[u8]) -> Result<Ask, AllocError>
+fn read_socks(alloc: Global, octets: &[u8]) -> Result<Ask, Memory>
     ensures { IfOk result (Asks true octets.now) }
 {
     let (request, len) = match read_request(octets) {
@@ -107,7 +108,7 @@ fn ended_by(refusal: Refusal) -> Ended
     }
 }
 
-fn read_http(alloc: Global, octets: &[u8]) -> Result<Ask, AllocError>
+fn read_http(alloc: Global, octets: &[u8]) -> Result<Ask, Memory>
     ensures { IfOk result (Asks false octets.now) }
 {
     match read_head(octets) {
@@ -121,8 +122,8 @@ fn read_http(alloc: Global, octets: &[u8]) -> Result<Ask, AllocError>
     }
 }
 
-// The tunnel to the target that stands here.
-fn read_connect(alloc: Global, octets: &[u8], target: Span, len: usize) -> Result<Ask, AllocError>
+// The tunnel to the target at this position.
+fn read_connect(alloc: Global, octets: &[u8], target: Span, len: usize) -> Result<Ask, Memory>
     requires { HasHead octets.now (heads.Tunnel target) len }
     ensures { IfOk result (Asks false octets.now) }
 {
@@ -136,7 +137,7 @@ fn read_connect(alloc: Global, octets: &[u8], target: Span, len: usize) -> Resul
     }
 }
 
-// The protocol that a client asks by, of which no more is known than whether it was greeted.
+// The client's protocol, if it is only known whether it was greeted.
 pub(crate) fn protocol_of(was_greeted: bool) -> Protocol
     ensures { greets result ≡ was_greeted }
 {
@@ -147,7 +148,7 @@ pub(crate) fn protocol_of(was_greeted: bool) -> Protocol
     }
 }
 
-// The octets that stand here.
+// The octets at this position.
 pub(crate) fn piece(octets: &[u8], span: Span) -> Option<&[u8]>
     ensures { IfSome result (λ text. text.now ≡ span_bytes octets.now span) }
 {

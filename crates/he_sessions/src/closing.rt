@@ -1,4 +1,4 @@
-//! What a session does whose client is told last of all why there is no tunnel, or is given a page.
+//! The session's steps that send a final reply: why there is no tunnel, or a page.
 ghost use Rattle.std.specs.Prelude.{◌≡◌, ℕ, List, [], ◌++◌};
 ghost use Rattle.he_sessions.specs.Asks.{IsFailure, greets};
 ghost use Rattle.he_sessions.specs.Sessions.{IsAt, IsLast, IsNext, IsPolled, IsStep, TellsOn};
@@ -16,8 +16,8 @@ use crate::timing::restart;
 use bytes::BytesMut;
 use futures::Future;
 use futures::task::{Context, Poll};
+use he_addr::Memory;
 use he_front::Ended;
-use std::alloc::AllocError;
 use std::time::Clock;
 use tokio::io::poll_write_all_buf;
 
@@ -32,11 +32,11 @@ impl<'q, K: Clock, Q: Racer> Session<'q, K, Q> {
     {
         match failure(self.alloc, protocol, ended) {
             Ok(reply) => self.close(client, reply, Ending::Refused),
-            Err(AllocError) => Next::Ends(Ending::Failed),
+            Err(Memory) => Next::Ends(Ending::Failed),
         }
     }
 
-    // Has this written last of all.
+    // Writes this final reply.
     pub(crate) fn close(&mut self, client: Q::Stream, reply: BytesMut, how: Ending) -> Next
         ensures told { (first : Q.Stream) (said told : List ℕ)
             → Talks Q.Stream.reads Q.Stream.writes first said client [] told → IsLast how said (told ++ reply.items)
@@ -74,8 +74,8 @@ impl<'q, K: Clock, Q: Racer> Session<'q, K, Q> {
         }
     }
 
-    // Reads on until the client closes, since a connection that is closed with octets unread is reset, and a reply
-    // that has not arrived by then is lost (RFC 9112 section 9.6).
+    // Reads on until the client closes: a connection closed with unread octets is reset, and a reply that has not
+    // arrived by then is lost (RFC 9112 section 9.6).
     fn linger(&mut self, mut closing: Closing<Q::Stream>, cx: &mut Context<'_>) -> Next
         requires over { self.old.state ≡ State.Over }
         ensures step { IsStep Q.Racer Q.Race.Future Q.Stream.reads Q.Stream.writes Q.Stream.cuts self.old

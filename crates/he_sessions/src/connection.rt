@@ -8,23 +8,23 @@ use std::net::SocketAddr;
 use tokio::io::{AsyncRead, AsyncWrite};
 use tokio::net::TcpStream;
 
-/// A connection of a session: the one to its client, or the one that its race gave.
+/// A connection of a session: to its client, or from its race.
 pub trait Connection: AsyncRead + AsyncWrite {
-    // The cut is to reset this connection.
+    // This cut resets this connection.
     ghost cuts: { Self → Cut → Type 0 };
 
-    /// The address of this end.
+    /// The address of the local end.
     ///
     /// # Errors
     ///
     /// Those of the system.
     fn own_address(&self) -> io::Result<SocketAddr>;
 
-    /// Has the system send at once what is written, however little it is (RFC 9293 section 3.7.4). Where it refuses,
-    /// nothing changes.
+    /// Has the system send written octets at once, however few (TCP_NODELAY; RFC 9293 section 3.7.4). If the system
+    /// refuses, nothing changes.
     fn send_at_once(&self);
 
-    /// What resets it.
+    /// The cut that resets it.
     fn into_cut(self) -> Cut
         ensures { cuts self result };
 }

@@ -9,27 +9,27 @@ use std::net::SocketAddr;
 /// How a session ended.
 #[derive(Clone, Copy, Debug, PartialEq, Eq)]
 pub enum Ending {
-    /// Both ways of the tunnel ended.
+    /// Both directions of the tunnel ended.
     Closed,
-    /// The connection to the client broke off, and the tunnel with it.
+    /// The connection to the client broke off, and so the tunnel.
     ClientBroke,
-    /// The connection to the server broke off, and the tunnel with it.
+    /// The connection to the server broke off, and so the tunnel.
     ServerBroke,
-    /// No byte moved for as long as a tunnel may be idle.
+    /// No byte moved for the idle time of a tunnel.
     Idle,
-    /// The client went away before its tunnel was open.
+    /// The client left before its tunnel was open.
     Left,
-    /// Nothing had come from it yet, and it made room for another client.
+    /// Nothing had come from the client yet, and it made room for another one.
     Displaced,
-    /// The request was not whole, or its answer not taken, in the time for it.
+    /// The request was not complete, or its answer not taken, in time.
     Late,
-    /// The client was refused, or its race was lost, and it was told so.
+    /// The client was refused, or its race was lost; it was sent the reason.
     Refused,
-    /// It asked for a page.
+    /// The client requested a page.
     Page,
-    /// Its first octet begins no protocol of this proxy.
+    /// The first octet begins no protocol of this proxy.
     Unknown,
-    /// The proxy had no memory for it.
+    /// The proxy had no memory for the session.
     Failed,
 }
 
@@ -51,22 +51,22 @@ impl Display for Ending {
     }
 }
 
-/// A session that is over, as a log has it.
+/// An ended session, for a log.
 #[derive(Clone, Copy, Debug, PartialEq, Eq)]
 pub struct SessionEnd<'a> {
     /// The client's address and port.
     pub client: SocketAddr,
-    /// The host that it asked for; empty where it asked for none.
+    /// The host of its request; empty if none.
     pub host: &'a str,
-    /// The port that it asked for; 0 where it asked for none.
+    /// The port of its request; 0 if none.
     pub port: u16,
-    /// How the race for it ended, or why it was refused; `None` where it did not come so far.
+    /// How its race ended, or why it was refused; `None` if it ended before.
     pub result: Option<Result<Winner, Ended>>,
-    /// The method and the target of a request of HTTP that asks for a page or is refused; any octets.
+    /// The method and the target of an HTTP request for a page or of a refused one; any octets.
     pub request: Option<RequestLine<'a>>,
-    /// Bytes that were written to the server.
+    /// Bytes written to the server.
     pub sent: u64,
-    /// Bytes that were written to the client once the tunnel was open.
+    /// Bytes written to the client after the tunnel was opened.
     pub received: u64,
     /// How it ended.
     pub how: Ending,

@@ -1,18 +1,18 @@
-//! What is read from a client before its tunnel is open.
+//! Reads from a client before its tunnel is open.
 ghost use Rattle.std.specs.Prelude.{◌<◌, vec_len};
 ghost use Rattle.futures.specs.Poll.{OnPending};
 ghost use Rattle.futures.specs.Task.{IsArmed, Keeps};
 ghost use Rattle.he_sessions.specs.Went.{Hears, Lingers, UnlessNoMemory};
 
 use futures::task::{Context, Poll};
-use std::alloc::AllocError;
+use he_addr::Memory;
 use std::io;
 use tokio::io::{AsyncRead, AsyncWrite};
 
-// The most octets that are read at once before the tunnel is open.
+// The most octets of one read before the tunnel is open.
 const ROOM: usize = 2_048;
 
-/// What a read gave.
+/// The result of a read.
 #[derive(Clone, Copy, PartialEq, Eq)]
 pub(crate) enum Heard {
     Octets,
@@ -21,7 +21,7 @@ pub(crate) enum Heard {
     NoMemory,
 }
 
-// One read of what the client sends, of which at most this many octets are kept.
+// Reads once from the client. At most `most` octets are kept.
 pub(crate) fn poll_hear<S: AsyncRead>(
     client: &mut S,
     come: &mut Vec<u8>,
@@ -41,12 +41,12 @@ pub(crate) fn poll_hear<S: AsyncRead>(
         Poll::Ready(Err(_)) => Poll::Ready(Heard::Broken),
         Poll::Ready(Ok(count)) => Poll::Ready(match come.extend_from_slice(&room[..count]) {
             Ok(()) => Heard::Octets,
-            Err(AllocError) => Heard::NoMemory,
+            Err(Memory) => Heard::NoMemory,
         }),
     }
 }
 
-// Ends the way to a client that is told no more, and then reads what it still sends.
+// Shuts down the direction to a client that gets no more, and then reads what it still sends.
 pub(crate) fn poll_linger<S: AsyncRead + AsyncWrite>(
     client: &mut S,
     cx: &mut Context<'_>,

@@ -2,7 +2,7 @@
 
 ghost use Rattle.he_sessions.specs.Laws.{NoRefusalSucceeds};
 
-/// No octets that turn a client away begin with some that tell a client that its tunnel is open, by any protocol.
+/// No octets that refuse a client begin with octets that report an open tunnel, by any protocol.
 pub fn no_refusal_succeeds()
     ensures { NoRefusalSucceeds }
 {}

@@ -1,16 +1,17 @@
-// Pages of the racer's.
+// The racer's pages.
 
 use crate::asking::Extent;
 use crate::racer::{PageAsked, Racer};
-use std::alloc::{AllocError, Global};
+use he_addr::Memory;
+use std::alloc::Global;
 
-// The response that is asked for.
+// The response to a request for a page.
 pub(crate) fn page_of<Q: Racer>(
     racer: &Q,
     alloc: Global,
     extent: Extent,
     asked: &PageAsked<'_>,
-) -> Result<Vec<u8>, AllocError> {
+) -> Result<Vec<u8>, Memory> {
     let mut out = Vec::new(alloc);
     racer.page(asked, &mut out)?;
     if extent == Extent::Head {
@@ -19,7 +20,7 @@ pub(crate) fn page_of<Q: Racer>(
     Ok(out)
 }
 
-// Leaves the head of a response, which ends with an empty line (RFC 9112 section 2.1).
+// Keeps the head of a response, which ends with an empty line (RFC 9112 section 2.1).
 fn cut_body(response: &mut Vec<u8>) {
     let end = response
         .windows(4)

@@ -1,4 +1,4 @@
-//! Races that connections are asked of.
+//! Races for connections.
 ghost use Rattle.std.specs.Prelude.{ℕ, List, Result, IfOk, IsTrue};
 ghost use Rattle.std.specs.declared.net.socket_addr.SocketAddr.{SocketAddr};
 ghost use Rattle.futures.specs.Task.{Keeps};
@@ -9,9 +9,8 @@ use crate::connection::Connection;
 use crate::ending::SessionEnd;
 use futures::Future;
 use futures::task::{Context, Poll};
-use he_addr::Ip;
+use he_addr::{Ip, Memory};
 use he_front::Ended;
-use std::alloc::AllocError;
 use std::io;
 use std::net::SocketAddr;
 
@@ -20,56 +19,56 @@ use std::net::SocketAddr;
 pub struct Winner {
     /// The address.
     pub ip: Ip,
-    /// Milliseconds from the race's start to the connection.
+    /// Milliseconds from the start of the race to the connection.
     pub ticks: u64,
-    /// Milliseconds of these that were lost to addresses that failed or came late.
+    /// Milliseconds of these lost to addresses that failed or came late.
     pub lost: u64,
 }
 
-/// What a race gave.
+/// The result of a won race.
 #[derive(Drop)]
 pub struct Won<S> {
     /// The connection.
     pub stream: S,
-    /// The address that it goes to.
+    /// The address of the connection.
     pub winner: Winner,
 }
 
-/// A page that a client asks for.
+/// A request for a page.
 #[derive(Clone, Copy, Debug, PartialEq, Eq)]
 pub struct PageAsked<'a> {
     /// The client's address.
     pub client: SocketAddr,
-    /// The address at which it came.
+    /// The local address that it came to.
     pub at: SocketAddr,
     /// The target of the request.
     pub path: &'a [u8],
-    /// The value of its field Host.
+    /// The value of the request's field Host.
     pub host: Option<&'a [u8]>,
 }
 
-/// A client's place among those that have said nothing yet. It is given back where it is dropped.
+/// A client's place among those that have sent nothing yet. Dropping it gives it back.
 pub trait Place: Drop {
-    /// Ready once the client is to go, since another one takes its place.
+    /// Ready once the client must leave, since another one takes its place.
     fn poll_lost(&mut self, cx: &mut Context<'_>) -> Poll<()>
         ensures kept { Keeps cx.old cx.new };
 }
 
-/// What races for connections, shows pages and logs sessions.
+/// Races for connections, shows pages and logs sessions.
 pub trait Racer {
-    /// The connections of clients, and those that races give.
+    /// The connections of clients and of races.
     type Stream: Connection;
 
-    /// A race that is under way.
+    /// A race in progress.
     type Race: Future<Output = Result<Won<Self::Stream>, Ended>>;
 
-    /// A place of a client that has said nothing yet.
+    /// A place of a client that has sent nothing yet.
     type Place: Place;
 
     // The client of this address is served.
     ghost serves: { Self → SocketAddr → Type 0 };
 
-    // May be the end of a race that the client of this address asks for, for the host of these octets at this port.
+    // A possible result of a race for the client of this address, to the host of these octets at this port.
     ghost answers: { Self → SocketAddr → List ℕ → ℕ → Result (Won Self.Stream) Ended → Type 0 };
 
     /// Whether the client of this address is served.
@@ -83,12 +82,11 @@ pub trait Racer {
     /// Those of the clock, and `OutOfMemory`.
     fn place(&self, client: SocketAddr) -> io::Result<Self::Place>;
 
-    /// Begins to race for a connection to the host, the text of an address or a name, at the port.
+    /// Begins a race for a connection to the host, an address or a name in text, at the port.
     ///
     /// # Errors
     ///
-    /// How the session ends instead: `Forbidden` where this client may not reach this target, as where the target is
-    /// the proxy itself.
+    /// The end of the session: `Forbidden` if this client may not reach this target, as if that is the proxy itself.
     fn race(&self, client: SocketAddr, host: &str, port: u16) -> Result<Self::Race, Ended>
         ensures can { IfOk result Self.Race.can_poll }
         ensures answers { IfOk result (λ race. (end : Result (Won Self.Stream) Ended)
@@ -98,13 +96,13 @@ pub trait Racer {
     ///
     /// # Errors
     ///
-    /// `AllocError` where an allocation was refused.
-    fn page(&self, asked: &PageAsked<'_>, out: &mut Vec<u8>) -> Result<(), AllocError>;
+    /// `Memory` if an allocation fails.
+    fn page(&self, asked: &PageAsked<'_>, out: &mut Vec<u8>) -> Result<(), Memory>;
 
-    /// Hears that the client of this address has left while its race runs. The race is polled once more after that,
-    /// and then dropped.
+    /// The client of this address has left during its race. The race is polled once more after that, and then
+    /// dropped.
     fn left(&self, client: SocketAddr);
 
-    /// Takes note of how a session ended, once for each that does.
+    /// Records the end of a session, once for each.
     fn ended(&self, end: &SessionEnd<'_>);
 }

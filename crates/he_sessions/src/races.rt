@@ -1,4 +1,4 @@
-//! What a session does while its race is under way.
+//! The session's steps during its race.
 ghost use Rattle.std.specs.Prelude.{◌≡◌, Ok, string_bytes};
 ghost use Rattle.futures.specs.Task.{IsArmed, Keeps};
 ghost use Rattle.he_sessions.specs.Asks.{greets};
@@ -16,11 +16,11 @@ use crate::states::{Answering, Racing, State};
 use crate::timing::restart;
 use futures::Future;
 use futures::task::{Context, Poll};
+use he_addr::Memory;
 use he_front::Ended;
-use std::alloc::AllocError;
 use std::time::Clock;
 
-// The most octets that are kept for the server while a race is under way.
+// The most octets kept for the server during a race.
 const MOST_EARLY: usize = 16_384;
 
 impl<'q, K: Clock, Q: Racer> Session<'q, K, Q> {
@@ -59,8 +59,8 @@ impl<'q, K: Clock, Q: Racer> Session<'q, K, Q> {
         }
     }
 
-    // Keeps what the client sends before its tunnel is open, and sees whether it went away. A client that has sent
-    // something and then sends no more still waits for the answer.
+    // Keeps what the client sends before its tunnel is open, and notices if it leaves. A client that has sent
+    // something and then ends its direction still waits for the answer.
     fn hear_early(&mut self, mut racing: Racing<Q::Race, Q::Stream>, cx: &mut Context<'_>) -> Next
         requires over { self.old.state ≡ State.Over }
         requires can { Q.Race.can_poll racing.race }
@@ -93,7 +93,7 @@ impl<'q, K: Clock, Q: Racer> Session<'q, K, Q> {
         }
     }
 
-    // Has the race of a client that left end now.
+    // Ends the race of a client that left, now.
     fn leave(&self, mut race: Q::Race, cx: &mut Context<'_>) -> Next
         requires can { Q.Race.can_poll race }
         ensures on { result ≡ Next.Waits → ⊥ }
@@ -104,7 +104,7 @@ impl<'q, K: Clock, Q: Racer> Session<'q, K, Q> {
         Next::Ends(Ending::Left)
     }
 
-    // Tells the client that its race is won.
+    // Sends the client that its race is won.
     fn open(
         &mut self,
         client: Q::Stream,
@@ -134,11 +134,11 @@ impl<'q, K: Clock, Q: Racer> Session<'q, K, Q> {
                 });
                 Next::GoesOn
             }
-            Err(AllocError) => Next::Ends(Ending::Failed),
+            Err(Memory) => Next::Ends(Ending::Failed),
         }
     }
 
-    // Tells the client that its race is lost, or was not begun.
+    // Sends the client that its race is lost, or was not begun.
     pub(crate) fn lose(&mut self, client: Q::Stream, protocol: Protocol, ended: Ended) -> Next
         requires over { self.old.state ≡ State.Over }
         ensures told { TellsOn Q.Racer Q.Race.Future Q.Stream.reads Q.Stream.writes Q.Stream.cuts client

@@ -1,4 +1,4 @@
-// What a client is answered.
+// The replies to clients.
 ghost use Rattle.std.specs.Prelude.{IfOk};
 ghost use Rattle.he_front.specs.declared.replies.Ended.TheVariants as ends;
 ghost use Rattle.he_sessions.specs.Asks.{IsFailure};
@@ -6,29 +6,26 @@ ghost use Rattle.he_sessions.specs.Replies.{IsReply};
 
 use crate::asking::Protocol;
 use bytes::BytesMut;
+use he_addr::Memory;
 use he_front::{Ended, old_socks_reply};
-use std::alloc::{AllocError, Global};
+use std::alloc::Global;
 
 // The reply to a client whose tunnel is open.
-pub(crate) fn success(alloc: Global, protocol: Protocol) -> Result<BytesMut, AllocError>
+pub(crate) fn success(alloc: Global, protocol: Protocol) -> Result<BytesMut, Memory>
     ensures { IfOk result (λ reply. IsReply protocol ends.Connected reply.items) }
 {
     reply_of(alloc, protocol, Ended::Connected)
 }
 
 // The reply to a client whose tunnel could not be opened.
-pub(crate) fn failure(
-    alloc: Global,
-    protocol: Protocol,
-    ended: Ended,
-) -> Result<BytesMut, AllocError>
+pub(crate) fn failure(alloc: Global, protocol: Protocol, ended: Ended) -> Result<BytesMut, Memory>
     requires { IsFailure ended }
     ensures { IfOk result (λ reply. IsReply protocol ended reply.items) }
 {
     reply_of(alloc, protocol, ended)
 }
 
-fn reply_of(alloc: Global, protocol: Protocol, ended: Ended) -> Result<BytesMut, AllocError>
+fn reply_of(alloc: Global, protocol: Protocol, ended: Ended) -> Result<BytesMut, Memory>
     ensures { IfOk result (λ reply. IsReply protocol ended reply.items) }
 {
     match protocol {
@@ -42,7 +39,7 @@ fn reply_of(alloc: Global, protocol: Protocol, ended: Ended) -> Result<BytesMut,
     }
 }
 
-// How a race is told of that gave no connection.
+// The failure to report for a race that gave no connection.
 #[tactic(auto, using(crate::proofs::Failures::not_connected))]
 pub(crate) fn failure_of(ended: Ended) -> Ended
     ensures { IsFailure result }
@@ -54,7 +51,7 @@ pub(crate) fn failure_of(ended: Ended) -> Ended
     }
 }
 
-// What a person is told of it.
+// The reason for people.
 fn reason_of(ended: Ended) -> &'static str {
     match ended {
         Ended::Connected => "",

@@ -1,4 +1,4 @@
-//! What a session does until its client has asked for something.
+//! The session's steps until its client has made a request.
 ghost use Rattle.std.specs.Prelude.{◌≡◌, [], IfOk, Result, drop, string_bytes};
 ghost use Rattle.futures.specs.Task.{Keeps};
 ghost use Rattle.he_front.specs.declared.replies.Ended.{Ended};
@@ -16,13 +16,14 @@ use crate::session::{Asker, Next, Session};
 use crate::states::{Asking, Racing, State};
 use bytes::BytesMut;
 use futures::task::{Context, Poll};
+use he_addr::Memory;
 use he_front::{Asked, Ended, method_reply};
 use httparse::spans::Span;
-use std::alloc::{AllocError, Global};
+use std::alloc::Global;
 use std::time::Clock;
 use tokio::io::poll_write_all_buf;
 
-// The most octets of what asks for a tunnel or a page.
+// The most octets of a request for a tunnel or a page.
 const MOST_HEAD: usize = 8_192;
 
 impl<'q, K: Clock, Q: Racer> Session<'q, K, Q> {
@@ -49,7 +50,7 @@ impl<'q, K: Clock, Q: Racer> Session<'q, K, Q> {
         }
     }
 
-    // Does what is asked for, or reads more of it.
+    // Handles the request, or reads more of it.
     fn answer(&mut self, asking: Asking<Q::Stream>, cx: &mut Context<'_>) -> Next
         requires told { asking.reply.items ≡ [] }
         requires over { self.old.state ≡ State.Over }
@@ -65,12 +66,12 @@ impl<'q, K: Clock, Q: Racer> Session<'q, K, Q> {
             Ok(Ask::Page(extent, path, host)) => self.show(asking, extent, path, host),
             Ok(Ask::Refused(protocol, ended)) => self.refuse_request(asking, protocol, ended),
             Ok(Ask::Unknown) => Next::Ends(Ending::Unknown),
-            Err(AllocError) => Next::Ends(Ending::Failed),
+            Err(Memory) => Next::Ends(Ending::Failed),
         }
     }
 
-    // Reads more. Once something has come, the client has to make room for no other one; one from which nothing comes
-    // makes room only after its socket was read.
+    // Reads more. Once something has come, the client keeps its place; a client from which nothing has come makes
+    // room only after its socket was read.
     fn hear(&mut self, mut asking: Asking<Q::Stream>, cx: &mut Context<'_>) -> Next
         requires told { asking.reply.items ≡ [] }
         requires over { self.old.state ≡ State.Over }
@@ -100,7 +101,7 @@ impl<'q, K: Clock, Q: Racer> Session<'q, K, Q> {
         }
     }
 
-    // Answers the greeting, which has this many octets.
+    // Answers the greeting of `len` octets.
     fn greet(&mut self, asking: Asking<Q::Stream>, len: usize) -> Next
         requires asks { MayAnswer asking (Ask.Greeting len) }
         requires over { self.old.state ≡ State.Over }
@@ -113,7 +114,7 @@ impl<'q, K: Clock, Q: Racer> Session<'q, K, Q> {
                 self.state = State::Asking(asking);
                 Next::GoesOn
             }
-            Err(AllocError) => Next::Ends(Ending::Failed),
+            Err(Memory) => Next::Ends(Ending::Failed),
         }
     }
 
@@ -126,11 +127,11 @@ impl<'q, K: Clock, Q: Racer> Session<'q, K, Q> {
     {
         match BytesMut::copy_from_slice(self.alloc, &method_reply(false)) {
             Ok(reply) => self.close(asking.client, reply, Ending::Refused),
-            Err(AllocError) => Next::Ends(Ending::Failed),
+            Err(Memory) => Next::Ends(Ending::Failed),
         }
     }
 
-    // Refuses what was asked for. Of a request of HTTP the log has the line.
+    // Refuses the request. The log gets the request line of HTTP.
     fn refuse_request(
         &mut self,
         asking: Asking<Q::Stream>,
@@ -150,7 +151,7 @@ impl<'q, K: Clock, Q: Racer> Session<'q, K, Q> {
         self.refuse(client, protocol, ended)
     }
 
-    // Begins the race for the tunnel that is asked for.
+    // Begins the race for the requested tunnel.
     fn begin(
         &mut self,
         asking: Asking<Q::Stream>,
@@ -182,7 +183,7 @@ impl<'q, K: Clock, Q: Racer> Session<'q, K, Q> {
         }
     }
 
-    // A race for what is asked for by this many of the octets, and the octets that come after these.
+    // A race for the request in the first `len` octets, and the octets after these.
     fn race_for(&self, octets: &[u8], len: usize) -> Result<(Q::Race, Vec<u8>), Ended>
         ensures can { IfOk result (λ (race, early). Q.Race.can_poll race) }
         ensures named { IfOk result (λ (race, early). (end : Result (Won Q.Stream) Ended) → Q.Race.gives race end
@@ -192,7 +193,7 @@ impl<'q, K: Clock, Q: Racer> Session<'q, K, Q> {
     {
         let early = match Vec::from_slice(self.alloc, rest_after(octets, len)) {
             Ok(early) => early,
-            Err(AllocError) => return Err(Ended::Failed),
+            Err(Memory) => return Err(Ended::Failed),
         };
         let (host, port) = (self.asked.host.as_str(), self.asked.port);
         let Asker { racer, address } = self.asker;
@@ -232,17 +233,13 @@ impl<'q, K: Clock, Q: Racer> Session<'q, K, Q> {
         self.request = Some(come);
         match page {
             Ok(out) => self.close(client, BytesMut::from(out), Ending::Page),
-            Err(AllocError) => Next::Ends(Ending::Failed),
+            Err(Memory) => Next::Ends(Ending::Failed),
         }
     }
 }
 
-// The greeting's reply is written next, and what came after it is read as a request.
-fn greeted<S: Connection>(
-    alloc: Global,
-    asking: Asking<S>,
-    len: usize,
-) -> Result<Asking<S>, AllocError>
+// Writes the reply to the greeting next, and reads what came after it as a request.
+fn greeted<S: Connection>(alloc: Global, asking: Asking<S>, len: usize) -> Result<Asking<S>, Memory>
     ensures { IfOk result (IsGreetedAfter len asking) }
 {
     let Asking { client, come, .. } = asking;
@@ -254,7 +251,7 @@ fn greeted<S: Connection>(
     })
 }
 
-// Whether a client that has said nothing has to make room for another one.
+// Whether a client that has sent nothing must make room for another one.
 fn has_lost<P: Place>(place: &mut Option<P>, cx: &mut Context<'_>) -> bool
     ensures { Keeps cx.old cx.new }
 {

@@ -1,4 +1,4 @@
-//! One connection of a client: what it asks for is read, raced for, answered and relayed.
+//! One client's connection: reads its request, races for it, answers and relays.
 ghost use Rattle.std.specs.Prelude.{◌≡◌, IfOk};
 ghost use Rattle.he_sessions.specs.Sessions.{IsAt, IsPolled, IsStep, MayPoll};
 
@@ -17,19 +17,19 @@ use std::string::String;
 use std::time::{Clock, Duration};
 use tokio::time::{Handle, Sleep};
 
-// The most steps of one poll, before other tasks are polled.
+// The most steps in one poll.
 const MOST_STEPS: usize = 8;
 
-/// How long a session may take for what it waits for.
+/// How long a session may wait.
 #[derive(Clone, Copy, Debug, PartialEq, Eq)]
 pub struct Limits {
-    /// For the whole request to come, and for an answer to be taken.
+    /// For the complete request, and for an answer to be taken.
     pub request: Duration,
-    /// For a byte to move in the tunnel, either way. `None`: it may be idle for as long as its ends like.
+    /// For a byte to move in the tunnel, in either direction. `None`: without limit.
     pub idle: Option<Duration>,
 }
 
-// A client, and what races for it.
+// A client, and the racer.
 #[derive(Clone, Copy)]
 pub(crate) struct Asker<'q, Q> {
     pub(crate) racer: &'q Q,
@@ -43,13 +43,13 @@ pub struct Session<'q, K: Clock, Q: Racer> {
     pub(crate) alloc: Global,
     pub(crate) asker: Asker<'q, Q>,
     pub(crate) limits: Limits,
-    // Ends with the time for what is waited for.
+    // Ends at the limit of the current wait.
     pub(crate) sleep: Sleep,
-    // Until something has come from it.
+    // Until the first octet has come.
     pub(crate) place: Option<Q::Place>,
-    // What it asked for; an empty host until then.
+    // The target of the request; an empty host before.
     pub(crate) asked: Asked,
-    // The octets of a request of HTTP that asks for no tunnel.
+    // The octets of an HTTP request that is not for a tunnel.
     pub(crate) request: Option<Vec<u8>>,
     pub(crate) result: Option<Result<Winner, Ended>>,
     pub(crate) sent: u64,
@@ -62,7 +62,7 @@ impl<'q, K: Clock, Q: Racer> Session<'q, K, Q> {
     ///
     /// # Errors
     ///
-    /// Where the clock can't be read, or an allocation was refused.
+    /// If the clock can't be read, or an allocation fails.
     pub fn new(
         clock: &'q K,
         alloc: Global,
@@ -105,7 +105,7 @@ impl<'q, K: Clock, Q: Racer> Session<'q, K, Q> {
     }
 }
 
-// What a session does next.
+// The next action of a session.
 #[derive(Clone, Copy, PartialEq, Eq)]
 pub(crate) enum Next {
     Waits,
@@ -186,7 +186,7 @@ impl<K: Clock, Q: Racer> Future for Session<'_, K, Q> {
     }
 }
 
-// The request line of these octets.
+// The request line in these octets.
 fn line_of(request: &Option<Vec<u8>>) -> Option<RequestLine<'_>> {
     match request {
         Some(octets) => Some(request_line(octets)),

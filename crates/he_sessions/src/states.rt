@@ -1,4 +1,4 @@
-//! How far a session is.
+//! The states of a session.
 
 use crate::asking::Protocol;
 use crate::ending::Ending;
@@ -7,48 +7,48 @@ use bytes::BytesMut;
 use he_relay::{Cut, Tunnel};
 use std::time::Instant;
 
-/// How far a session is.
+/// The state of a session.
 #[derive(Drop)]
 pub enum State<F, S> {
-    /// What the client asks for is read.
+    /// The client's request is being read.
     Asking(Asking<S>),
-    /// It is raced for.
+    /// The race for it is in progress.
     Racing(Racing<F, S>),
-    /// The race is won, and the client is told so.
+    /// The race is won, and the client is being sent the success.
     Answering(Answering<S>),
-    /// The client is told last of all why there is no tunnel, or is given a page.
+    /// The client is being sent a final reply: why there is no tunnel, or a page.
     Closing(Closing<S>),
     /// The tunnel is open.
     Relaying(Relaying<S>),
-    /// One of its two connections broke off, and the other one is to be reset.
+    /// One of its two connections broke off, and the other one will be reset.
     Cutting(Cutting),
-    /// It has ended.
+    /// The session has ended.
     Over,
 }
 
-/// What the client asks for is read.
+/// The client's request is being read.
 #[derive(Drop)]
 pub struct Asking<S> {
     /// The client.
     pub client: S,
-    /// What has come and isn't answered yet.
+    /// The octets that have come and are not answered yet.
     pub come: Vec<u8>,
     /// Whether its greeting was answered.
     pub was_greeted: bool,
-    /// What is to be written before more is read.
+    /// The octets to write before more is read.
     pub reply: BytesMut,
 }
 
-/// A race is under way.
+/// The race is in progress.
 #[derive(Drop)]
 pub struct Racing<F, S> {
     /// The client.
     pub client: S,
-    /// What it sent after its request.
+    /// The octets after the request.
     pub early: Vec<u8>,
-    /// Whether it sends no more.
+    /// Whether the client has ended its direction.
     pub has_ended: bool,
-    /// Which protocol it is answered in.
+    /// The protocol of the reply.
     pub protocol: Protocol,
     /// The race.
     pub race: F,
@@ -59,20 +59,20 @@ pub struct Racing<F, S> {
 pub struct Answering<S> {
     /// The client.
     pub client: S,
-    /// What it sent after its request.
+    /// The octets after the request.
     pub early: Vec<u8>,
-    /// What the race gave.
+    /// The result of the race.
     pub won: Won<S>,
-    /// What is to be written before the tunnel is open.
+    /// The octets to write before the tunnel is open.
     pub reply: BytesMut,
 }
 
-/// There will be no tunnel.
+/// There is no tunnel.
 #[derive(Drop)]
 pub struct Closing<S> {
     /// The client.
     pub client: S,
-    /// What is to be written before the close.
+    /// The octets to write before the close.
     pub reply: BytesMut,
     /// How the session ends.
     pub how: Ending,
@@ -83,9 +83,9 @@ pub struct Closing<S> {
 pub struct Relaying<S> {
     /// The tunnel.
     pub tunnel: Tunnel<S, S>,
-    /// How many bytes had moved both ways when it was last looked.
+    /// The bytes moved in both directions at the last look.
     pub seen: u64,
-    /// Until when it may be idle, once a byte moved.
+    /// When the idle time ends, after the last byte that moved.
     pub until: Option<Instant>,
 }
 
@@ -96,6 +96,6 @@ pub struct Cutting {
     pub cut: Cut,
     /// How the session ends.
     pub how: Ending,
-    /// How often it is looked at most whether all is sent.
+    /// The most looks that remain for whether all is sent.
     pub looks: u32,
 }

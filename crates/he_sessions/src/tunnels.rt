@@ -1,4 +1,4 @@
-//! What a session does once its race is won: its tunnel is opened and ended.
+//! The session's steps after its race is won: its tunnel is opened and ended.
 ghost use Rattle.std.specs.Prelude.{◌≡◌, [], IfOk};
 ghost use Rattle.futures.specs.Task.{IsArmed, Keeps};
 ghost use Rattle.he_relay.specs.Tunnels.{IsBegun};
@@ -13,15 +13,15 @@ use crate::states::{Answering, Cutting, Relaying, State};
 use crate::timing::{restart, restart_within, time_after};
 use futures::Future;
 use futures::task::{Context, Poll};
+use he_addr::Memory;
 use he_relay::fault::Traffic;
 use he_relay::{Broke, Tunnel};
-use std::alloc::{AllocError, Global};
+use std::alloc::Global;
 use std::mem::drop;
 use std::time::{Clock, Duration};
 use tokio::io::poll_write_all_buf;
 
-// How many milliseconds pass between two looks whether all is sent to a connection that is to be reset, and how many
-// there are at most.
+// Milliseconds between two looks at whether all is sent to a connection that will be reset, and the most such looks.
 const LOOK: u64 = 10;
 
 const MOST_LOOKS: u32 = 1_000;
@@ -50,7 +50,6 @@ impl<'q, K: Clock, Q: Racer> Session<'q, K, Q> {
         }
     }
 
-    // Opens the tunnel.
     fn relay(&mut self, answering: Answering<Q::Stream>) -> Next
         requires told { answering.reply.items ≡ [] }
         requires over { self.old.state ≡ State.Over }
@@ -68,7 +67,7 @@ impl<'q, K: Clock, Q: Racer> Session<'q, K, Q> {
                 });
                 Next::GoesOn
             }
-            Err(AllocError) => Next::Ends(Ending::Failed),
+            Err(Memory) => Next::Ends(Ending::Failed),
         }
     }
 
@@ -96,7 +95,7 @@ impl<'q, K: Clock, Q: Racer> Session<'q, K, Q> {
         }
     }
 
-    // Ends a tunnel in which no byte moved for as long as it may be idle.
+    // Ends a tunnel in which no byte moved for its idle time.
     fn watch(&mut self, mut relaying: Relaying<Q::Stream>, moved: u64, cx: &mut Context<'_>) -> Next
         requires armed { IsArmed cx.old }
         requires over { self.old.state ≡ State.Over }
@@ -124,7 +123,7 @@ impl<'q, K: Clock, Q: Racer> Session<'q, K, Q> {
         }
     }
 
-    // Resets the connection that did not break off, once all that came before is sent.
+    // Resets the connection that did not break off, once all earlier bytes are sent.
     pub(crate) fn step_cutting(&mut self, mut cutting: Cutting, cx: &mut Context<'_>) -> Next
         requires over { self.old.state ≡ State.Over }
         ensures step { IsStep Q.Racer Q.Race.Future Q.Stream.reads Q.Stream.writes Q.Stream.cuts self.old
@@ -145,7 +144,7 @@ impl<'q, K: Clock, Q: Racer> Session<'q, K, Q> {
     }
 }
 
-// Notes that so many bytes have moved in all: where these are more, the tunnel may be idle for this long from now on.
+// Notes the bytes moved so far: if there are more, the idle time starts over.
 fn note_moved<K: Clock, S>(clock: &K, relaying: &mut Relaying<S>, moved: u64, limit: Duration)
     ensures { relaying.new.tunnel ≡ relaying.old.tunnel }
 {
@@ -155,7 +154,7 @@ fn note_moved<K: Clock, S>(clock: &K, relaying: &mut Relaying<S>, moved: u64, li
     }
 }
 
-// The end of a tunnel of which one connection broke off.
+// The cut for a tunnel with a broken connection.
 fn cutting_of<S: Connection>(tunnel: Tunnel<S, S>, broke: Broke) -> Cutting
     ensures { IsCutOf S.cuts tunnel broke result.cut result.how }
 {
@@ -177,11 +176,8 @@ fn cutting_of<S: Connection>(tunnel: Tunnel<S, S>, broke: Broke) -> Cutting
     }
 }
 
-// The tunnel between the client and what its race gave.
-fn tunnel_of<S: Connection>(
-    alloc: Global,
-    answering: Answering<S>,
-) -> Result<Tunnel<S, S>, AllocError>
+// The tunnel between the client and the race's connection.
+fn tunnel_of<S: Connection>(alloc: Global, answering: Answering<S>) -> Result<Tunnel<S, S>, Memory>
     ensures { IfOk result (IsBegun answering.client answering.won.stream answering.early.items) }
 {
     let Answering {

@@ -1,4 +1,4 @@
-// What clients are answered whose tunnels are not opened, and pages.
+// The answers to clients whose tunnels are not opened, and pages.
 
 use crate::homes::{Course, Lender, Outcome, Part, run};
 use he_front::Ended;
@@ -14,7 +14,7 @@ const ASKS: &[u8] = b"\x05\x01\x00\x05\x01\x00\x03\x0bexample.org\x01\xbb";
 
 const CONNECTS: &[u8] = b"CONNECT example.org:443 HTTP/1.1\r\nHost: example.org:443\r\n\r\n";
 
-// What comes of a client that sends this, in pieces of so many octets.
+// The outcome for a client that sends this in pieces of `piece` octets.
 fn ask_in_pieces<R: Lender + Net<Listener = TcpListener, Stream = TcpStream>>(
     rt: &R,
     course: Course,
@@ -34,7 +34,7 @@ fn ask_in_pieces<R: Lender + Net<Listener = TcpListener, Stream = TcpStream>>(
     run(rt, TARGET, course, None, client, server)
 }
 
-// The same, at once.
+// The outcome for a client that sends this at once.
 fn ask<R: Lender + Net<Listener = TcpListener, Stream = TcpStream>>(
     rt: &R,
     course: Course,
@@ -43,7 +43,7 @@ fn ask<R: Lender + Net<Listener = TcpListener, Stream = TcpStream>>(
     ask_in_pieces(rt, course, sends, usize::MAX)
 }
 
-// Whether the client gets this and nothing else, and the session ends so.
+// Whether the client gets this and nothing else, and the session has this ending.
 fn is_answered<R: Lender + Net<Listener = TcpListener, Stream = TcpStream>>(
     rt: &R,
     course: Course,
@@ -59,7 +59,7 @@ fn is_answered<R: Lender + Net<Listener = TcpListener, Stream = TcpStream>>(
     Ok(is_told && outcome.client_got.as_slice() == gets)
 }
 
-// Whether the client gets a response of HTTP that begins so.
+// Whether the client gets an HTTP response with this first line.
 fn is_response<R: Lender + Net<Listener = TcpListener, Stream = TcpStream>>(
     rt: &R,
     course: Course,
@@ -78,7 +78,7 @@ fn socks_is_refused_by_its_replies(rt: HostRuntime) -> Result<(), Fail> {
     let forbidden = Course::IsRefused(Ended::Forbidden);
     let reply = b"\x05\x00\x05\x02\x00\x01\x00\x00\x00\x00\x00\x00";
     assert!(rt; is_answered(&rt, forbidden, ASKS, reply, Ending::Refused)?);
-    // The racer answers that nothing was won with the word for a connection.
+    // The racer reports that nothing was won, with the word for a connection.
     let wrong = Course::IsRefused(Ended::Connected);
     let reply = b"\x05\x00\x05\x01\x00\x01\x00\x00\x00\x00\x00\x00";
     assert!(rt; is_answered(&rt, wrong, ASKS, reply, Ending::Refused)?);
@@ -91,7 +91,7 @@ fn socks_is_refused_by_its_replies(rt: HostRuntime) -> Result<(), Fail> {
 
 #[test]
 fn other_methods_and_versions_are_refused(rt: HostRuntime) -> Result<(), Fail> {
-    // User name and password alone.
+    // User name and password are the only method.
     assert!(rt;
         is_answered(
             &rt,

@@ -5,10 +5,10 @@ ghost use Rattle.futures.specs.Task.{IsArmed, Keeps};
 use futures::Future;
 use futures::future::join3;
 use futures::task::{Context, Poll};
-use he_addr::Ip;
+use he_addr::{Ip, Memory};
 use he_front::Ended;
 use he_sessions::{Ending, Limits, PageAsked, Place, Racer, Session, SessionEnd, Winner, Won};
-use std::alloc::{AllocError, AllocGlobal, Global};
+use std::alloc::{AllocGlobal, Global};
 use std::cell::Cell;
 use std::io;
 use std::mem::{drop, replace};
@@ -21,7 +21,7 @@ use tokio::net::TcpStream;
 use tokio::runtime::{Handle, LocalRuntime};
 use tokio::time::Sleep;
 
-/// What a session is lent, beside the network.
+/// The resources of a session, beside the network.
 pub trait Lender: Wait + Clock + RandomSource + AllocGlobal {}
 
 impl<R: Wait + Clock + RandomSource + AllocGlobal> Lender for R {}
@@ -32,24 +32,24 @@ pub const WINNER: Winner = Winner {
     lost: 1,
 };
 
-// How long a session takes at most, in seconds.
+// The most seconds that a session takes.
 const PATIENCE: u64 = 10;
 
 // The most octets that a peer reads at once.
 const ROOM: usize = 4_096;
 
-/// How a race goes.
+/// The course of a race.
 #[derive(Clone, Copy, PartialEq, Eq)]
 pub enum Course {
     /// It is won.
     Wins,
-    /// It ends so.
+    /// It ends with this result.
     Ends(Ended),
     /// It isn't begun.
     IsRefused(Ended),
     /// It goes on for longer than the test.
     GoesOn,
-    /// The client is to make room at once for another one; a race ends by a refusal.
+    /// The client must make room at once for another one; a race ends with a refusal.
     LosesPlace,
 }
 
@@ -84,7 +84,7 @@ impl Future for Race {
     }
 }
 
-/// What was told of a session's end.
+/// The report of a session's end.
 #[derive(Clone, Copy, PartialEq, Eq)]
 pub struct Told {
     pub port: u16,
@@ -153,7 +153,7 @@ impl Racer for OneTarget {
         }
     }
 
-    fn page(&self, asked: &PageAsked<'_>, out: &mut Vec<u8>) -> Result<(), AllocError> {
+    fn page(&self, asked: &PageAsked<'_>, out: &mut Vec<u8>) -> Result<(), Memory> {
         out.extend_from_slice(asked.path)?;
         out.extend_from_slice(b" at ")?;
         out.extend_from_slice(asked.host.unwrap_or(b"none"))
@@ -172,7 +172,7 @@ impl Racer for OneTarget {
     }
 }
 
-/// One end of a connection, which sends what it has and keeps what it gets, until the other end has ended.
+/// One end of a connection. It sends its octets and keeps those that it gets, until the other end has ended.
 #[derive(Drop)]
 pub struct Peer {
     alloc: Global,
@@ -185,7 +185,8 @@ pub struct Peer {
     gets: Vec<u8>,
 }
 
-/// What a peer sends: at most so many octets in one write. Once it has got so many, it ends its way.
+/// The part of a peer: it sends these octets, at most `piece` in one write. Once it has got `ends_after` octets, it
+/// ends its direction.
 #[derive(Drop)]
 pub struct Part {
     pub sends: Vec<u8>,
@@ -212,7 +213,7 @@ impl Peer {
         }
     }
 
-    // One write: whether it took something. After the last one its way is ended.
+    // One write: whether it took something. After the last one the peer's direction is ended.
     fn send(&mut self, cx: &mut Context<'_>) -> bool
         ensures { Keeps cx.old cx.new }
     {
@@ -265,7 +266,7 @@ impl Future for Peer {
     }
 }
 
-/// What came of a session.
+/// The outcome of a session.
 #[derive(Drop)]
 pub struct Outcome {
     pub client_got: Vec<u8>,
@@ -302,7 +303,7 @@ fn race_of<R: Lender>(
     })
 }
 
-/// Runs the session of one client to its end. The first piece of what the client sends lies unread when it begins.
+/// Runs the session of one client to its end. The first piece from the client is unread when it begins.
 pub fn run<R: Lender + Net<Listener = TcpListener, Stream = std::net::TcpStream>>(
     rt: &R,
     target: (&'static str, u16),

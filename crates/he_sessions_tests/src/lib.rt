@@ -1,5 +1,6 @@
-//! Tests of `he_sessions` on real sockets, of loopback alone: what clients of SOCKS 5 and of HTTP are answered, what a
-//! race is begun for, that what comes early goes first, how sessions end, and that what is relayed arrives whole.
+//! Tests of `he_sessions` on real sockets, of loopback alone: the answers to clients of SOCKS 5 and of HTTP, the
+//! targets for which races are begun, that early octets are relayed first, how sessions end, and that all octets
+//! arrive.
 #![tactic(auto)]
 
 #[cfg(test)]

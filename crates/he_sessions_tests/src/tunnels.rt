@@ -1,8 +1,9 @@
 // Tunnels that are opened, and clients that leave before.
 
 use crate::homes::{Course, Lender, Outcome, Part, WINNER, run};
+use he_addr::Memory;
 use he_sessions::Ending;
-use std::alloc::{AllocError, Global};
+use std::alloc::Global;
 use std::io;
 use std::net::{Net, TcpListener, TcpStream};
 use std::test::Fail;
@@ -23,8 +24,8 @@ const HTTP_OPEN: &[u8] = b"HTTP/1.1 200 Connection established\r\n\r\n";
 
 const MEGABYTE: usize = 1_000_000;
 
-// So many octets, of which no short piece comes twice.
-fn octets(alloc: Global, count: usize) -> Result<Vec<u8>, AllocError> {
+// `count` octets, of which no short piece comes twice.
+fn octets(alloc: Global, count: usize) -> Result<Vec<u8>, Memory> {
     let mut made = Vec::with_capacity(alloc, count)?;
     let mut state = 1u32;
     for _ in 0..count {
@@ -34,13 +35,13 @@ fn octets(alloc: Global, count: usize) -> Result<Vec<u8>, AllocError> {
     Ok(made)
 }
 
-fn joined(alloc: Global, first: &[u8], second: &[u8]) -> Result<Vec<u8>, AllocError> {
+fn joined(alloc: Global, first: &[u8], second: &[u8]) -> Result<Vec<u8>, Memory> {
     let mut all = Vec::from_slice(alloc, first)?;
     all.extend_from_slice(second)?;
     Ok(all)
 }
 
-// What comes of a client that asks so, and sends and is sent so many octets.
+// The outcome for a client that asks for a tunnel so, with `count` octets each way.
 fn tunnel<R: Lender + Net<Listener = TcpListener, Stream = TcpStream>>(
     rt: &R,
     target: (&'static str, u16),
@@ -63,7 +64,7 @@ fn tunnel<R: Lender + Net<Listener = TcpListener, Stream = TcpStream>>(
     run(rt, target, Course::Wins, None, client, server)
 }
 
-// Whether all of it arrives, both ways, and the end is told so.
+// Whether all octets arrive, both ways, and the session's report of its end is right.
 fn is_whole<R: Lender + Net<Listener = TcpListener, Stream = TcpStream>>(
     rt: &R,
     target: (&'static str, u16),
@@ -130,7 +131,7 @@ fn a_megabyte_arrives_both_ways(rt: HostRuntime) -> Result<(), Fail> {
     Ok(())
 }
 
-// What comes of a client whose race goes on, or whose tunnel is silent.
+// The outcome for a client whose race goes on, or whose tunnel is silent.
 fn wait<R: Lender + Net<Listener = TcpListener, Stream = TcpStream>>(
     rt: &R,
     course: Course,

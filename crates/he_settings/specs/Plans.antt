@@ -1,4 +1,4 @@
--- What a look-up asks: names, of the texts that resolver(5) gives for a host, and name servers.
+-- The queries of a look-up: the names for a host as in resolver(5), and the name servers.
 use Rattle.std.specs.Prelude.{◌≡◌, ◌≢◌, ◌⊎◌, ◌*◌, ℕ, List, [], ◌∷◌, Some, None, codes, string_bytes, true}
 use Rattle.std.specs.List.{list_any}
 use Rattle.std.specs.Net.Addr.{IsIpv4OfBits, IsIpv6OfBits}
@@ -23,7 +23,7 @@ use Rattle.he_settings.specs.declared.choice.Choice.{Choice}
 use Rattle.he_settings.specs.declared.choice.Choice.TheVariants as choices
 use Rattle.he_settings.specs.declared.plan.QueryPlan.{QueryPlan}
 
--- what stands for the items, for each of them, in their order; an item that has nothing is left out
+-- a result for each item, in order; items without one are left out
 module _ {X Y : Type 0} (Is : X → Y → Type 0) (Lacks : X → Type 0) where
   abbrev pub StandFor : List X → List Y → Type 0
   StandFor [] ys = ys ≡ []
@@ -32,35 +32,34 @@ module _ {X Y : Type 0} (Is : X → Y → Type 0) (Lacks : X → Type 0) where
 
 -- ---- names
 
--- the text is no name, as one that is too long in a domain of the search list
+-- the text is not a name, as one that a domain of the search list makes too long
 abbrev pub SpellsNone : List ℕ → Type 0
 SpellsNone text = (fault : NameFault) × (fault ≢ faults.Memory) × HasNameFault text fault
 
--- the names that the texts spell; a text that is no name is left out
+-- the names that the texts spell; texts that are not names are left out
 abbrev pub AreSpelled : List (List ℕ) → List HostName → Type 0
 AreSpelled texts names = StandFor SpellsName SpellsNone texts names
 
 -- ---- name servers
 
--- an address at the port of name servers (RFC 1035 section 4.2)
+-- the address at port 53 (RFC 1035 section 4.2)
 abbrev pub IsAt : Ip → SocketAddr → Type 0
 IsAt (ips.V4 n) (sockets.V4 address) = IsIpv4OfBits (v4_ip address) n × (v4_port address ≡ 53)
 IsAt (ips.V6 n) (sockets.V6 address) = IsIpv6OfBits (v6_ip address) n × (v6_port address ≡ 53)
 IsAt ip address = ⊥
 
--- where a server of the file is asked: over its interface, where it has one
+-- the socket address of a server in the file: over its interface, if it has one
 abbrev pub IsServer : Zoned → SocketAddr → Type 0
 IsServer (ip, None) address = IsAt ip address × (socket_scope_id address ≡ 0)
 IsServer (ips.V4 n, Some zone_id) address = IsAt (ips.V4 n) address
 IsServer (ips.V6 n, Some zone_id) address = IsAt (ips.V6 n) address × IsScope zone_id (socket_scope_id address)
 
--- a server of the file whose interface this machine has not
+-- a server in the file whose interface this machine doesn't have
 abbrev pub IsAbsent : Zoned → Type 0
 IsAbsent (ips.V6 n, Some zone_id) = IsNoScope zone_id
 IsAbsent server = ⊥
 
--- the server that is chosen alone, over the interface of its zone where it has one; else those of the file, in their
--- order
+-- only the chosen server, over the interface of its zone if it has one; otherwise those in the file, in order
 abbrev pub AreServers : Choice → List ℕ → List SocketAddr → Type 0
 AreServers (choices.Server server) settings servers = servers ≡ server ∷ []
 AreServers (choices.OnLink server) settings servers =
@@ -69,7 +68,7 @@ AreServers other settings servers = StandFor IsServer IsAbsent (servers_in setti
 
 -- ---- both
 
--- what is asked for a host by a file of resolver settings
+-- the queries for a host by a resolver configuration
 pub record IsPlan (host settings : List ℕ) (choice : Choice) (plan : QueryPlan) : Type 0 where
   pub names : AreSpelled (names_of host (option_in (codes "ndots:") 0 1 15 settings) (search_in settings))
       plan.names.items
@@ -78,8 +77,8 @@ pub record IsPlan (host settings : List ℕ) (choice : Choice) (plan : QueryPlan
   pub use_vc : plan.use_vc ≡ has_option (codes "use-vc") settings
   pub no_aaaa : plan.no_aaaa ≡ has_option (codes "no-aaaa") settings
 
--- by some file of resolver settings, as the environment amends it; a name that multicast DNS finds is asked of name
--- servers only where the search list has a domain in local
+-- by some resolver configuration, with the environment's changes; name servers are asked for a name of multicast DNS
+-- only if the search list has a domain in local
 abbrev pub IsPlanFor : Choice → Environment → Target → QueryPlan → Type 0
 IsPlanFor choice environment (targets.Name name) plan =
     (file : List ℕ) × IsPlan (string_bytes name) (amended environment file) choice plan

@@ -5,11 +5,11 @@ use Rattle.he_names.specs.Targets.{Means}
 use Rattle.he_names.specs.declared.target.Target.{Target}
 use Rattle.he_names.specs.declared.target.Target.TheVariants as targets
 
--- the number of the interface that a zone names: its own, where it is one (section 11.2)
+-- the index of a zone's interface: the zone itself, if it is a number (section 11.2)
 abbrev pub IsScope : List ℕ → ℕ → Type 0
 IsScope zone_id scope = (number : ℕ) → number_in zone_id ≡ Some number → scope ≡ number
 
--- a zone that names no interface is no number of one
+-- a zone without an interface is not an interface's number
 abbrev pub IsNoScope : List ℕ → Type 0
 IsNoScope zone_id = (number : ℕ) → number_in zone_id ≡ Some number → 2 ^ 32 ≤ number
 
@@ -17,11 +17,11 @@ abbrev pub MayBeScope : List ℕ → Option ℕ → Type 0
 MayBeScope zone_id (Some scope) = IsScope zone_id scope
 MayBeScope zone_id None = IsNoScope zone_id
 
--- of a link-local address that of its interface; of any other host 0, which is none
+-- a link-local address has its interface's index; any other host 0, for none
 abbrev pub HasScope : Target → ℕ → Type 0
 HasScope (targets.OnLink ip interface) scope = IsScope interface.items scope
 HasScope target scope = scope ≡ 0
 
--- of the host that a text names
+-- for the host of a text
 abbrev pub FindsScope : List ℕ → ℕ → Type 0
 FindsScope text scope = (target : Target) × Means text target × HasScope target scope

@@ -1,4 +1,4 @@
-//! Which resolver is asked.
+//! The choice of the resolver.
 
 ghost use Rattle.std.specs.Prelude.{◌≡◌};
 ghost use Rattle.std.specs.Net.Socket.{socket_scope_id};
@@ -9,20 +9,20 @@ use he_addr::Ip;
 use he_names::ZonedIp;
 use std::net::{IpAddr, Ipv4Addr, Ipv6Addr, SocketAddr};
 
-/// Which resolver is asked.
+/// Which resolver to ask.
 #[derive(Clone, Copy)]
 pub enum Choice<'a> {
-    /// The name servers of the file of resolver settings.
+    /// The name servers of /etc/resolv.conf.
     Configured,
-    /// This name server in their place.
+    /// Only this name server.
     Server(SocketAddr),
-    /// This one in their place, at the usual port and, of an address on a link, over the interface of its zone.
+    /// Only this name server, at port 53; a link-local address goes over the interface of its zone.
     OnLink(ZonedIp<'a>),
     /// The system's resolver.
     System,
 }
 
-// A name server at its usual port.
+// A name server at port 53.
 pub(crate) fn server_at(ip: Ip) -> SocketAddr
     ensures at { IsAt ip result }
     ensures scope { socket_scope_id result ≡ 0 }

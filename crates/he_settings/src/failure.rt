@@ -11,40 +11,42 @@ use thiserror::Error;
 /// How a name server failed to answer for a name.
 #[derive(Clone, Copy, Debug, PartialEq, Eq, Error)]
 pub enum Failure {
-    /// RCODE 1: it could not read the query.
+    /// RCODE 1: the server could not read the query.
     #[error("FORMERR")]
     FormatError,
-    /// RCODE 2: it failed.
+    /// RCODE 2: the server failed.
     #[error("SERVFAIL")]
     ServerFailure,
-    /// RCODE 4: it has no such kind of query.
+    /// RCODE 4: the server doesn't support the kind of query.
     #[error("NOTIMP")]
     NotImplemented,
-    /// RCODE 5: it refused.
+    /// RCODE 5: the server refused.
     #[error("REFUSED")]
     Refused,
-    /// Extended RCODE 16: it has no such version of EDNS (RFC 6891 section 6.1.3).
+    /// Extended RCODE 16: the server doesn't support the EDNS version (RFC 6891 section 6.1.3).
     #[error("BADVERS")]
     BadVersion,
-    /// Another code than those and 0 and 3, of 12 bits.
+    /// Any other code of 12 bits but 0 and 3.
     #[error("response code {0}")]
     Code(u16),
-    /// It answered no address, is no authority for the name, and asks no other server.
+    /// The answer has no address, and the server is neither authoritative for the name nor recursive (AA and RA are
+    /// 0).
     #[error("knows no more than other servers")]
     Lame,
-    /// What it answered can't be read.
+    /// The answer can't be read.
     #[error("answered what can't be read")]
     Malformed,
-    /// It answered more aliases than are followed.
+    /// The answer has more aliases than are followed.
     #[error("answered more than 16 aliases in a row, as in a loop of them")]
     Aliases,
-    /// There is no way to it, or nothing listens there.
+    /// The server is unreachable, or nothing listens there.
     #[error("cannot be reached")]
     Unreachable,
 }
 
 impl Failure {
-    /// Whether the server may have failed by the record that says how long a datagram of its answer may be.
+    /// Whether the OPT record, which gives the size of the datagrams that the client takes, may be why the server
+    /// failed.
     pub fn is_of_room(self) -> bool
         ensures { result ≡ is_of_room self }
     {
@@ -55,14 +57,14 @@ impl Failure {
     }
 }
 
-/// A name server that failed, and how.
+/// A name server that failed, and how it failed.
 #[derive(Clone, Copy, PartialEq, Eq)]
 pub struct ServerFault {
     pub server: SocketAddr,
     pub failure: Failure,
 }
 
-// The address, with its port where that is not the usual one, and the failure: `192.0.2.1: SERVFAIL`.
+// The address, with its port unless it is 53, and the failure: `192.0.2.1: SERVFAIL`.
 impl fmt::Display for ServerFault {
     fn fmt<W: fmt::Write>(&self, f: &mut fmt::Formatter<W>) -> fmt::Result {
         let (server, failure) = (ShownServer(self.server), self.failure);
@@ -70,7 +72,7 @@ impl fmt::Display for ServerFault {
     }
 }
 
-/// The address of a server, with its port where that is not the usual one.
+/// Prints the address of a server, with its port unless it is 53.
 #[derive(Clone, Copy)]
 pub struct ShownServer(pub SocketAddr);
 

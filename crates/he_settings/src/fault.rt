@@ -6,13 +6,14 @@ ghost use Rattle.he_settings.specs.declared.fault.NamesFault.TheVariants.{Files,
 
 use crate::failure::ServerFault;
 use crate::file_fault::FileFault;
+use he_addr::Memory;
 use he_dns::NameFault;
 use he_names::HostFault;
-use std::alloc::{AllocError, AllocFailed};
+use std::alloc::AllocFailed;
 use std::io;
 use thiserror::Error;
 
-// The numbers that Linux gives to too many open files, of the machine and of the process.
+// Linux's error numbers for too many open files, of the machine and of the process.
 const ENFILE: i32 = 23;
 
 const EMFILE: i32 = 24;
@@ -20,49 +21,49 @@ const EMFILE: i32 = 24;
 /// Why a name has no addresses.
 #[derive(Clone, Copy, Debug, PartialEq, Eq, Error)]
 pub enum NamesFault {
-    /// The text names no host.
+    /// The text is not a host.
     #[error(transparent)]
     Host(HostFault),
-    /// The text is no host name.
+    /// The text is not a host name.
     #[error("not a host name: {0}")]
     Name(NameFault),
-    /// The name exists, and has no address.
+    /// The name exists, but has no address.
     #[error("the name has no address")]
     NoAddress,
-    /// There is no such name (RFC 1035 section 4.1.1, RCODE 3).
+    /// The name does not exist (RFC 1035 section 4.1.1, RCODE 3).
     #[error("no such name")]
     NoSuchName,
-    /// No name server answered in its time.
+    /// No name server answered in time.
     #[error("no name server answers")]
     NoAnswer,
-    /// No name server answered for the name, and this is the first of those that failed.
+    /// No name server answered for the name; the first of those that failed.
     #[error("name server {0}")]
     Server(ServerFault),
-    /// The family is not asked for.
+    /// The family is not queried.
     #[error("not asked for: the option no-aaaa of /etc/resolv.conf or RES_OPTIONS")]
     NotAsked,
-    /// The system's resolver has no address of the name.
+    /// The system's resolver has no address for the name.
     #[error("the system's resolver has no address")]
     System,
-    /// A file of the system that is there can't be read.
+    /// A system file exists but can't be read.
     #[error("{0}")]
     Unreadable(FileFault),
-    /// This machine has no such interface as the name server is to be asked over.
+    /// This machine doesn't have the name server's interface.
     #[error("this machine has no interface as after '%' of the name server: `ip link` lists them")]
     Interface,
-    /// The process or the machine has as many files open as it may.
+    /// The process or the machine has no descriptor left.
     #[error("too many open files")]
     Files,
-    /// The event loop could not be made or failed, or the clock did.
+    /// The event loop could not be made or failed, or the clock failed.
     #[error("cannot run the sockets")]
     Runtime,
-    /// An allocation was refused.
+    /// An allocation failed.
     #[error("out of memory")]
     Memory,
 }
 
 impl NamesFault {
-    /// Whether the host is what the fault is about, so that a line that reports the fault is to name it.
+    /// Whether the fault concerns the host, so that its message must name the host.
     pub fn is_of_host(self) -> bool
         ensures { result ≡ is_of_host self }
     {
@@ -76,21 +77,21 @@ impl NamesFault {
         )
     }
 
-    /// Whether a name server said that there is nothing.
+    /// Whether a name server answered that there is no such name or no address.
     pub fn is_absence(self) -> bool
         ensures { result ≡ is_absence self }
     {
         matches!(self, NamesFault::NoSuchName | NamesFault::NoAddress)
     }
 
-    /// Whether another name server may still tell more.
+    /// Whether another name server may have an answer.
     pub fn is_of_server(self) -> bool
         ensures { result ≡ is_of_server self }
     {
         matches!(self, NamesFault::NoAnswer | NamesFault::Server(_))
     }
 
-    // How early the fault is told where the families differ: that of the lesser number.
+    // The rank of the fault where the families differ: the lowest is reported.
     fn rank(self) -> u8
         ensures { result ≡ rank_of self }
     {
@@ -110,10 +111,10 @@ impl NamesFault {
     }
 }
 
-impl From<AllocError> for NamesFault {
+impl From<Memory> for NamesFault {
     ghost from_gives = { λ _ fault. fault ≡ Memory };
 
-    fn from(_refused: AllocError) -> NamesFault {
+    fn from(_refused: Memory) -> NamesFault {
         NamesFault::Memory
     }
 }
@@ -151,9 +152,9 @@ impl From<io::Error> for NamesFault {
     }
 }
 
-/// Which fault is reported where neither family has an address, of that of IPv6 and that of IPv4: want of memory or of
-/// files first; then that no server answered and that one failed; that there is no such name, and that there is no
-/// address.
+/// The fault to report if neither family has an address: first those of this machine, then those of the host name or
+/// of the system's resolver, then that no server answered, then that one failed, then that the name does not exist,
+/// then that it has no address.
 pub fn first_fault(v6: NamesFault, v4: NamesFault) -> NamesFault
     ensures { result ≡ first_of v6 v4 }
 {

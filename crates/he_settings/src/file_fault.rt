@@ -1,26 +1,26 @@
-//! Why a file of the system can't be read.
+//! Why a system file can't be read.
 
 use std::{fmt, io};
 
-/// A file of the system that can't be read, and why.
+/// A system file that can't be read, and the error.
 #[derive(Clone, Copy, PartialEq, Eq)]
 pub struct FileFault {
     pub file: SystemFile,
     pub error: FileError,
 }
 
-/// A file of the system that is read for a look-up.
+/// A system file that a look-up reads.
 #[derive(Clone, Copy, PartialEq, Eq)]
 pub enum SystemFile {
-    /// The file of hosts.
+    /// The hosts file.
     Hosts,
-    /// The file of resolver settings.
+    /// The resolver configuration.
     Settings,
-    /// The number of an interface.
+    /// The index of an interface.
     Interface,
 }
 
-/// An error of the system, by its kind and its number.
+/// An error of the system, by kind and number.
 #[derive(Clone, Copy, PartialEq, Eq)]
 pub struct FileError {
     kind: io::ErrorKind,
@@ -60,7 +60,7 @@ impl fmt::Display for SystemFile {
     }
 }
 
-// An error of a kind without a name is said in the system's words.
+// An error of a kind without a name is printed in the system's words.
 impl fmt::Display for FileError {
     fn fmt<W: fmt::Write>(&self, f: &mut fmt::Formatter<W>) -> fmt::Result {
         let kind = self.kind;

@@ -1,4 +1,4 @@
-//! The files of the system.
+//! Reads the system files.
 
 ghost use Rattle.std.specs.Prelude.{◌≡◌, IfErr, IfOk};
 ghost use Rattle.he_settings.specs.Scopes.{FindsScope, MayBeScope};
@@ -18,7 +18,7 @@ pub(crate) const HOSTS: &str = "/etc/hosts";
 
 pub(crate) const SETTINGS: &str = "/etc/resolv.conf";
 
-// The bytes of a file; none where there is no such file.
+// The bytes of a file; empty if it doesn't exist.
 pub(crate) fn read_file<R: Files + AllocGlobal>(
     rt: &R,
     alloc: Global,
@@ -37,7 +37,7 @@ pub(crate) fn read_file<R: Files + AllocGlobal>(
     Err(fault_of(file, io::ErrorKind::Interrupted.into()))
 }
 
-// No bytes, where there is no such file; else why it can't be read.
+// No bytes if the file doesn't exist; otherwise why it can't be read.
 fn unread(alloc: Global, file: SystemFile, error: io::Error) -> Result<Vec<u8>, NamesFault>
     ensures { IfErr result (IsOfFile file) }
 {
@@ -60,8 +60,8 @@ fn fault_of(file: SystemFile, error: io::Error) -> NamesFault
     }
 }
 
-/// The number of an interface that a zone names by its number or its name (RFC 4007 section 11), as connect(2) takes
-/// it; None where this machine has none of the name.
+/// The index of the interface that a zone gives by number or name (RFC 4007 section 11), as for connect(2). None if
+/// this machine has no interface of this name.
 ///
 /// # Errors
 ///
@@ -91,12 +91,11 @@ pub fn read_scope<R: Files + AllocGlobal>(
     }
 }
 
-/// The number of the interface that stands with a host's link-local address, as connect(2) takes it; 0 for every other
-/// host.
+/// The index of the interface in a host's link-local address, as for connect(2); 0 for any other host.
 ///
 /// # Errors
 ///
-/// `Host` where the text names no host, or an interface that this machine has not; `Unreadable`, `Files`, `Memory`.
+/// `Host` if the text is not a host or this machine doesn't have its interface; `Unreadable`, `Files`, `Memory`.
 pub fn find_scope<R: Files + AllocGlobal>(
     rt: &R,
     alloc: Global,

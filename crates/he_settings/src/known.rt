@@ -1,4 +1,4 @@
-//! The addresses of a host that are known without asking a name server.
+//! The addresses of a host that are known without a name server.
 
 ghost use Rattle.std.specs.Prelude.{◌≡◌, IfErr, IfOk};
 ghost use Rattle.he_settings.specs.Known.{AreAll, FindsKnown, IsFaultOf, IsKnown, IsKnownTo, IsOfHosts, items_of, known_of, listed, or_here};
@@ -14,16 +14,16 @@ use he_names::{Target, read_host, read_hosts};
 use std::alloc::{AllocGlobal, Global};
 use std::rt::Files;
 
-// The addresses of this machine that every machine has.
+// Every machine's own addresses.
 const LOOPBACK: [Ip; 2] = [Ip::V6(1), Ip::V4(0x7f00_0001)];
 
-/// The addresses of a host that are known without asking: its own, where it is an address or this machine, or those
-/// that the file of hosts has; None where a name server is asked, or the system's resolver, which reads the file
-/// itself. The file is read once, and for a name alone.
+/// The addresses of a host that are known without a name server: its own if it is an address or this machine, or
+/// those in the hosts file. None if a name server must be asked, or the system's resolver, which reads the hosts file
+/// itself. The hosts file is read once, and only for a name.
 ///
 /// # Errors
 ///
-/// `Host` where the text names no host; `Unreadable` and `Files` where the file of hosts can't be read; `Memory`.
+/// `Host` if the text is not a host; `Unreadable` and `Files` if the hosts file can't be read; `Memory`.
 pub fn find_known<R: Files + AllocGlobal>(
     rt: &R,
     alloc: Global,
@@ -37,7 +37,7 @@ pub fn find_known<R: Files + AllocGlobal>(
     known_to(rt, alloc, &target, choice)
 }
 
-/// The addresses of a host that are known without any file; None where it is to be asked for.
+/// The addresses of a host that are known without a file; None if it must be looked up.
 ///
 /// # Errors
 ///
@@ -48,7 +48,7 @@ pub fn known_by_itself(alloc: Global, target: &Target) -> Result<Option<Vec<Ip>>
     Ok(some_of(known_of(alloc, target, &[])?))
 }
 
-// What is known of the host without asking; None where it is to be asked for.
+// The known addresses of the host; None if it must be looked up.
 fn known_to<R: Files + AllocGlobal>(
     rt: &R,
     alloc: Global,
@@ -65,7 +65,7 @@ fn known_to<R: Files + AllocGlobal>(
     Ok(some_of(known_of(alloc, target, &hosts)?))
 }
 
-// The file of hosts, which is read for a name alone.
+// The hosts file, which is read only for a name.
 fn hosts_for<R: Files + AllocGlobal>(
     rt: &R,
     alloc: Global,
@@ -81,14 +81,14 @@ fn hosts_for<R: Files + AllocGlobal>(
     }
 }
 
-// The addresses, where there are any.
+// The addresses, if any.
 fn some_of(known: Vec<Ip>) -> Option<Vec<Ip>>
     ensures { AreAll known.items (items_of result) }
 {
     if known.is_empty() { None } else { Some(known) }
 }
 
-// The addresses of a host that are known by itself and by this file of hosts.
+// The addresses of a host that are known by itself and by the contents of the hosts file.
 fn known_of(alloc: Global, target: &Target, hosts: &[u8]) -> Result<Vec<Ip>, NamesFault>
     ensures known { IfOk result (λ known. known.items ≡ known_of target.now hosts.now) }
     ensures fault { IfErr result (λ fault. fault ≡ Memory) }
@@ -101,7 +101,7 @@ fn known_of(alloc: Global, target: &Target, hosts: &[u8]) -> Result<Vec<Ip>, Nam
     }
 }
 
-// The addresses, or those of this machine where there are none.
+// The addresses or, if there are none, this machine's.
 fn or_here(alloc: Global, known: Vec<Ip>) -> Result<Vec<Ip>, NamesFault>
     ensures known { IfOk result (λ all. all.items ≡ or_here known.items) }
     ensures fault { IfErr result (λ fault. fault ≡ Memory) }

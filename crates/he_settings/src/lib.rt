@@ -1,22 +1,22 @@
-//! What this machine's files say of a host: the addresses that are known without asking, or the names and the name
-//! servers that are to be asked; and why a name has no addresses.
+//! The addresses of a host in this machine's files, or the names and the name servers to query for them; and why a
+//! name has no addresses.
 //!
-//! `he_names` reads what the files hold, this crate the files themselves: /etc/hosts, /etc/resolv.conf, and the numbers
-//! of interfaces in /sys/class/net. Nothing is sent.
+//! `he_names` parses the files; this crate reads them: /etc/hosts, /etc/resolv.conf, and the interface indices in
+//! /sys/class/net. It sends nothing.
 //!
-//! An address is its own answer, and a name that the file of hosts has an address of isn't asked for ([`find_known`]).
-//! Any other is asked for as resolver(5) has it, by the file of settings as LOCALDOMAIN and RES_OPTIONS amend it
-//! ([`plan_for`]): the names in the order that `search` and `ndots` give, of each name server `timeout` times `attempts`
-//! times, over TCP alone with `use-vc`, for IPv4 alone with `no-aaaa`. A name with one label in `local` is asked for
-//! where the search list has a domain in `local`. Not read are the machine's own name, scopes of addresses, and other
-//! modules than files and DNS: for those there is the system's resolver ([`Choice::System`]).
+//! An address is its own answer, and a name with an address in the hosts file is not queried ([`find_known`]). Any
+//! other name is queried as in resolver(5), by resolv.conf with the changes of LOCALDOMAIN and RES_OPTIONS
+//! ([`plan_for`]): the names in the order of `search` and `ndots`, each name server `timeout` times `attempts` times,
+//! over TCP only with `use-vc`, for IPv4 only with `no-aaaa`. A name with one label in `local` is queried if the
+//! search list has a domain in `local`. The machine's own name, address scopes, and other modules than files and DNS
+//! are not supported: those need the system's resolver ([`Choice::System`]).
 //!
-//! Proved, for whatever the files hold: what is known of a host (`specs/Known`), and the address that is meant by one
-//! (`specs/Meant`); the names and the servers of a plan (`specs/Plans`); the interface that a zone names
-//! (`specs/Scopes`); which fault is reported where the families differ, and which faults are of a file, of a server or
-//! of the machine (`specs/Faults`).
+//! Proved, for any contents of the files: the known addresses of a host (`specs/Known`), with unspecified ones
+//! replaced (`specs/Meant`); the names and the servers of a plan (`specs/Plans`); the interface of a zone
+//! (`specs/Scopes`); which fault is reported where the families differ, and which faults are of a file, of a server
+//! or of the machine (`specs/Faults`).
 //!
-//! Only tested: that the files are those of this machine.
+//! Tested only: that the files are this machine's.
 #![tactic(auto)]
 
 pub mod choice;

@@ -1,4 +1,4 @@
-//! The address that is meant by one of a file or of a name server.
+//! The address to connect to for one in a file or an answer.
 
 ghost use Rattle.std.specs.Prelude.{◌≡◌, IfErr, IfOk, false, map};
 ghost use Rattle.he_names.specs.Answers.{IsAnswer, cleaned};
@@ -6,19 +6,18 @@ ghost use Rattle.he_settings.specs.Faults.{is_absence};
 ghost use Rattle.he_settings.specs.Meant.{meant_by};
 
 use crate::fault::NamesFault;
-use he_addr::{Family, Ip};
+use he_addr::{Family, Ip, Memory};
 use he_names::clean_of;
-use std::alloc::{AllocError, Global};
+use std::alloc::Global;
 
-// The addresses that are meant, in their order.
-pub(crate) fn as_meant(alloc: Global, ips: &[Ip]) -> Result<Vec<Ip>, AllocError>
+// The addresses, in order, with unspecified ones replaced.
+pub(crate) fn as_meant(alloc: Global, ips: &[Ip]) -> Result<Vec<Ip>, Memory>
     ensures { IfOk result (λ meant. meant.items ≡ map meant_by ips.now) }
 {
     ips.iter().map(|ip| meant_by(*ip)).collect(alloc)
 }
 
-// The unspecified address means this machine, as connect(2) has it: it can't be a destination (RFC 4291 section
-// 2.5.2).
+// The unspecified address means this machine, as for connect(2): it can't be a destination (RFC 4291 section 2.5.2).
 fn meant_by(ip: Ip) -> Ip
     ensures { result ≡ meant_by ip }
 {
@@ -29,7 +28,7 @@ fn meant_by(ip: Ip) -> Ip
     }
 }
 
-/// The family's addresses that are meant by those of an answer, each once and at most 256.
+/// The family's addresses in an answer, with unspecified ones replaced by loopback: each once, at most 256.
 ///
 /// # Errors
 ///

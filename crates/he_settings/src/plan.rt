@@ -1,4 +1,4 @@
-//! The names that are asked for a host, and the name servers that are asked.
+//! The names to query for a host, and the name servers to ask.
 
 ghost use Rattle.std.specs.Prelude.{◌≡◌, ◌≢◌, IfOk, IfSome, MatchOption, OnOk, Some, codes, map, slice_get, true};
 ghost use Rattle.std.specs.List.{list_any};
@@ -26,8 +26,8 @@ use std::alloc::{AllocGlobal, Global};
 use std::net::{Ipv6Addr, SocketAddr, SocketAddrV6};
 use std::rt::Files;
 
-/// What a resolver asks: the names in their order, until one has an address; the servers in their order, how many times
-/// a query is sent to each, and what the options say of how they are asked.
+/// A resolver's queries: the names in order, until one has an address; the servers in order, the number of sends to
+/// each, and the options.
 #[derive(Drop)]
 pub struct QueryPlan {
     names: Vec<Name>,
@@ -38,40 +38,41 @@ pub struct QueryPlan {
 }
 
 impl QueryPlan {
-    /// The name at this place, where there are so many.
+    /// The name at this place, if there is one.
     pub fn name(&self, place: usize) -> Option<&Name>
         ensures { IfSome result (λ name. slice_get self.now.names.items place ≡ Some name.now) }
     {
         self.names.get(place)
     }
 
-    /// Whether no name is asked for after the one at this place.
+    /// Whether no name comes after the one at this place.
     pub fn is_last(&self, place: usize) -> bool {
         place.saturating_add(1) >= self.names.len()
     }
 
-    /// The server at this place, where there are so many.
+    /// The server at this place, if there is one.
     pub fn server(&self, place: usize) -> Option<SocketAddr>
         ensures { result ≡ slice_get self.now.servers.items place }
     {
         self.servers.get(place).copied()
     }
 
-    /// How many times a query is sent to a server, a second apart. After the last one a second is waited too.
+    /// The number of times a query is sent to a server, one second apart. The client waits a second after the last,
+    /// too.
     pub fn sends(&self) -> u64
         ensures { result ≡ self.now.sends }
     {
         self.sends
     }
 
-    /// Whether the servers are asked over TCP alone.
+    /// Whether the servers are asked over TCP only.
     pub fn uses_tcp(&self) -> bool
         ensures { result ≡ self.now.use_vc }
     {
         self.use_vc
     }
 
-    /// Whether no addresses of IPv6 are asked for.
+    /// Whether IPv6 addresses are not queried.
     pub fn leaves_out_six(&self) -> bool
         ensures { result ≡ self.now.no_aaaa }
     {
@@ -79,13 +80,13 @@ impl QueryPlan {
     }
 }
 
-/// The plan for a host, by the file of resolver settings of this machine as the environment amends it.
+/// The plan for a host, by this machine's resolv.conf with the environment's changes.
 ///
 /// # Errors
 ///
-/// `Host` where multicast DNS finds the name and no domain of the search list is in `local`; `Name` where it is no host
-/// name; `Interface` where this machine has none such as the chosen name server is to be asked over; `Unreadable` and
-/// `Files` where a file of the system is there and can't be read; `Memory`.
+/// `Host` if the name belongs to multicast DNS and no domain of the search list is in `local`; `Name` if it is not a
+/// host name; `Interface` if this machine doesn't have the chosen name server's interface; `Unreadable` and `Files`
+/// if a system file exists but can't be read; `Memory`.
 pub fn plan_for<R: Files + AllocGlobal>(
     rt: &R,
     alloc: Global,
@@ -110,7 +111,7 @@ pub fn plan_for<R: Files + AllocGlobal>(
     }
 }
 
-// Refuses a name of multicast DNS where the search list has no domain in `local`.
+// Refuses a name of multicast DNS unless the search list has a domain in `local`.
 fn check_served(alloc: Global, settings: &[u8]) -> Result<(), NamesFault>
     ensures { OnOk result (list_any is_of_local (search_in settings.now) ≡ true) }
 {
@@ -122,7 +123,7 @@ fn check_served(alloc: Global, settings: &[u8]) -> Result<(), NamesFault>
     }
 }
 
-// What is asked for a host, by a file of resolver settings.
+// The queries for a host, by the contents of resolv.conf.
 fn plan_of<R: Files + AllocGlobal>(
     rt: &R,
     alloc: Global,
@@ -161,7 +162,7 @@ fn servers_of<R: Files + AllocGlobal>(
     }
 }
 
-// Where the servers are asked.
+// The socket addresses of the servers; those without an interface on this machine are left out.
 fn addresses_of<R: Files + AllocGlobal>(
     rt: &R,
     alloc: Global,
@@ -178,7 +179,7 @@ fn addresses_of<R: Files + AllocGlobal>(
     Ok(addresses)
 }
 
-// Where a server is asked; None where this machine has no such interface.
+// The socket address of a server; None if this machine doesn't have its interface.
 fn address_of<R: Files + AllocGlobal>(
     rt: &R,
     alloc: Global,
@@ -200,7 +201,7 @@ fn address_of<R: Files + AllocGlobal>(
     }
 }
 
-// The names that are asked for a host. One that is too long in a domain of the search list is left out.
+// The names to query for a host. One that a domain of the search list makes too long is left out.
 fn names_of(alloc: Global, host: &[u8], settings: &[u8]) -> Result<Vec<Name>, NamesFault>
     ensures { IfOk result (λ names. AreSpelled (names_of host.now (option_in (codes "ndots:") 0 1 15 settings.now)
         (search_in settings.now)) names.items) }
@@ -213,7 +214,7 @@ fn names_of(alloc: Global, host: &[u8], settings: &[u8]) -> Result<Vec<Name>, Na
     spelled(alloc, &texts)
 }
 
-// The names that the texts spell.
+// The names that the texts spell; those that spell none are left out.
 fn spelled(alloc: Global, texts: &[Vec<u8>]) -> Result<Vec<Name>, NamesFault>
     ensures { IfOk result (λ names. AreSpelled (map (λ text. text.items) texts.now) names.items) }
 {
@@ -227,7 +228,7 @@ fn spelled(alloc: Global, texts: &[Vec<u8>]) -> Result<Vec<Name>, NamesFault>
     Ok(names)
 }
 
-// A text that is no name is passed over, and want of memory is not.
+// Passes over a text that is not a name, but not a failed allocation.
 fn pass_over(fault: NameFault) -> Result<(), NamesFault>
     ensures { OnOk result (fault ≢ faults.Memory) }
 {

@@ -1,18 +1,18 @@
-//! The host and the families that a look-up is to find, and how.
+//! The input of a look-up.
 
 use crate::choice::Choice;
 use he_addr::Family;
 use he_names::Environment;
 
-/// What a look-up is to find.
+/// The input of a look-up.
 #[derive(Clone, Copy)]
 pub struct Wanted<'a> {
     /// A name or an address.
     pub host: &'a str,
-    /// The family that is asked for alone; both are where there is none.
+    /// The only family to look up; both if None.
     pub only: Option<Family>,
-    /// Which resolver is asked.
+    /// Which resolver to ask.
     pub choice: Choice<'a>,
-    /// By which the file of resolver settings is amended.
+    /// The environment's changes of resolv.conf.
     pub environment: Environment<'a>,
 }

@@ -1,4 +1,4 @@
--- What the lines of a story say: a race's addresses in order of preference, and its events.
+-- The lines of a story: a race's addresses in order of preference, and its events.
 use Rattle.std.specs.Prelude.{ℕ, ◌+◌, ◌-◌, ◌*◌, ◌^◌, ◌==◌, ◌&&◌, ◌++◌, if◌then◌else◌, Bool, true, false, List, [], ◌∷◌, filter, find, nat_le, nat_lt, option_map, slice_get, Option, Some, None}
 use Rattle.std.specs.List.{flat_map}
 use Rattle.std.specs.Option.{option_map_or}
@@ -31,15 +31,15 @@ use Rattle.he_story.specs.declared.said.Said.{Said}
 use Rattle.he_story.specs.declared.said.Said.TheVariants as says
 use Rattle.he_story.specs.declared.story.Story.{Story}
 
--- what is told so far
+-- the facts of the story so far
 abbrev pub told : {A : Type 0} → Story A → List (Fact Said)
 told story = flat_map fact_of story.parts.items
 
--- what is said, with what stands in its words
+-- a statement, with the facts in its words
 abbrev pub say : Said → List (Fact Said) → List (Fact Said)
 say said stands = facts.Said said ∷ stands
 
--- what an address stands for, by its prefix: 64:ff9b::/96 (RFC 6052), 2002::/16 (RFC 3056), 2001::/32 (RFC 4380)
+-- the block of an address, by its prefix: 64:ff9b::/96 (RFC 6052), 2002::/16 (RFC 3056), 2001::/32 (RFC 4380)
 abbrev pub block_facts : Ip → List (Fact Said)
 block_facts (V4 n) = []
 block_facts (V6 n) =
@@ -48,7 +48,8 @@ block_facts (V6 n) =
     else if agrees 128 n (0x2001 * 2 ^ 112) 32 then say says.Teredo []
     else []
 
--- the source that the host uses for an address, or why it reaches no such address: some route leads to it, or none
+-- the source that the host uses for an address, or why it does not reach it: a route leads to it but it has no
+-- source, or no route does
 abbrev pub reached_facts : Bool → Option LabelledSource → List (Fact Said)
 reached_facts routed (Some labelled) = say says.From (facts.Ip labelled.source.ip ∷ [])
 reached_facts true None = say says.NoSource []
@@ -60,8 +61,8 @@ source_scope attributes = option_map_or (λ source. source.scope) attributes.sou
 abbrev pub source_label : DestinationAttributes → ℕ
 source_label attributes = option_map_or (λ source. source.label) attributes.source 0
 
--- the two values that a rule compares, where it compares two: one of the later address, which may be unknown, and one
--- of its source or of the address before it
+-- the two values that a rule compares, if it compares two: one of the later address, which may be unknown, and one of
+-- its source or of the address before it
 abbrev pub compared : DestinationRule → DestinationAttributes → DestinationAttributes → Option (Option ℕ × ℕ)
 compared rules.MatchingScope earlier later = Some (Some later.scope, source_scope later)
 compared rules.MatchingLabel earlier later = Some (Some later.label, source_label later)
@@ -76,7 +77,7 @@ rule_facts rule None = say (says.Rule rule) []
 rule_facts rule (Some (Some later, other)) = say (says.Rule rule) (facts.Number later ∷ facts.Number other ∷ [])
 rule_facts rule (Some (None, other)) = say says.UnknownTime (facts.Number other ∷ [])
 
--- what puts an address after the one before it
+-- the reason that sorts an address after the one before it
 abbrev pub reason_facts : Option DestinationAttributes → Option DestinationRule → DestinationAttributes → List (Fact Said)
 reason_facts None rule later = []
 reason_facts (Some earlier) None later = []
@@ -89,7 +90,7 @@ address_facts number earlier address =
     ++ (reached_facts address.is_routed address.attributes.source
     ++ reason_facts earlier address.rule address.attributes))
 
--- addresses, the first of them with this number, after the one before it
+-- addresses, the first of them with this number, given the one before it
 abbrev pub address_lines : ℕ → Option DestinationAttributes → List Preferred → List (Fact Said)
 address_lines number earlier [] = []
 address_lines number earlier (first ∷ more) =
@@ -110,12 +111,13 @@ is_short tick _ = false
 abbrev pub short_pauses : List Event → List Event
 short_pauses events = filter (λ event. is_short event.tick event.kind) events
 
--- such a pause up to this tick
+-- such a pause that ends at this tick
 abbrev pub is_short_to : ℕ → ℕ → EventKind → Bool
 is_short_to until tick (kinds.Paused end) = end == until && nat_lt (end - tick) LEAST_PAUSE
 is_short_to until tick _ = false
 
--- how long the client slept up to a tick, where that is too short for a line: what it sees then is so late at most
+-- the time for which the client slept up to a tick, if the pause is too short for a line: an event seen then is late
+-- by at most that
 abbrev pub late_at : List Event → ℕ → Option ℕ
 late_at events until =
     option_map (λ pause. until - pause.tick) (find (λ event. is_short_to until event.tick event.kind) events)
@@ -124,7 +126,7 @@ abbrev pub late_facts : Option ℕ → List (Fact Said)
 late_facts None = []
 late_facts (Some late) = say says.Late (facts.Number late ∷ [])
 
--- why an attempt starts now (RFC 8305 sections 3 and 5, and the floor of our own)
+-- why an attempt starts at its tick (RFC 8305 sections 3 and 5, and the floor of our own)
 abbrev pub cause_facts : Cause → List (Fact Said)
 cause_facts causes.AaaaAnswer = say says.AaaaThere []
 cause_facts causes.BothAnswers = say says.BothThere []
@@ -140,7 +142,7 @@ held_facts false late = []
 held_facts true None = say says.HeldBack []
 held_facts true (Some late) = late_facts (Some late)
 
--- its place in the list of the addresses that are known by now (RFC 8305 section 4)
+-- its place in the list of the addresses known by then (RFC 8305 section 4)
 abbrev pub listed_facts : Listed → List (Fact Said)
 listed_facts listed =
     if listed.count == 1 then say says.OnlyOne []
@@ -155,7 +157,7 @@ start_facts start late =
 abbrev pub taken : List Line → ℕ → ℕ → ℕ
 taken lines place tick = option_map_or (λ line. tick - line.tick) (slice_get lines place) 0
 
--- what became of an attempt, and after which time
+-- the outcome of an attempt, and the time that it took
 abbrev pub became_facts : Said → ℕ → ℕ → Option ℕ → List (Fact Said)
 became_facts said place taken late = say said (facts.Place place ∷ facts.Number taken ∷ []) ++ late_facts late
 
@@ -172,7 +174,7 @@ other_facts family true = []
 other_facts family false = say (says.StillMissing family) []
 
 module _ {A : Type 0} (course : Course A) where
-  -- what the client meets: its pauses, the answers, and the wait for the AAAA answer
+  -- the client's pauses, the answers, and the wait for the AAAA answer
   abbrev pub met_facts : ℕ → Option ℕ → EventKind → List (Fact Said)
   met_facts tick late (kinds.Paused end) = say says.Paused (facts.Number end ∷ [])
   met_facts tick late (kinds.Answered family count) =

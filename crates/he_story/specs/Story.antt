@@ -38,7 +38,7 @@ ended_by winner attempts (results.Limit tick) = say says.LimitReached (facts.Num
 abbrev pub ending_facts : Ended → List (Fact Said)
 ending_facts ended = ended_by ended.winner ended.attempts ended.result
 
--- which race it is, and how it ended
+-- the race, and how it ended
 abbrev pub race_facts : {A : Type 0} → Course A → List (Fact Said)
 race_facts course =
     say says.Race (facts.Number course.number ∷ facts.Number course.line ∷ []) ++ ending_facts course.ended
@@ -59,7 +59,7 @@ abbrev pub had_failed : ℕ → Mark → Bool
 had_failed tick (marks.Failed failed) = nat_le failed tick
 had_failed tick _ = false
 
--- an attempt that had failed when the winner's started, at the tick, or gave no answer by then
+-- an attempt that had failed by the tick at which the winner's started, or gave no answer by then
 abbrev pub stood_facts : ℕ → Line → List (Fact Said)
 stood_facts tick line =
     say (if had_failed tick line.mark then says.HadFailed else says.GaveNoAnswer) (facts.Ip line.ip ∷ [])
@@ -67,7 +67,7 @@ stood_facts tick line =
 abbrev pub more_facts : ℕ → List (Fact Said)
 more_facts count = if count == 0 then [] else say says.More (facts.Number count ∷ [])
 
--- the first attempts, and how many more
+-- the first attempts, and the number of further ones
 abbrev pub between_facts : ℕ → List Line → List (Fact Said)
 between_facts tick lines =
     flat_map (stood_facts tick) (take MAX_NAMED lines) ++ more_facts (length lines - MAX_NAMED)
@@ -99,7 +99,7 @@ sooner_facts None = []
 sooner_facts (Some ended) = say says.WithFloor (facts.Number MIN_FLOOR ∷ []) ++ ending_facts ended
 
 module _ {A : Type 0} (course : Course A) where
-  -- what the race lost, and what stood between the winner's answer and its attempt
+  -- the time that the race lost, and the attempts between the winner's answer and the winner's start
   abbrev pub lost_facts : Line → ℕ → List (Fact Said)
   lost_facts winner lost =
       say says.Lost (facts.Number lost ∷ [])
@@ -113,7 +113,7 @@ module _ {A : Type 0} (course : Course A) where
   abbrev pub verdict_facts : List (Fact Said)
   verdict_facts = verdict_by course.ended.winner (lost course)
 
-  -- which race it is, how it ended, and what it lost
+  -- the race, how it ended, and the time that it lost
   abbrev pub heading_facts : List (Fact Said)
   heading_facts =
       say says.Race (facts.Number course.number ∷ facts.Number course.line ∷ [])
@@ -133,6 +133,6 @@ module _ {A : Type 0} (course : Course A) where
       ++ (preferred_facts course.addresses.items
       ++ (happening_facts course ++ (closing_facts ++ (sooner_facts course.sooner ++ say says.End []))))
 
-  -- a text has been appended that states these facts
+  -- a text that states these facts has been appended
   abbrev pub Tells : List ℕ → List ℕ → Type 0
   Tells old new = (text : List ℕ) × States story_facts text × (new ≡ old ++ text)

@@ -1,5 +1,5 @@
-// The last lines of a story: answers that the race did not have, how long an answer waited for an attempt, and what a
-// floor would have changed.
+// The last lines of a story: missing answers, how long an answer waited for an attempt, and how the race would have
+// ended with a floor.
 
 ghost use Rattle.std.specs.Prelude.{◌≡◌, ◌++◌, OnOk};
 ghost use Rattle.he_story.specs.Lines.{told};
@@ -86,7 +86,7 @@ impl<A: Allocator> Story<A> {
         self.tell_answer(course, Family::V4)
     }
 
-    // How the race would have ended with the least floor, where that is sooner.
+    // How the race would have ended with the least floor, if that is sooner.
     pub(crate) fn tell_sooner(&mut self, sooner: Option<Ended>) -> Result<(), Memory>
         ensures { OnOk result (told self.new ≡ told self.old ++ sooner_facts sooner) }
     {

@@ -1,4 +1,4 @@
-// The course of a race: its events, a line each.
+// The course of a race: its events, one a line.
 
 ghost use Rattle.std.specs.Prelude.{◌≡◌, ◌++◌, IfOk, OnOk};
 ghost use Rattle.std.specs.List.{flat_map};
@@ -12,9 +12,9 @@ use he_addr::{Family, Memory};
 use he_course::{Cause, Course, Event, EventKind, Listed, Seen, Start};
 use he_plan::Line;
 use he_print::Part;
-use std::alloc::{AllocError, Allocator};
+use std::alloc::Allocator;
 
-/// A pause of fewer milliseconds is no line of a story.
+/// The shortest pause, in milliseconds, that has a line in a story.
 pub const LEAST_PAUSE: u64 = 5;
 
 // Whether it is a pause that is too short for a line.
@@ -27,7 +27,7 @@ fn is_short(event: &Event) -> bool
     }
 }
 
-// Whether it is such a pause up to this tick.
+// Whether it is such a pause and ends at this tick.
 fn is_short_to(until: u64, event: &Event) -> bool
     ensures { result ≡ is_short_to until event.now.tick event.now.kind }
 {
@@ -37,8 +37,8 @@ fn is_short_to(until: u64, event: &Event) -> bool
     }
 }
 
-// The pauses that are too short for a line. They are few, and lines ask for them.
-fn short_pauses<A: Allocator>(alloc: A, events: &[Event]) -> Result<Vec<Event, A>, AllocError>
+// The pauses that are too short for a line. They are few, and most lines look through them.
+fn short_pauses<A: Allocator>(alloc: A, events: &[Event]) -> Result<Vec<Event, A>, Memory>
     ensures { IfOk result (λ pauses. pauses.items ≡ short_pauses events.now) }
 {
     events
@@ -48,7 +48,7 @@ fn short_pauses<A: Allocator>(alloc: A, events: &[Event]) -> Result<Vec<Event, A
         .collect(alloc)
 }
 
-// How long the client slept up to a tick, where that is too short for a line.
+// The milliseconds for which the client slept up to a tick, if that pause is too short for a line.
 fn late_at(pauses: &[Event], until: u64) -> Option<u64>
     ensures { result ≡ late_at pauses.now until }
 {
@@ -94,7 +94,7 @@ impl<A: Allocator> Story<A> {
         }
     }
 
-    // Why an attempt starts now.
+    // Why an attempt starts at its tick.
     fn tell_cause(&mut self, cause: Cause) -> Result<(), Memory>
         ensures { OnOk result (told self.new ≡ told self.old ++ cause_facts cause) }
     {
@@ -116,7 +116,7 @@ impl<A: Allocator> Story<A> {
         }
     }
 
-    // Whether a pause held the attempt back, and for how long where that pause has no line.
+    // Whether a pause held the attempt back, and for how long if the pause has no line.
     fn tell_held(&mut self, held: bool, pauses: &[Event], tick: u64) -> Result<(), Memory>
         ensures { OnOk result (told self.new ≡ told self.old ++ held_facts held (late_at pauses.now tick)) }
     {
@@ -129,7 +129,7 @@ impl<A: Allocator> Story<A> {
         }
     }
 
-    // The place of an attempt's address in the list of those that are known.
+    // The place of an attempt's address in the list of the known addresses.
     fn tell_listed(&mut self, listed: Listed, family: Family) -> Result<(), Memory>
         ensures { OnOk result (told self.new ≡ told self.old ++ listed_facts listed) }
     {
@@ -151,7 +151,7 @@ impl<A: Allocator> Story<A> {
         self.tell_listed(start.listed, start.ip.family())
     }
 
-    // What became of an attempt, and after which time.
+    // The outcome of an attempt, and the time that it took.
     fn tell_became(
         &mut self,
         said: Said,
@@ -165,7 +165,7 @@ impl<A: Allocator> Story<A> {
         self.tell_late(late)
     }
 
-    // The answer of the family, where it is still to come.
+    // The answer of the family, if it is still to come.
     fn tell_other(&mut self, family: Family, is_seen: bool) -> Result<(), Memory>
         ensures { OnOk result (told self.new ≡ told self.old ++ other_facts family is_seen) }
     {
@@ -175,7 +175,7 @@ impl<A: Allocator> Story<A> {
         self.tell(Said::StillMissing(family), &[Part::Words(name_of(family))])
     }
 
-    // What the client meets: its pauses, the answers, and the wait for the AAAA answer.
+    // The client's pauses, the answers, and the wait for the AAAA answer.
     fn tell_met<B: Allocator>(
         &mut self,
         course: &Course<B>,
@@ -237,7 +237,7 @@ impl<A: Allocator> Story<A> {
         }
     }
 
-    // The pauses are the short ones of the course.
+    // `pauses` are the short ones of the course.
     fn tell_event<B: Allocator>(
         &mut self,
         course: &Course<B>,

@@ -1,4 +1,4 @@
-// The first line of a story: which race it is, how it ended, and what it lost.
+// The first line of a story: the race, how it ended, and how much time it lost.
 
 ghost use Rattle.std.specs.Prelude.{◌≡◌, ◌++◌, IfOk, OnOk};
 ghost use Rattle.std.specs.List.{flat_map};
@@ -35,7 +35,7 @@ impl<A: Allocator> Story<A> {
         }
     }
 
-    // Which race it is, after a gap, and how it ended.
+    // The race, after a gap, and how it ended.
     fn tell_race<B: Allocator>(
         &mut self,
         gap: &'static [u8],
@@ -51,7 +51,7 @@ impl<A: Allocator> Story<A> {
         self.tell_ending(course.ended)
     }
 
-    // After a blank line where it is not the first race.
+    // A blank line comes first, unless it is the first race.
     pub(crate) fn tell_heading<B: Allocator>(&mut self, course: &Course<B>) -> Result<(), Memory>
         ensures { OnOk result (told self.new ≡ told self.old ++ heading_facts course.now) }
     {
@@ -60,11 +60,11 @@ impl<A: Allocator> Story<A> {
     }
 }
 
-/// Which race it is and how it ended, in the words of a story, for other printers.
+/// The race and how it ended, in the words of a story, for other printers.
 ///
 /// # Errors
 ///
-/// `Memory` where an allocation was refused.
+/// `Memory` if an allocation was refused.
 pub fn heading_parts<A: Allocator, B: Allocator>(
     alloc: A,
     course: &Course<B>,

@@ -1,4 +1,4 @@
-// A race's addresses in order of preference, each with what puts it after the one before.
+// A race's addresses in order of preference, each with the reason that sorts it after the one before.
 
 ghost use Rattle.std.specs.Prelude.{◌≡◌, ◌++◌, None, OnOk};
 ghost use Rattle.he_story.specs.Lines.{address_facts, address_lines, block_facts, compared, preferred_facts, reached_facts, reason_facts, rule_facts, source_label, source_scope, title_facts, told};
@@ -12,10 +12,10 @@ use he_select::{DestinationAttributes, DestinationRule};
 use itoa::Buffer;
 use std::alloc::Allocator;
 
-// How many columns lines stand in.
+// The columns by which lines are indented.
 const INDENT: usize = 2;
 
-// How wide the numbers of lines are up to this one.
+// The width of the line numbers up to this one, with the indent.
 pub(crate) fn width_of(last: u64) -> usize {
     let mut digits = Buffer::new();
     digits.format(last).len().saturating_add(INDENT)
@@ -33,7 +33,7 @@ fn source_label(attributes: &DestinationAttributes) -> u16
     attributes.source.map_or(0, |source| source.label)
 }
 
-// The two values that the rule compares, where it compares two. The first one may be unknown.
+// The two values that the rule compares, if it compares two. The first one may be unknown.
 fn compared(
     rule: DestinationRule,
     earlier: &DestinationAttributes,
@@ -62,7 +62,7 @@ fn compared(
 }
 
 impl<A: Allocator> Story<A> {
-    // What the address stands for, by its prefix.
+    // The address block that the prefix of the address belongs to.
     fn tell_block(&mut self, ip: Ip) -> Result<(), Memory>
         ensures { OnOk result (told self.new ≡ told self.old ++ block_facts ip) }
     {
@@ -74,7 +74,7 @@ impl<A: Allocator> Story<A> {
         }
     }
 
-    // From which source, or why the host does not reach the address.
+    // The source, or why the host does not reach the address.
     fn tell_reached(&mut self, address: &Preferred) -> Result<(), Memory>
         ensures { OnOk result (told self.new ≡ told self.old ++ reached_facts address.now.is_routed
             address.now.attributes.source) }
@@ -105,7 +105,7 @@ impl<A: Allocator> Story<A> {
         }
     }
 
-    // What puts the address after the one before it.
+    // The reason that sorts the address after the one before it.
     fn tell_reason(
         &mut self,
         earlier: Option<DestinationAttributes>,
@@ -151,7 +151,7 @@ impl<A: Allocator> Story<A> {
         Ok(())
     }
 
-    // What stands above the addresses.
+    // The line above the addresses.
     fn tell_title(&mut self, addresses: &[Preferred]) -> Result<(), Memory>
         ensures { OnOk result (told self.new ≡ told self.old ++ title_facts addresses.now) }
     {

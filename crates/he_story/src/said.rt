@@ -1,18 +1,18 @@
-// What the words of a story say.
+// The statements of a story.
 
 use he_addr::Family;
 use he_course::Turn;
 use he_select::DestinationRule;
 
-/// What words of a story say. The numbers, places and addresses that stand in them are facts of their own.
+/// A statement of a story. The numbers, places and addresses in its words are facts of their own.
 #[derive(Clone, Copy, Debug, PartialEq, Eq)]
 pub enum Said {
-    // Which race it is, and how it ended.
+    // The race, and how it ended.
     Race,
     Connected,
     NothingLeft,
     LimitReached,
-    // What it lost.
+    // The time that it lost.
     NothingLost,
     Lost,
     WaitForAaaa,
@@ -47,7 +47,7 @@ pub enum Said {
     Cancelled,
     Exhausted,
     Limit,
-    // Why an attempt starts, and which address it has.
+    // Why an attempt starts, and its address.
     AaaaThere,
     BothThere,
     WaitIsOver,
@@ -58,7 +58,7 @@ pub enum Said {
     HeldBack,
     OnlyOne,
     Turn(Turn),
-    // What had to wait, and what a floor would have changed.
+    // Waits, and how the race would have ended with a floor.
     NoAnswer(Family),
     AfterEnd(Family),
     Untried(Family),

@@ -14,19 +14,19 @@ use he_course::Course;
 use he_print::{Part, push_parts, write_parts};
 use std::alloc::Allocator;
 
-// Room for the parts of most stories: those of a line, and those of the other lines.
+// Room for the parts of most stories: per line, and for the other lines.
 const PARTS_PER_LINE: usize = 24;
 
 const OTHER_PARTS: usize = 64;
 
-// What is told so far.
+// The story so far.
 #[derive(Drop)]
 pub(crate) struct Story<A: Allocator> {
     pub(crate) parts: Vec<Part<Said>, A>,
 }
 
 impl<A: Allocator> Story<A> {
-    // Tells something, with the parts that stand in its words.
+    // Appends a statement, with the parts that its words enclose.
     pub(crate) fn tell(&mut self, said: Said, parts: &[Part<Said>]) -> Result<(), Memory>
         ensures { OnOk result (told self.new ≡ told self.old ++ (facts.Said said ∷ flat_map fact_of parts.now)) }
     {
@@ -51,14 +51,15 @@ impl<A: Allocator> Story<A> {
     }
 }
 
-/// Appends the story of a course to `out`: a line on how the race ended and what it lost; its usable addresses in
-/// order of preference, each with its source and what puts it after the one before; its events in order of ticks,
-/// each after its tick in milliseconds; then the answers that did not come, or came after the end, how long an answer
-/// waited for the first attempt at one of its addresses, and how the race would have ended with a floor, if earlier.
+/// Appends the story of a course to `out`: a line on how the race ended and how much time it lost; its usable
+/// addresses in order of preference, each with its source and the reason that sorts it after the one before; its
+/// events in order of ticks, each after its tick in milliseconds; then the answers that did not come, or came after
+/// the end, how long an answer waited for the first attempt at one of its addresses, and how the race would have
+/// ended with a floor, if earlier.
 ///
 /// # Errors
 ///
-/// `Memory` where an allocation was refused. The vector is as it was then.
+/// `Memory` if an allocation was refused. The vector is then unchanged.
 pub fn write_story<A: Allocator + Copy, B: Allocator>(
     alloc: A,
     course: &Course<B>,
@@ -74,5 +75,5 @@ pub fn write_story<A: Allocator + Copy, B: Allocator>(
     story.tell_all(alloc, course)?;
     let mut text = Vec::new(alloc);
     write_parts(&story.parts, &mut text)?;
-    out.extend_from_slice(&text).map_err(|_| Memory)
+    out.extend_from_slice(&text)
 }

@@ -1,4 +1,4 @@
-// What a race lost that was won, and what stood between.
+// The time that a won race lost, and why.
 
 ghost use Rattle.std.specs.Prelude.{◌≡◌, ◌++◌, OnOk};
 ghost use Rattle.std.specs.List.{flat_map, list_any};
@@ -13,7 +13,7 @@ use he_plan::{Line, Mark};
 use he_print::Part;
 use std::alloc::Allocator;
 
-/// No more attempts are named that stood between.
+/// The most attempts that are named as reasons.
 pub const MAX_NAMED: usize = 3;
 
 fn is_wait(event: &Event) -> bool
@@ -62,7 +62,7 @@ impl<A: Allocator> Story<A> {
         }
     }
 
-    // An attempt before that of the winner, which started at the tick.
+    // An attempt before the winner's, which started at the tick.
     fn tell_stood(&mut self, comma: &'static [u8], tick: u64, line: Line) -> Result<(), Memory>
         ensures { OnOk result (told self.new ≡ told self.old ++ stood_facts tick line) }
     {
@@ -92,7 +92,7 @@ impl<A: Allocator> Story<A> {
         self.tell(Said::More, &[Part::Number(count as u64)])
     }
 
-    // The attempts before that of the winner, which started at the tick.
+    // The attempts before the winner's, which started at the tick.
     fn tell_between(&mut self, waited: bool, tick: u64, lines: &[Line]) -> Result<(), Memory>
         ensures { OnOk result (told self.new ≡ told self.old ++ between_facts tick lines.now) }
     {

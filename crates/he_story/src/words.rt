@@ -5,7 +5,7 @@ use he_addr::Family;
 use he_course::Turn;
 use he_select::DestinationRule;
 
-/// Words, in pieces: what stands in them stands between the pieces, in its order.
+/// Words, in pieces: a part of the statement comes between each two pieces, in order.
 pub(crate) type Pieces = &'static [&'static [u8]];
 
 pub(crate) fn words_of(said: Said) -> Pieces {
@@ -90,7 +90,7 @@ pub(crate) fn words_of(said: Said) -> Pieces {
     }
 }
 
-// The later address has the first of the two values, where there are two.
+// The first of the two values, if there are two, belongs to the later address.
 fn rule_words(rule: DestinationRule) -> Pieces {
     match rule {
         DestinationRule::AvoidUnusable => &[b"; the one before is reachable (RFC 6724 rule 1)"],
@@ -145,7 +145,7 @@ pub(crate) fn name_of(family: Family) -> &'static [u8] {
     }
 }
 
-// The word for one, or for another number.
+// The word for one, or the word for another number.
 pub(crate) fn noun(count: usize, one: &'static [u8], many: &'static [u8]) -> &'static [u8] {
     if count == 1 { one } else { many }
 }

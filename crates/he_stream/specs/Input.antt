@@ -9,21 +9,21 @@ use Rattle.he_stream.specs.declared.fault.ReadFault.TheVariants as faults
 use Rattle.he_stream.specs.Limits.{most_reads}
 use Rattle.he_stream.specs.Runs.{EndsWith, RunsOut, Stops}
 
--- an answer after which another step is made
+-- a result after which another step is taken
 abbrev pub TakesOn : Taken → Type 0
 TakesOn (taken.Bytes count) = ⊤
 TakesOn taken.Interrupted = ⊤
 TakesOn taken.End = ⊥
 TakesOn taken.Failed = ⊥
 
--- `Ok` only at the end, `Failed` only where a step failed, `Bound` only after so many steps
+-- `Ok` only at the end, `Failed` only after a failed step, `Bound` only after the maximum number of steps
 abbrev pub ReadsTo : {S : Type 0} → (S → Taken → S → Type 0) → S → S → Result (Unit {0}) ReadFault → Type 0
 ReadsTo takes first last (Ok done) = EndsWith takes TakesOn most_reads taken.End first last
 ReadsTo takes first last (Err faults.Failed) = EndsWith takes TakesOn most_reads taken.Failed first last
 ReadsTo takes first last (Err faults.Bound) = RunsOut takes TakesOn most_reads first last
 ReadsTo takes first last (Err faults.Memory) = Stops takes TakesOn most_reads first last
 
--- the input ended, or it broke off: a step failed, or the bound of steps was reached
+-- the input ended, or it broke off: a step failed, or the maximum number of steps was reached
 abbrev pub EndsBroken : {S : Type 0} → (S → Taken → S → Type 0) → S → S → Bool → Type 0
 EndsBroken takes first last false = EndsWith takes TakesOn most_reads taken.End first last
 EndsBroken takes first last true =

@@ -1,13 +1,13 @@
--- How many steps one call makes at most, and how many bytes one step may give.
+-- The maximum number of steps in one call, and of bytes in one step.
 use Rattle.std.specs.Prelude.{ℕ}
 
 abbrev pub most_reads : ℕ
 most_reads = 4294967296
 
--- of steps that put bytes in, and of tries of one flush
+-- for steps that put bytes in, and for tries of one flush
 abbrev pub most_writes : ℕ
 most_writes = 4294967296
 
--- the most bytes for which room is made before a read
+-- the maximum room for a read, in bytes
 abbrev pub read_size : ℕ
 read_size = 4194304

@@ -1,37 +1,37 @@
-//! What one step of a stream answers.
+//! The results of one step of a stream.
 
-/// What a step answers that takes bytes from an input.
+/// The result of a step that takes bytes from an input.
 #[derive(Clone, Copy, Debug, PartialEq, Eq)]
 pub enum Taken {
-    /// So many bytes stand at the front of the buffer, at least one.
+    /// This number of bytes, at least one, is at the front of the buffer.
     Bytes(usize),
-    /// Nothing is left.
+    /// The input has ended.
     End,
-    /// The step was interrupted, and is to be tried again.
+    /// The step was interrupted; try it again.
     Interrupted,
     /// The step failed.
     Failed,
 }
 
-/// What a step answers that puts bytes into an output.
+/// The result of a step that puts bytes into an output.
 #[derive(Clone, Copy, Debug, PartialEq, Eq)]
 pub enum Put {
-    /// So many bytes at the front of the text were taken, at least one.
+    /// This number of bytes, at least one, was taken from the front of the text.
     Bytes(usize),
-    /// None was taken.
+    /// No byte was taken.
     Full,
-    /// The step was interrupted, and is to be tried again.
+    /// The step was interrupted; try it again.
     Interrupted,
     /// The step failed.
     Failed,
 }
 
-/// What a flush of an output answers.
+/// The result of a flush of an output.
 #[derive(Clone, Copy, Debug, PartialEq, Eq)]
 pub enum Flushed {
-    /// What the output holds was passed on.
+    /// The output's bytes were passed on.
     Done,
-    /// The flush was interrupted, and is to be tried again.
+    /// The flush was interrupted; try it again.
     Interrupted,
     /// The flush failed.
     Failed,

@@ -1,20 +1,20 @@
-//! Why an input could not be read or an output not be written.
+//! Why an input could not be read or an output could not be written.
 ghost use Rattle.he_stream.specs.declared.fault.ReadFault.TheVariants.{Memory};
 ghost use Rattle.std.specs.Prelude.{◌≡◌};
 
 use std::alloc::AllocError;
 use thiserror::Error;
 
-/// Why an input could not be read whole.
+/// Why an input could not be read to its end.
 #[derive(Clone, Copy, Debug, PartialEq, Eq, Error)]
 pub enum ReadFault {
     /// A step failed.
     #[error("cannot read the input")]
     Failed,
-    /// The bound of steps was reached.
+    /// The maximum number of steps was reached.
     #[error("cannot read the input")]
     Bound,
-    /// An allocation was refused.
+    /// An allocation failed.
     #[error("out of memory")]
     Memory,
 }
@@ -27,7 +27,7 @@ impl From<AllocError> for ReadFault {
     }
 }
 
-/// A write or a flush failed, a write took no byte, or the bound of writes was reached.
+/// A write or a flush failed, a write took no byte, or the maximum number of writes was reached.
 #[derive(Clone, Copy, Debug, PartialEq, Eq, Error)]
 #[error("cannot write the output")]
 pub struct WriteFault;

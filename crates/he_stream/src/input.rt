@@ -1,4 +1,4 @@
-//! Reading an input to its end.
+//! Reads an input to its end.
 ghost use Rattle.std.specs.Prelude.{◌≡◌, ◌+◌, ◌<◌, ◌≤◌, IfOk, OnOk, length, take, drop, vec_len};
 ghost use Rattle.std.specs.Io.{StartsWith, appended_bytes};
 ghost use Rattle.std.specs.Io.KnownBytes.{Consumes, IsAtEnd};
@@ -13,27 +13,26 @@ use crate::limits::{INPUT_ROOM, MOST_READS};
 use crate::stream::InputStream;
 use std::alloc::{AllocError, Allocator, Global};
 
-/// Reads the input to its end and appends what it gives to `bytes`.
+/// Reads the input to its end and appends its bytes to `bytes`.
 ///
-/// After a fault `bytes` has gained what was read before it: no byte that was taken from the input
-/// is lost, after `Memory` too.
+/// On a fault `bytes` has gained all bytes read before it: no byte taken from the input is lost, even on `Memory`.
 ///
 /// # Errors
 ///
-/// - `Failed` where a step failed.
-/// - `Bound` where 4,294,967,296 steps did not reach the end. A step that was interrupted is tried again, and counts.
-/// - `Memory` where an allocation was refused.
+/// - `Failed` if a step failed.
+/// - `Bound` if 4,294,967,296 steps did not reach the end. An interrupted step is tried again, and counts.
+/// - `Memory` if an allocation failed.
 pub fn read_input<S: InputStream, A: Allocator>(
     input: &mut S,
     bytes: &mut Vec<u8, A>,
 ) -> Result<(), ReadFault>
-    // What stood in the vector stays, and what came after it was taken from the input.
+    // The old bytes are kept, and the new ones were taken from the input.
     ensures stays { StartsWith bytes.new.items bytes.old.items }
     ensures taken { Consumes (S.remaining input.old) (S.remaining input.new)
         (appended_bytes bytes.old.items bytes.new.items) }
     ensures whole { OnOk result (IsAtEnd (S.remaining input.new)) }
 
-    // Which steps were made of the input, and which of them was the last.
+    // The steps taken, and the last one's result.
     ensures told { ReadsTo S.takes input.old input.new result }
 {
     let (filled, result) = fill(input, bytes);
@@ -41,21 +40,21 @@ pub fn read_input<S: InputStream, A: Allocator>(
     result
 }
 
-/// What an input gave.
+/// The bytes of an input.
 #[derive(Drop)]
 pub struct WholeInput<A: Allocator = Global> {
     /// All of its bytes.
     pub bytes: Vec<u8, A>,
-    /// Whether it broke off after them.
+    /// Whether the input broke off after them.
     pub is_broken: bool,
 }
 
-/// Reads all that the input gives, to its end or to where it breaks off: a step failed, or 4,294,967,296 steps did not
+/// Reads the input to its end or to the point where it breaks off: a step failed, or 4,294,967,296 steps did not
 /// reach the end.
 ///
 /// # Errors
 ///
-/// `AllocError` where an allocation was refused.
+/// `AllocError` if an allocation failed.
 pub fn take_input<S: InputStream, A: Allocator>(
     alloc: A,
     input: &mut S,
@@ -76,8 +75,8 @@ pub fn take_input<S: InputStream, A: Allocator>(
     }
 }
 
-// Reads to the end in place, and returns how many bytes of the vector are filled. What stands after
-// them is room for the next step.
+// Reads to the end in place, and returns the number of bytes of the vector that are filled. The bytes after them are
+// room for the next step.
 fn fill<S: InputStream, A: Allocator>(
     input: &mut S,
     bytes: &mut Vec<u8, A>,
@@ -105,15 +104,15 @@ fn fill<S: InputStream, A: Allocator>(
     (filled, Err(ReadFault::Bound))
 }
 
-/// One step of the input, into the room after the first `filled` bytes of the vector, which stay.
+/// Takes one step of the input, into the room after the first `filled` bytes of the vector, which are kept.
 ///
-/// So many bytes of room are made before the step, so that a refused allocation loses no byte of the input: 1 to
-/// [`READ_SIZE`](crate::limits::READ_SIZE). After `Bytes(count)` the next `count` bytes of the vector are those that
-/// were taken; what stands after them is room that the next step uses again.
+/// It makes `room` bytes of room before the step, 1 to [`READ_SIZE`](crate::limits::READ_SIZE), so that a failed
+/// allocation loses no byte of the input. After `Bytes(count)` the next `count` bytes of the vector are those taken;
+/// the bytes after them are room that the next step reuses.
 ///
 /// # Errors
 ///
-/// `AllocError` where an allocation was refused. The input is then as it was.
+/// `AllocError` if an allocation failed. The input is then unchanged.
 pub fn take_piece<S: InputStream, A: Allocator>(
     input: &mut S,
     bytes: &mut Vec<u8, A>,
@@ -133,7 +132,7 @@ pub fn take_piece<S: InputStream, A: Allocator>(
     Ok(take_at(input, bytes.as_mut_slice(), filled, room))
 }
 
-// One step into so many bytes of the slice from `at` on.
+// Takes one step into `room` bytes of the slice, from `at` on.
 fn take_at<S: InputStream>(input: &mut S, bytes: &mut [u8], at: usize, room: usize) -> Taken
     requires { at + room ≤ length bytes.old }
     ensures same { length bytes.new ≡ length bytes.old }
@@ -144,8 +143,7 @@ fn take_at<S: InputStream>(input: &mut S, bytes: &mut [u8], at: usize, room: usi
     input.take(&mut bytes[at..at + room])
 }
 
-// Makes the vector longer than `filled` by the room for a step, with zeros. Room that an earlier step left stays as it
-// is.
+// Extends the vector with zeros to `room` bytes past `filled`. Room that an earlier step left is kept.
 fn make_room<A: Allocator>(
     bytes: &mut Vec<u8, A>,
     filled: usize,

@@ -1,17 +1,18 @@
-//! Reading an input whole and writing an output, step by step, over any reader and any writer.
+//! Reads a whole input and writes an output, step by step, over any reader and any writer.
 //!
-//! [`FromReader`] makes an [`InputStream`] of any reader and [`ToWriter`] an [`OutputStream`] of any writer. A step of
-//! these reports what was given or taken, the end, an interruption, or that it failed. Each call returns: it makes a
-//! bounded number of steps. A step that was interrupted is tried again and counts towards that bound. [`take_piece`]
-//! is one such step, for callers that use what was taken before they take more.
+//! [`FromReader`] makes an [`InputStream`] of any reader, and [`ToWriter`] an [`OutputStream`] of any writer. Each of
+//! their steps reports the bytes given or taken, the end, an interruption, or a failure. Each call terminates: it
+//! takes a bounded number of steps. An interrupted step is tried again and counts towards that bound. [`take_piece`]
+//! is one such step, for callers that use the bytes before they take more.
 //!
-//! Proved for every such stream: a fault is answered only after a step that failed, a step that took no byte, or at
-//! the bound of steps, and `Ok` only at the input's end, after the whole text, or after a flush that was done
-//! (`specs/Runs`, `specs/Input`, `specs/Output`). Where a stream states the bytes that it has left, or holds: what a
-//! call added to the vector is what it took from the input, also after a fault; at `Ok` the input is at its end. What
-//! a call wrote is the text at `Ok`, and a first part of it after a fault. A flush writes nothing of its own.
+//! Proved for every such stream: a fault is returned only after a step that failed, a step that took no byte, or at
+//! the bound of steps; `Ok` only at the input's end, after the whole text, or after a completed flush (`specs/Runs`,
+//! `specs/Input`, `specs/Output`). If a stream states the bytes that it has left, or holds: the bytes that a call
+//! added to the vector are those that it took from the input, even on a fault; on `Ok` the input is at its end. The
+//! bytes that a call wrote are the text on `Ok`, and a beginning of it on a fault. A flush writes no bytes of its
+//! own.
 //!
-//! Only tested: that a step of [`FromReader`] and [`ToWriter`] answers what the reader or writer answered.
+//! Only tested: that a step of [`FromReader`] and [`ToWriter`] returns the result of the reader or writer.
 #![tactic(auto)]
 
 pub mod answer;

@@ -1,4 +1,4 @@
-//! Writing an output.
+//! Writes an output.
 ghost use Rattle.std.specs.Prelude.{OnErr, OnOk};
 ghost use Rattle.std.specs.Io.KnownBytes.{Appends, Keeps};
 ghost use Rattle.he_stream.specs.Output.{AppendsPart, PutsAll, FailsToPut, Flushes, PutsWhole, PutsPart};
@@ -8,18 +8,17 @@ use crate::fault::WriteFault;
 use crate::limits::MOST_WRITES;
 use crate::stream::OutputStream;
 
-/// Writes all of `text`. Nothing is flushed.
+/// Writes all of `text`, without a flush.
 ///
 /// # Errors
 ///
-/// `WriteFault` where a step failed or took no byte, or where 4,294,967,296 steps did not take all.
-/// A step that was interrupted is tried again, and counts. A first part of the text may then
-/// have been written.
+/// `WriteFault` if a step failed or took no byte, or if 4,294,967,296 steps did not take all. An interrupted step is
+/// tried again, and counts. A beginning of the text may then have been written.
 pub fn write_output<S: OutputStream>(output: &mut S, text: &[u8]) -> Result<(), WriteFault>
     ensures ok { OnOk result (Appends (S.contents output.old) (S.contents output.new) text.now) }
     ensures err { OnErr result (AppendsPart (S.contents output.old) (S.contents output.new) text.now) }
 
-    // Which steps were made of the output, and which of them was the last.
+    // The steps taken, and the last one's result.
     ensures done { OnOk result (PutsAll S.puts output.old output.new) }
     ensures fault { OnErr result (FailsToPut S.puts output.old output.new) }
 {
@@ -55,16 +54,15 @@ pub fn write_whole<S: OutputStream>(output: &mut S, text: &[u8]) -> Result<(), W
     finish_output(output)
 }
 
-/// Flushes the output. What it holds stays.
+/// Flushes the output.
 ///
 /// # Errors
 ///
-/// `WriteFault` where the flush failed. A flush that was interrupted is tried again, at most
-/// 4,294,967,296 times.
+/// `WriteFault` if the flush failed. An interrupted flush is tried again, at most 4,294,967,296 times.
 pub fn finish_output<S: OutputStream>(output: &mut S) -> Result<(), WriteFault>
     ensures bytes { Keeps (S.contents output.old) (S.contents output.new) }
 
-    // Which flushes were made of the output, and which of them was the last.
+    // The flushes tried, and the last one's result.
     ensures told { Flushes S.flushes output.old output.new result }
 {
     for _steps in 0..MOST_WRITES {

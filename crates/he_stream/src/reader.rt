@@ -6,7 +6,7 @@ use crate::answer::Taken;
 use crate::stream::InputStream;
 use std::io::{Error, ErrorKind, Read};
 
-/// A reader, and why its last read that failed did.
+/// A reader, and the error of its last failed read.
 #[derive(Drop)]
 pub struct FromReader<R> {
     reader: R,
@@ -14,7 +14,7 @@ pub struct FromReader<R> {
 }
 
 impl<R: Read> FromReader<R> {
-    /// The input that the reader gives. No read of it has failed yet.
+    /// An input from the reader. No read of it has failed yet.
     pub fn new(reader: R) -> FromReader<R>
         ensures { result ≡ record { reader = reader; failure = None } }
     {

@@ -9,12 +9,12 @@ ghost use Rattle.he_stream.specs.declared.answer.Flushed.{Flushed};
 use crate::answer::{Flushed, Put, Taken};
 use std::io::Error;
 
-/// What gives bytes, step by step. [`FromReader`](crate::FromReader) makes one of any reader.
+/// A source of bytes, step by step. [`FromReader`](crate::FromReader) makes one of any reader.
 pub trait InputStream {
-    // The bytes that steps will give from here on, where they are known.
+    // The bytes that later steps will give, if known.
     ghost remaining: { Self → Option (List ℕ) } = { λ _. None };
 
-    // What a step may answer: the state before it, the answer, and the state after it.
+    // The possible results of a step: the state before it, the result, and the state after it.
     ghost takes: { Self → Taken → Self → Type 0 } = { λ _ _ _. ⊤ };
 
     /// Takes bytes into the front of the buffer.
@@ -22,33 +22,33 @@ pub trait InputStream {
         ensures bytes { Takes (remaining self.old) (remaining self.new) result buffer.new }
         ensures step { takes self.old result self.new };
 
-    /// Why the last step that failed did, where that is known.
+    /// The error of the last failed step, if known.
     fn failure(&self) -> Option<Error> {
         None
     }
 }
 
-/// What takes bytes, step by step. [`ToWriter`](crate::ToWriter) makes one of any writer.
+/// A sink for bytes, step by step. [`ToWriter`](crate::ToWriter) makes one of any writer.
 pub trait OutputStream {
-    // The bytes that were put in so far, where they are known.
+    // The bytes put in so far, if known.
     ghost contents: { Self → Option (List ℕ) } = { λ _. None };
 
-    // What a step, and a flush, may answer: the state before it, the answer, and the state after it.
+    // The possible results of a step, and of a flush: the state before it, the result, and the state after it.
     ghost puts: { Self → Put → Self → Type 0 } = { λ _ _ _. ⊤ };
 
     ghost flushes: { Self → Flushed → Self → Type 0 } = { λ _ _ _. ⊤ };
 
-    /// Puts bytes from the front of the text in.
+    /// Puts in bytes from the front of the text.
     fn put(&mut self, text: &[u8]) -> Put
         ensures bytes { Puts (contents self.old) (contents self.new) result text.now }
         ensures step { puts self.old result self.new };
 
-    /// Passes on what was put in.
+    /// Passes on the bytes that were put in.
     fn flush(&mut self) -> Flushed
         ensures bytes { Keeps (contents self.old) (contents self.new) }
         ensures step { flushes self.old result self.new };
 
-    /// Why the last write or flush that failed did, where that is known.
+    /// The error of the last failed write or flush, if known.
     fn failure(&self) -> Option<Error> {
         None
     }

@@ -6,7 +6,7 @@ use crate::answer::{Flushed, Put};
 use crate::stream::OutputStream;
 use std::io::{Error, ErrorKind, Write};
 
-/// A writer, why its last write or flush that failed did, and whether it was flushed after the last write.
+/// A writer, the error of its last failed write or flush, and whether it was flushed after the last write.
 #[derive(Drop)]
 pub struct ToWriter<W> {
     writer: W,
@@ -15,7 +15,7 @@ pub struct ToWriter<W> {
 }
 
 impl<W: Write> ToWriter<W> {
-    /// The output that goes to the writer. No write or flush of it has failed yet, and none was made.
+    /// An output to the writer. No write or flush of it was made yet.
     pub fn new(writer: W) -> ToWriter<W>
         ensures { result ≡ record { writer = writer; failure = None; is_flushed = false } }
     {

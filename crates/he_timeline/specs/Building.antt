@@ -1,4 +1,4 @@
--- What the calls of the builder answer: the race with what was added, or the first fault.
+-- The results of the builder's calls: the race with the addition, or the first fault.
 use Rattle.std.specs.Prelude.{ℕ, ◌≡◌, ◌-◌, ◌&&◌, ◌++◌, true, false, not, if◌then◌else◌, List, [], ◌∷◌, length, Some, None, is_some, slice_get, nat_le, nat_lt, Result, Ok, Err, IsOk}
 use Rattle.std.specs.Option.{option_map_or}
 use Rattle.he_addr.specs.declared.ip.Family.{Family}
@@ -17,7 +17,7 @@ use Rattle.he_timeline.specs.Timeline.{are_of, are_distinct, is_duration, durati
 abbrev pub empty_history : History
 empty_history = record { rtts = []; used = [] }
 
--- a race with these settings, this policy and this host, in which nothing happens
+-- a race with these settings, policy and host, in which nothing happens
 abbrev pub empty_race : SettingValues → List Row → HostLists → Race
 empty_race settings policy host =
     record {
@@ -31,7 +31,7 @@ empty_race settings policy host =
       pauses = [];
     }
 
--- the race's settings, policy, host, answers and history, before anything is recorded
+-- the race without its outcomes and pauses
 abbrev pub unrecorded : Race → Race
 unrecorded race = record race { outcomes = []; pauses = [] }
 
@@ -96,14 +96,14 @@ add_pause from to race =
     else if nat_le MAX_PAUSES (length race.pauses) then Err faults.TooMany
     else Ok (with_pause race from to)
 
--- a call leaves the race that `made` is, or answers its fault and leaves all as it was; Memory comes only where
--- nothing else is wrong, and leaves all as it was
+-- a call makes the race `made`, or returns its fault and changes nothing; Memory is returned only if there is no
+-- other fault, and changes nothing
 abbrev pub Becomes : Result (Unit {0}) BuildFault → Race → Race → Result Race BuildFault → Type 0
 Becomes (Ok done) old new made = made ≡ Ok new
 Becomes (Err faults.Memory) old new made = (new ≡ old) × IsOk made
 Becomes (Err fault) old new made = (new ≡ old) × (made ≡ Err fault)
 
--- why addresses are no answer: one stands twice, or else memory is refused
+-- why addresses are no answer: one appears twice, otherwise an allocation failed
 abbrev pub IsRefused : List Ip → BuildFault → Type 0
 IsRefused addresses faults.Repeated = are_distinct addresses ≡ false
 IsRefused addresses faults.Memory = are_distinct addresses ≡ true

@@ -1,4 +1,4 @@
--- Settings that stand in place of a race's own.
+-- Settings that replace those of a race.
 use Rattle.std.specs.Prelude.{ℕ, ◌≤◌, ◌||◌, if◌then◌else◌, min, nat_lt, option_map, Bool, false, Option, Some, None, IfSome, Result, Ok, Err}
 use Rattle.std.specs.Option.{option_or, unwrap_or}
 use Rattle.he_timeline.specs.declared.settings.Range.{Range}
@@ -7,7 +7,7 @@ use Rattle.he_timeline.specs.declared.limits.TheConstants.{MAX_RESOLUTION, MIN_A
 use Rattle.he_timeline.specs.Race.{Race}
 use Rattle.he_timeline.specs.Settings.{SettingValues}
 
--- what is given of each setting, in ticks; a race keeps the others
+-- the new value of each setting, in ticks; None keeps the race's own
 pub record ChangeValues : Type 0 where
   pub resolution : Option ℕ
   pub attempt : Option ℕ
@@ -15,7 +15,7 @@ pub record ChangeValues : Type 0 where
   pub limit : Option ℕ
   pub floor : Option ℕ
 
--- what is given is in its range, and the floor at most the Connection Attempt Delay, where both are
+-- each given value is in its range, and the floor is at most the Connection Attempt Delay if both are given
 pub record IsChange (changes : ChangeValues) : Type 0 where
   pub resolution : IfSome changes.resolution (λ n. n ≤ MAX_RESOLUTION)
   pub attempt : IfSome changes.attempt (λ n. (MIN_ATTEMPT ≤ n) × (n ≤ MAX_ATTEMPT))
@@ -23,12 +23,12 @@ pub record IsChange (changes : ChangeValues) : Type 0 where
   pub limit : IfSome changes.limit (λ n. (MIN_LIMIT ≤ n) × (n ≤ MAX_LIMIT))
   pub floor : IfSome changes.floor (λ n. (MIN_FLOOR ≤ n) × (n ≤ unwrap_or changes.attempt MAX_ATTEMPT))
 
--- the number that is given is not within these two
+-- the given number is less than `least` or greater than `most`
 abbrev pub is_out : Option ℕ → ℕ → ℕ → Bool
 is_out None least most = false
 is_out (Some given) least most = nat_lt given least || nat_lt most given
 
--- what is given, or the first of it that is out of its range
+-- the changes, or the first value that is out of its range
 abbrev pub changes_of : ChangeValues → Result ChangeValues Range
 changes_of given =
     if is_out given.resolution 0 MAX_RESOLUTION then Err Resolution
@@ -38,7 +38,7 @@ changes_of given =
     else if is_out given.floor MIN_FLOOR (unwrap_or given.attempt MAX_ATTEMPT) then Err Floor
     else Ok given
 
--- what is given stands in place of the race's own; a floor above the Connection Attempt Delay then is that delay
+-- the given values replace the race's own; a floor above the resulting Connection Attempt Delay becomes that delay
 abbrev pub changed_settings : ChangeValues → SettingValues → SettingValues
 changed_settings changes own =
     record {
@@ -50,6 +50,6 @@ changed_settings changes own =
           option_map (min (unwrap_or changes.attempt own.attempt)) (option_or changes.floor own.floor);
     }
 
--- the race with the changes of its settings
+-- the race with the changes to its settings applied
 abbrev pub changed : ChangeValues → Race → Race
 changed changes race = record race { settings = changed_settings changes race.settings }

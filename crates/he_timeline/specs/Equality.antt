@@ -1,4 +1,4 @@
--- Mirrors the code: when two timelines are equal, field by field. The laws of `==` tie it to equal values.
+-- Mirrors the code: equality of two timelines, field by field. The laws of `==` show that it is equality of values.
 use Rattle.std.specs.Prelude.{ℕ, ◌==◌, ◌&&◌, Bool, true, false, Option, Some, None}
 use Rattle.std.specs.Cmp.Lexicographic.{pointwise}
 use Rattle.he_addr.specs.Ip.{same_ip}

@@ -1,5 +1,5 @@
--- Proofs of the laws of `==` on timelines: two are equal exactly where their values are. They stand here since the
--- laws of an impl may cite no `proofs` of their own crate; nothing in them has to be believed.
+-- Proofs of the laws of `==` on timelines: two are equal exactly if their values are. They are here since the laws of
+-- an impl may not cite `proofs` of their own crate; they are proofs, not definitions to review.
 use Rattle.std.proofs.Common.{◌≡◌, ℕ, ◌==◌, ◌&&◌, Bool, true, false, List, Option, Some, None, refl, sym, ◌∙◌, ap, subst}
 use Rattle.std.specs.Bool.{Decides}
 use Rattle.std.specs.Cmp.{IsPartialEquivalence, IsEquivalence, equiv}
@@ -38,7 +38,7 @@ and_both : (a b : Bool) → a ≡ true → b ≡ true → (a && b) ≡ true
 and_both true b h k = k
 and_both false b h k = h
 
--- a test that says yes only of equals, and of each thing and itself, decides equality
+-- a test that accepts only equal values, and every value with itself, decides equality
 decides_by : {A : Type 0} (E : A → A → Bool) (x y : A) → (E x y ≡ true → x ≡ y) → E x x ≡ true
     → Decides (E x y) (x ≡ y)
 decides_by {A} E x y same self = (same, λ e. subst (λ (z : A). E x z ≡ true) e self)

@@ -1,6 +1,6 @@
--- What a race is made of: its settings, the policy table and the host by which its addresses are ordered, the two
--- answers, what the client knows of addresses from earlier, what each address does when it is tried, and the client's
--- pauses.
+-- The parts of a race: its settings, the policy table and the host that determine the order of its addresses, the two
+-- answers, the client's knowledge of addresses from earlier connections, the outcome of each address, and the
+-- client's pauses.
 use Rattle.std.specs.Prelude.{ℕ, ◌||◌, ◌++◌, Bool, List, [], filter, find, map, Option, Some, None, option_map}
 use Rattle.std.specs.List.{list_any}
 use Rattle.he_addr.specs.Ip.{is_usable, same_ip}
@@ -14,13 +14,13 @@ use Rattle.he_select.specs.Hosts.{HostLists}
 use Rattle.he_select.specs.declared.known.Known.{Known}
 use Rattle.he_select.specs.Selection.{SelectionInput, known_input}
 
--- one family's answer: the tick at which it comes, and the addresses as written
+-- one family's answer: the tick at which it comes, and the addresses in its order
 pub record Reply : Type 0 where
   pub tick : ℕ
   pub addresses : List Ip
 
--- what a client that keeps a history knows of addresses (RFC 8305 section 4): the last round trip times in
--- milliseconds, and which addresses it used before
+-- the client's knowledge of addresses from earlier connections (RFC 8305 section 4): the last round trip times in
+-- milliseconds, and the addresses used before
 pub record History : Type 0 where
   pub rtts : List (Ip × ℕ)
   pub used : List Ip
@@ -44,41 +44,41 @@ abbrev pub addresses_of : Option Reply → List Ip
 addresses_of None = []
 addresses_of (Some reply) = reply.addresses
 
--- the usable addresses of both answers, whatever their ticks
+-- the usable addresses of both answers, at whichever ticks these come
 abbrev pub usable_addresses : Race → List Ip
 usable_addresses race = filter is_usable (addresses_of race.aaaa) ++ filter is_usable (addresses_of race.a)
 
 abbrev pub has_ip : Ip → List Ip → Bool
 has_ip ip ips = list_any (λ other. same_ip other ip) ips
 
--- the address stands in one of the answers, usable or not
+-- the address is in one of the answers, usable or not
 abbrev pub is_in_answer : Race → Ip → Bool
 is_in_answer race ip = has_ip ip (addresses_of race.aaaa) || has_ip ip (addresses_of race.a)
 
--- something is told of the address
+-- the list has an entry for the address
 abbrev pub is_told : {V : Type 0} → Ip → List (Ip × V) → Bool
 is_told ip told = list_any (λ p. same_ip p.0 ip) told
 
--- an outcome is given for the address
+-- the address has an outcome
 abbrev pub has_outcome : Ip → List (Ip × Outcome) → Bool
 has_outcome ip told = list_any (λ p. same_ip p.0 ip) told
 
--- what is told of the address
+-- the first value for the address, if there is one
 abbrev pub told_of : {V : Type 0} → List (Ip × V) → Ip → Option V
 told_of told ip = option_map (λ p. p.1) (find (λ p. same_ip p.0 ip) told)
 
--- the round trip time that is known of the address
+-- the known round trip time of the address, in milliseconds
 abbrev pub rtt_in : List (Ip × ℕ) → Ip → Option ℕ
 rtt_in rtts ip = told_of rtts ip
 
 abbrev pub known_of : History → Ip → Known
 known_of history ip = record { ip = ip; rtt = rtt_in history.rtts ip; used = has_ip ip history.used }
 
--- what the order of its addresses depends on
+-- the input on which the order of its addresses depends
 abbrev pub race_input : Race → SelectionInput
 race_input race = known_input race.policy race.host (map (known_of race.history) (usable_addresses race))
 
--- what the address does when it is tried; none: it is silent
+-- the outcome of the address; None if it is silent
 abbrev pub outcome_in : List (Ip × Outcome) → Ip → Option Outcome
 outcome_in told ip = option_map (λ p. p.1) (find (λ p. same_ip p.0 ip) told)
 

@@ -26,7 +26,7 @@ pub record AreRanges : Type 0 where
   -- duration of an attempt
   pub duration_least : MIN_DURATION ≡ 1
   pub duration_most : MAX_DURATION ≡ 3600000
-  -- first tick after a pause, and tick after which nothing finishes
+  -- maximum end of a pause, and tick after which nothing finishes
   pub pause_end_most : MAX_PAUSE_END ≡ 3600001
   pub finish_most : MAX_FINISH ≡ 7200000
   -- addresses of an answer, attempts and pauses of a race

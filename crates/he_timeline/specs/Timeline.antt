@@ -1,4 +1,4 @@
--- The ranges of a race: what every timeline keeps.
+-- The ranges of a race, which every timeline keeps.
 use Rattle.std.specs.Prelude.{ℕ, ◌≤◌, ◌&&◌, Bool, true, not, List, [], ◌∷◌, length, Option, Some, None, IsTrue, nat_le, nat_lt}
 use Rattle.std.specs.List.{list_all}
 use Rattle.he_addr.specs.declared.ip.Family.{Family}
@@ -20,7 +20,7 @@ is_of families.V4 ip = not (is_v6 ip)
 abbrev pub are_of : Family → List Ip → Bool
 are_of family ips = list_all (is_of family) ips
 
--- no address stands twice
+-- no address appears twice
 abbrev pub are_distinct : List Ip → Bool
 are_distinct [] = true
 are_distinct (ip ∷ ips) = not (has_ip ip ips) && are_distinct ips
@@ -38,20 +38,20 @@ duration_of (outcomes.Fail duration) = duration
 abbrev pub is_duration : ℕ → Bool
 is_duration duration = nat_le MIN_DURATION duration && nat_le duration MAX_DURATION
 
--- an outcome's duration is in range, and its address stands in an answer
+-- an outcome's duration is in range, and its address is in an answer
 abbrev pub is_outcome : Race → Ip × Outcome → Bool
 is_outcome race p = is_duration (duration_of p.1) && is_in_answer race p.0
 
--- of no address something is told twice
+-- no address has two entries
 abbrev pub are_told_once : {V : Type 0} → List (Ip × V) → Bool
 are_told_once [] = true
 are_told_once (p ∷ told) = not (is_told p.0 told) && are_told_once told
 
--- a round trip time is in the range of a duration, and its address stands in an answer
+-- a round trip time is in the range of a duration, and its address is in an answer
 abbrev pub is_rtt : Race → Ip × ℕ → Bool
 is_rtt race p = is_duration p.1 && is_in_answer race p.0
 
--- each pause ends after it begins, and begins at `low` or after the end of the one before it
+-- each pause ends after its start, and begins at or after `low` or the end of the one before it
 abbrev pub are_pauses : ℕ → List (ℕ × ℕ) → Bool
 are_pauses low [] = true
 are_pauses low (p ∷ pauses) = nat_le low p.0 && nat_lt p.0 p.1 && nat_le p.1 MAX_PAUSE_END && are_pauses p.1 pauses

@@ -1,23 +1,23 @@
-// The set of an answer's addresses, by which one is found without a look at each.
+// The set of an answer's addresses, which finds an address without a scan of the list.
 
 ghost use Rattle.std.specs.Prelude.{◌≡◌, true, false, None, Some, IfOk, IfSome, IfNone};
 ghost use Rattle.he_timeline.specs.Race.{has_ip};
 ghost use Rattle.he_timeline.specs.Timeline.{are_distinct};
 
-use he_addr::Ip;
+use he_addr::{Ip, Memory};
 use indexmap::IndexSet;
-use std::alloc::{AllocError, Allocator};
+use std::alloc::Allocator;
 use std::hash::{BuildHasherDefault, FoldHasher};
 use std::marker::Model;
 
-// To compare so many addresses takes less than to hash one and to keep a set of them.
+// Up to this many addresses, a scan costs less than a hash and a set.
 const FEW: usize = 8;
 
-// Addresses found by their hash.
+// Addresses in a hash set.
 pub(crate) type Hashed<A> = IndexSet<Ip, BuildHasherDefault<FoldHasher>, A>;
 
-// The addresses of an answer, or none of them where they are few: then they are looked for one by one. It is boxed,
-// since most sets are none and each is moved with its race.
+// The addresses of an answer; None for up to `FEW`, which are scanned instead. Boxed, since most answers have no set
+// and a set moves with its race.
 #[derive(Drop)]
 pub(crate) struct AddressSet<A: Allocator> {
     found: Option<Box<Hashed<A>, A>>,
@@ -33,8 +33,8 @@ impl<A: Allocator> Model for AddressSet<A> {
 }
 
 impl<A: Allocator + Copy> AddressSet<A> {
-    // The set of the addresses, or none where one stands twice.
-    pub(crate) fn new(alloc: A, ips: &[Ip]) -> Result<Option<AddressSet<A>>, AllocError>
+    // The set of the addresses; None if one appears twice.
+    pub(crate) fn new(alloc: A, ips: &[Ip]) -> Result<Option<AddressSet<A>>, Memory>
         ensures some { IfOk result (λ o. IfSome o (λ set. IfSome set (λ keys. keys ≡ ips.now))) }
         ensures distinct { IfOk result (λ o. IfSome o (λ _. are_distinct ips.now ≡ true)) }
         ensures none { IfOk result (λ o. IfNone o (are_distinct ips.now ≡ false)) }
@@ -58,7 +58,7 @@ impl<A: Allocator> AddressSet<A> {
         AddressSet { found: None }
     }
 
-    // Whether the address is one of those that the set was made of.
+    // Whether the address is one of `ips`, from which the set was made.
     pub(crate) fn has(&self, ips: &[Ip], ip: Ip) -> bool
         requires { IfSome self.now (λ keys. keys ≡ ips.now) }
         ensures { result ≡ has_ip ip ips.now }
@@ -70,8 +70,8 @@ impl<A: Allocator> AddressSet<A> {
     }
 }
 
-// The set of all the addresses, or none where one stands twice.
-fn set_of<A: Allocator + Copy>(alloc: A, ips: &[Ip]) -> Result<Option<AddressSet<A>>, AllocError>
+// The set of all the addresses; None if one appears twice.
+fn set_of<A: Allocator + Copy>(alloc: A, ips: &[Ip]) -> Result<Option<AddressSet<A>>, Memory>
     ensures some { IfOk result (λ o. IfSome o (λ set. set ≡ Some ips.now)) }
     ensures distinct { IfOk result (λ o. IfSome o (λ _. are_distinct ips.now ≡ true)) }
     ensures none { IfOk result (λ o. IfNone o (are_distinct ips.now ≡ false)) }

@@ -1,11 +1,10 @@
-// Putting one value in the place of another.
+// Assignment as a call.
 
 ghost use Rattle.std.specs.Prelude.{◌≡◌};
 
-/// Puts the value there, and lets go of what stood there. A call of it is proved with less work than `*place = value`
-/// where the type has many parts: a proof looks at the parts of the old value here, and not on each path of the
-/// caller.
-// Inlined, since what stood there is mostly known to be nothing.
+/// Stores the value at the place and drops the old one. Such a call is proved with less work than `*place = value` if
+/// the type has many parts: the parts of the old value come up in this proof, and not on each path of the caller.
+// Inlined, since the old value is mostly known to be empty.
 #[inline(always)]
 pub fn put<T: Drop>(place: &mut T, value: T)
     ensures { place.new ≡ value }

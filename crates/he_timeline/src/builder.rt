@@ -1,4 +1,4 @@
-// Making a timeline.
+// The builder of a timeline.
 
 ghost use Rattle.std.specs.Prelude.{◌≡◌, true, IfOk, IfErr, IfSome};
 ghost use Rattle.he_timeline.specs.Building.{IsRefused, empty_race, unrecorded, add_answer, add_outcome, add_pause, add_rtt, add_used, last_end, with_host, Becomes};
@@ -20,37 +20,37 @@ use std::marker::Model;
 use std::mem::drop;
 use thiserror::Error;
 
-/// Why the builder refused a call: the first of these, in this order, whose cause stands.
+/// Why the builder refused a call: the first of these, in this order, that applies.
 #[derive(Clone, Copy, Debug, PartialEq, Eq, Error)]
 pub enum BuildFault {
     /// The family has an answer already.
     #[error("the family has an answer")]
     Answered,
-    /// An answer's tick above 3,600,000, a duration or a round trip time out of 1 to 3,600,000, or a pause that ends
-    /// where it begins or before, that ends after 3,600,001 or that begins before the end of the last one.
+    /// An answer's tick above 3,600,000, a duration or a round trip time out of 1 to 3,600,000, or a pause that
+    /// doesn't end after its start, that ends after 3,600,001 or that begins before the end of the last one.
     #[error("out of range")]
     Range,
-    /// More addresses than `MAX_ADDRESSES`, or a pause after `MAX_PAUSES`.
+    /// More than `MAX_ADDRESSES` addresses, or a pause after `MAX_PAUSES` pauses.
     #[error("too many")]
     TooMany,
-    /// An address of the other family; or an outcome, a round trip time or an earlier use of an address that stands in
-    /// no answer.
+    /// An address of the other family; or an outcome, a round trip time or an earlier use of an address that is in no
+    /// answer.
     #[error("a strange address")]
     Stranger,
-    /// An address twice in an answer; or a second outcome, round trip time or earlier use of one.
+    /// An address twice in an answer; or a second outcome, round trip time or earlier use of one address.
     #[error("a repeated address")]
     Repeated,
-    /// An allocation was refused.
+    /// An allocation failed.
     #[error("out of memory")]
     Memory,
 }
 
-/// Collects a race's input. A call that is refused leaves it as it was.
+/// Collects the input of a race. A refused call leaves it unchanged.
 #[derive(Drop)]
 pub struct TimelineBuilder<A: Allocator = Global> {
     alloc: A,
     timeline: Timeline<A>,
-    // of the answers' addresses, by family
+    // the sets of the answers' addresses, by family
     six: AddressSet<A>,
     four: AddressSet<A>,
 }
@@ -67,7 +67,7 @@ impl<A: Allocator> Model for TimelineBuilder<A> {
 }
 
 impl<A: Allocator + Copy> TimelineBuilder<A> {
-    /// The race with these settings, this policy and this host in which nothing happens. It takes no memory.
+    /// A race with these settings, policy and host, in which nothing happens. It allocates nothing.
     #[inline(always)]
     pub fn new(alloc: A, settings: Settings, policy: Policy<A>, host: Host<A>) -> TimelineBuilder<A>
         ensures value { result ≡ empty_race settings policy host }
@@ -81,8 +81,8 @@ impl<A: Allocator + Copy> TimelineBuilder<A> {
         }
     }
 
-    /// The timeline's settings, policy, host, answers and history, in another allocator: its race before anything is
-    /// recorded.
+    /// A copy of the timeline's settings, policy, host, answers and history in another allocator, without outcomes
+    /// and pauses.
     pub fn without_record<B: Allocator>(
         alloc: A,
         timeline: &Timeline<B>,
@@ -99,8 +99,7 @@ impl<A: Allocator + Copy> TimelineBuilder<A> {
         })
     }
 
-    /// The race on this host, in place of the one that it was on. All else stays as it was collected, and it takes no
-    /// memory.
+    /// Replaces the host; the rest of the input is unchanged. It allocates nothing.
     pub fn set_host(&mut self, host: Host<A>)
         ensures value { self.new ≡ with_host self.old host }
         ensures race { IsRace self.new }
@@ -108,7 +107,7 @@ impl<A: Allocator + Copy> TimelineBuilder<A> {
         self.timeline.set_host(host);
     }
 
-    /// Whether the address stands in one of the answers, usable or not, so that it may have an outcome and a history.
+    /// Whether the address is in one of the answers, usable or not, so that it may have an outcome and a history.
     pub fn is_listed(&self, ip: Ip) -> bool
         ensures value { result ≡ is_in_answer self.now ip }
         ensures race { IsRace self.now }
@@ -121,7 +120,7 @@ impl<A: Allocator + Copy> TimelineBuilder<A> {
         }
     }
 
-    /// The family's answer: its tick and its addresses, of which there may be none.
+    /// Adds the family's answer: its tick in milliseconds, and its addresses, of which there may be none.
     pub fn answer(&mut self, family: Family, tick: u64, addresses: &[Ip]) -> Result<(), BuildFault>
         ensures { Becomes result self.old self.new (add_answer family tick addresses.now self.old) }
     {
@@ -146,8 +145,8 @@ impl<A: Allocator + Copy> TimelineBuilder<A> {
         Ok(())
     }
 
-    /// The last round trip time that the client knows of the address, in milliseconds, 1 to 3,600,000 (RFC 8305
-    /// section 4). The faults are `Range`, `Stranger`, `Repeated` and `Memory`, in this order.
+    /// Adds the address's last known round trip time in milliseconds, 1 to 3,600,000 (RFC 8305 section 4). The faults
+    /// are `Range`, `Stranger`, `Repeated` and `Memory`, in this order.
     pub fn rtt(&mut self, ip: Ip, rtt: u64) -> Result<(), BuildFault>
         ensures { Becomes result self.old self.new (add_rtt ip rtt self.old) }
     {
@@ -160,7 +159,7 @@ impl<A: Allocator + Copy> TimelineBuilder<A> {
         self.rtt_of_known(ip, rtt)
     }
 
-    /// The same for an address that stands in one of the answers, as [`TimelineBuilder::is_listed`] says.
+    /// Like [`TimelineBuilder::rtt`], for an address that [`TimelineBuilder::is_listed`] has found in an answer.
     pub fn rtt_of_known(&mut self, ip: Ip, rtt: u64) -> Result<(), BuildFault>
         requires { is_in_answer self.old ip ≡ true }
         ensures { Becomes result self.old self.new (add_rtt ip rtt self.old) }
@@ -176,8 +175,8 @@ impl<A: Allocator + Copy> TimelineBuilder<A> {
             .map_err(|_| BuildFault::Memory)
     }
 
-    /// The client used the address before (RFC 8305 section 4). The faults are `Stranger`, `Repeated` and `Memory`, in
-    /// this order.
+    /// Records that the client used the address before (RFC 8305 section 4). The faults are `Stranger`, `Repeated`
+    /// and `Memory`, in this order.
     pub fn used(&mut self, ip: Ip) -> Result<(), BuildFault>
         ensures { Becomes result self.old self.new (add_used ip self.old) }
     {
@@ -187,7 +186,7 @@ impl<A: Allocator + Copy> TimelineBuilder<A> {
         self.used_of_known(ip)
     }
 
-    /// The same for an address that stands in one of the answers, as [`TimelineBuilder::is_listed`] says.
+    /// Like [`TimelineBuilder::used`], for an address that [`TimelineBuilder::is_listed`] has found in an answer.
     pub fn used_of_known(&mut self, ip: Ip) -> Result<(), BuildFault>
         requires { is_in_answer self.old ip ≡ true }
         ensures { Becomes result self.old self.new (add_used ip self.old) }
@@ -198,7 +197,7 @@ impl<A: Allocator + Copy> TimelineBuilder<A> {
         self.timeline.push_used(ip).map_err(|_| BuildFault::Memory)
     }
 
-    /// What the address does when it is tried.
+    /// Adds the outcome of an attempt to connect to the address.
     pub fn outcome(&mut self, ip: Ip, outcome: Outcome) -> Result<(), BuildFault>
         ensures { Becomes result self.old self.new (add_outcome ip outcome self.old) }
     {
@@ -211,7 +210,7 @@ impl<A: Allocator + Copy> TimelineBuilder<A> {
         self.outcome_of_known(ip, outcome)
     }
 
-    /// The same for an address that stands in one of the answers, as [`TimelineBuilder::is_listed`] says.
+    /// Like [`TimelineBuilder::outcome`], for an address that [`TimelineBuilder::is_listed`] has found in an answer.
     pub fn outcome_of_known(&mut self, ip: Ip, outcome: Outcome) -> Result<(), BuildFault>
         requires { is_in_answer self.old ip ≡ true }
         ensures { Becomes result self.old self.new (add_outcome ip outcome self.old) }
@@ -227,7 +226,7 @@ impl<A: Allocator + Copy> TimelineBuilder<A> {
             .map_err(|_| BuildFault::Memory)
     }
 
-    /// A pause from `from` to `to`, which covers the ticks from `from` to `to - 1`.
+    /// Adds a pause of the client, which covers the ticks from `from` to `to - 1`.
     pub fn pause(&mut self, from: u64, to: u64) -> Result<(), BuildFault>
         ensures { Becomes result self.old self.new (add_pause from to self.old) }
     {
@@ -243,14 +242,14 @@ impl<A: Allocator + Copy> TimelineBuilder<A> {
             .map_err(|_| BuildFault::Memory)
     }
 
-    /// What was collected so far.
+    /// The input collected so far.
     pub fn timeline(&self) -> &Timeline<A>
         ensures { result.now ≡ self.now }
     {
         &self.timeline
     }
 
-    /// The timeline of what was collected.
+    /// The timeline of the collected input.
     #[inline(always)]
     pub fn finish(self) -> Timeline<A>
         ensures value { result ≡ self }
@@ -289,7 +288,8 @@ fn are_of(family: Family, ips: &[Ip]) -> bool
     ips.iter().all(|ip| ip.family() == family)
 }
 
-// The answer with the set of its addresses, or why there is none: one stands twice, or else memory is refused.
+// The answer with the set of its addresses. `Repeated` if an address appears twice, otherwise `Memory` if an
+// allocation fails.
 fn distinct_answer<A: Allocator + Copy>(
     alloc: A,
     tick: u64,
@@ -313,7 +313,7 @@ fn distinct_answer<A: Allocator + Copy>(
     }
 }
 
-// The set of the addresses, or why there is none: one stands twice, or else memory is refused.
+// The set of the addresses. `Repeated` if an address appears twice, otherwise `Memory` if an allocation fails.
 fn distinct_set<A: Allocator + Copy>(
     alloc: A,
     addresses: &[Ip],

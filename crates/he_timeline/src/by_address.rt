@@ -1,4 +1,4 @@
-// What is told of a race's addresses, each of which it is found by.
+// Values by address.
 
 ghost use Rattle.std.specs.Prelude.{◌≡◌, ◌++◌, [], ◌∷◌, true, find, option_copied, IfOk, IfSome, OnOk, OnErr};
 ghost use Rattle.std.specs.Map.{keys_of};
@@ -8,22 +8,22 @@ ghost use Rattle.he_timeline.specs.Timeline.{are_told_once};
 
 use crate::addresses::Hashed;
 use crate::assigning::put;
-use he_addr::Ip;
+use he_addr::{Ip, Memory};
 use indexmap::IndexSet;
-use std::alloc::{AllocError, Allocator};
+use std::alloc::Allocator;
 use std::marker::Model;
 
-// To look through so many addresses takes less than to hash an address and to keep an index of them.
+// Up to this many addresses, a scan costs less than a hash and an index.
 const FEW: usize = 8;
 
-// Addresses by their place among those of which something is told.
+// An index of the addresses of the entries, by place.
 type Places<A> = Box<Hashed<A>, A>;
 
-// What is told of addresses, in the order in which it was given, of no address twice.
+// Values by address, in the order given; no address occurs twice.
 #[derive(Drop)]
 pub(crate) struct ByAddress<V: Copy, A: Allocator> {
     told: Vec<(Ip, V), A>,
-    // the addresses of `told` in its order, or none while they are few: then they are looked for one by one
+    // the addresses of `told` in its order; None for few of them, which are scanned instead
     places: Option<Places<A>>,
 }
 
@@ -50,8 +50,9 @@ impl<V: Copy, A: Allocator + Copy> ByAddress<V, A> {
         }
     }
 
-    // Makes room for so many, if there are none yet, so that the first one doesn't make it for a few.
-    pub(crate) fn make_room(&mut self, count: usize) -> Result<(), AllocError>
+    // Makes room for `count` entries if there are none yet, so that the first push doesn't allocate room for only a
+    // few.
+    pub(crate) fn make_room(&mut self, count: usize) -> Result<(), Memory>
         ensures { self.new ≡ self.old }
     {
         if self.told.is_empty() {
@@ -61,7 +62,7 @@ impl<V: Copy, A: Allocator + Copy> ByAddress<V, A> {
         }
     }
 
-    pub(crate) fn push(&mut self, ip: Ip, value: V) -> Result<(), AllocError>
+    pub(crate) fn push(&mut self, ip: Ip, value: V) -> Result<(), Memory>
         requires { are_told_once (self.old ++ (ip, value) ∷ []) ≡ true }
         ensures ok { OnOk result (self.new ≡ self.old ++ (ip, value) ∷ []) }
         ensures err { OnErr result (self.new ≡ self.old) }
@@ -99,7 +100,7 @@ impl<V: Copy, A: Allocator> ByAddress<V, A> {
         }
     }
 
-    pub(crate) fn copy<B: Allocator + Copy>(&self, alloc: B) -> Result<ByAddress<V, B>, AllocError>
+    pub(crate) fn copy<B: Allocator + Copy>(&self, alloc: B) -> Result<ByAddress<V, B>, Memory>
         requires { are_told_once self.now ≡ true }
         ensures { IfOk result (λ copy. copy ≡ self.now) }
     {
@@ -139,11 +140,11 @@ fn find_told<V: Copy>(told: &[(Ip, V)], ip: Ip) -> Option<&(Ip, V)>
     told.iter().find(|one| one.0 == ip)
 }
 
-// Makes the places of the addresses, with room for as many as can be told, if there are none yet.
+// Makes the index of the addresses, if there is none yet, with room for the capacity of `told`.
 fn make_places<V: Copy, A: Allocator + Copy>(
     places: &mut Option<Places<A>>,
     told: &Vec<(Ip, V), A>,
-) -> Result<(), AllocError>
+) -> Result<(), Memory>
     requires places { IfSome places.old (λ places. places.value.keys ≡ keys_of told.now.items) }
     requires once { are_told_once told.now.items ≡ true }
     ensures { IfSome places.new (λ places. places.value.keys ≡ keys_of told.now.items) }
@@ -155,13 +156,13 @@ fn make_places<V: Copy, A: Allocator + Copy>(
     Ok(())
 }
 
-// One more, where addresses have places.
+// Appends an entry to the list and to the index.
 fn push_placed<V: Copy, A: Allocator>(
     told: &mut Vec<(Ip, V), A>,
     places: &mut Places<A>,
     ip: Ip,
     value: V,
-) -> Result<(), AllocError>
+) -> Result<(), Memory>
     requires places { places.old.value.keys ≡ keys_of told.old.items }
     requires once { are_told_once (told.old.items ++ (ip, value) ∷ []) ≡ true }
     ensures ok { OnOk result (told.new.items ≡ told.old.items ++ (ip, value) ∷ []) }
@@ -176,12 +177,12 @@ fn push_placed<V: Copy, A: Allocator>(
     Ok(())
 }
 
-// The addresses in their order, with room for so many.
+// The index of these entries' addresses, with this room.
 fn places_of<V: Copy, A: Allocator + Copy>(
     alloc: A,
     told: &[(Ip, V)],
     room: usize,
-) -> Result<Places<A>, AllocError>
+) -> Result<Places<A>, Memory>
     requires { are_told_once told.now ≡ true }
     ensures { IfOk result (λ places. places.value.keys ≡ keys_of told.now) }
 {

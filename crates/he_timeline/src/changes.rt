@@ -1,4 +1,4 @@
-// Settings that stand in place of those of a race.
+// Settings that replace those of a race.
 
 ghost use Rattle.std.specs.Prelude.{◌≡◌, min, option_map, None};
 ghost use Rattle.he_timeline.specs.Changes.{changed_settings, changes_of, is_out};
@@ -9,8 +9,8 @@ use crate::limits::{
 use crate::settings::{Range, Settings};
 use std::marker::Model;
 
-/// Settings that stand in place of a race's own, in ticks of one millisecond; it keeps the others. Each is in the
-/// range that [`Settings`] gives it.
+/// Settings that replace a race's own, in ticks of one millisecond; None keeps the race's own. Each is in the range
+/// that [`Settings`] gives it.
 #[derive(Clone, Copy, Debug, PartialEq, Eq)]
 pub struct Changes {
     resolution: Option<u64>,
@@ -33,7 +33,7 @@ impl Model for Changes {
 }
 
 impl Changes {
-    /// A race keeps all its settings.
+    /// No changes: a race keeps all its settings.
     pub fn none() -> Changes
         ensures { result ≡ record { resolution = None; attempt = None; count = None; limit = None; floor = None } }
     {
@@ -46,9 +46,9 @@ impl Changes {
         }
     }
 
-    /// The settings that are given, or the first that is out of its range, in the order of the arguments: Resolution
-    /// Delay, Connection Attempt Delay, First Address Family Count, limit and floor. A floor above a Connection
-    /// Attempt Delay that is given too is out of its range.
+    /// The changes to the given settings. The error is the first setting that is out of its range, in the order of
+    /// the arguments: Resolution Delay, Connection Attempt Delay, First Address Family Count, limit and floor. A
+    /// floor above a Connection Attempt Delay given with it is out of range.
     pub fn new(
         resolution: Option<u64>,
         attempt: Option<u64>,
@@ -89,8 +89,8 @@ impl Changes {
         })
     }
 
-    /// The settings with the changes. A floor above the Connection Attempt Delay that there is then is that delay:
-    /// such a floor changes nothing.
+    /// The settings with the changes applied. A floor above the resulting Connection Attempt Delay is lowered to that
+    /// delay, where it has no effect.
     pub fn apply(self, own: Settings) -> Settings
         ensures { result ≡ changed_settings self own }
     {

@@ -1,4 +1,4 @@
-// What the client knows of addresses from earlier (RFC 8305 section 4).
+// The client's knowledge of addresses from earlier connections (RFC 8305 section 4).
 
 ghost use Rattle.std.specs.Prelude.{◌≡◌, ◌++◌, [], ◌∷◌, true, false, IfOk, OnOk, OnErr};
 ghost use Rattle.std.specs.Cmp.Lexicographic.{pointwise};
@@ -11,17 +11,16 @@ ghost use Rattle.he_timeline.specs.Timeline.{are_distinct, are_told_once};
 use crate::addresses::Hashed;
 use crate::assigning::put;
 use crate::by_address::ByAddress;
-use he_addr::Ip;
+use he_addr::{Ip, Memory};
 use he_select::Known;
 use indexmap::IndexSet;
-use std::alloc::{AllocError, Allocator};
+use std::alloc::Allocator;
 use std::marker::Model;
 
-// Addresses in the order in which they were given.
+// Addresses in the order given.
 type Addresses<A> = Box<Hashed<A>, A>;
 
-// The last round trip times in milliseconds, and the addresses that were used before. Where there are none it takes no
-// memory.
+// The last round trip times in milliseconds, and the addresses used before. An empty history allocates nothing.
 #[derive(Drop)]
 pub(crate) struct History<A: Allocator> {
     rtts: ByAddress<u64, A>,
@@ -49,7 +48,7 @@ impl<A: Allocator + Copy> History<A> {
         }
     }
 
-    pub(crate) fn push_rtt(&mut self, ip: Ip, rtt: u64, most: usize) -> Result<(), AllocError>
+    pub(crate) fn push_rtt(&mut self, ip: Ip, rtt: u64, most: usize) -> Result<(), Memory>
         requires { are_told_once (self.old.rtts ++ (ip, rtt) ∷ []) ≡ true }
         ensures ok { OnOk result (self.new ≡ record self.old { rtts = self.old.rtts ++ (ip, rtt) ∷ [] }) }
         ensures err { OnErr result (self.new ≡ self.old) }
@@ -58,7 +57,7 @@ impl<A: Allocator + Copy> History<A> {
         self.rtts.push(ip, rtt)
     }
 
-    pub(crate) fn push_used(&mut self, alloc: A, ip: Ip) -> Result<(), AllocError>
+    pub(crate) fn push_used(&mut self, alloc: A, ip: Ip) -> Result<(), Memory>
         requires { has_ip ip self.old.used ≡ false }
         ensures ok { OnOk result (self.new ≡ record self.old { used = self.old.used ++ ip ∷ [] }) }
         ensures err { OnErr result (self.new ≡ self.old) }
@@ -98,7 +97,7 @@ impl<A: Allocator> History<A> {
         }
     }
 
-    // What is known of the address.
+    // The client's knowledge of the address.
     pub(crate) fn known(&self, ip: Ip) -> Known
         ensures { result ≡ known_of self.now ip }
     {
@@ -124,7 +123,7 @@ impl<A: Allocator> History<A> {
         }
     }
 
-    pub(crate) fn copy<B: Allocator + Copy>(&self, alloc: B) -> Result<History<B>, AllocError>
+    pub(crate) fn copy<B: Allocator + Copy>(&self, alloc: B) -> Result<History<B>, Memory>
         requires rtts { are_told_once self.now.rtts ≡ true }
         requires used { are_distinct self.now.used ≡ true }
         ensures { IfOk result (λ copy. copy ≡ self.now) }
@@ -146,7 +145,7 @@ impl<A: Allocator> History<A> {
 }
 
 // The set of these addresses, in their order.
-fn set_of<A: Allocator + Copy>(alloc: A, ips: &[Ip]) -> Result<Addresses<A>, AllocError>
+fn set_of<A: Allocator + Copy>(alloc: A, ips: &[Ip]) -> Result<Addresses<A>, Memory>
     requires { are_distinct ips.now ≡ true }
     ensures { IfOk result (λ set. set.value.keys ≡ ips.now) }
 {

@@ -1,7 +1,7 @@
-//! The values of a race: its settings, the answers of both families, what the client knows of addresses from earlier,
-//! what each address does when it is tried, and the pauses of the client.
+//! The input of a race: its settings, the answers of both families, the client's knowledge of addresses from earlier
+//! connections, the outcome of each address, and the pauses of the client.
 //!
-//! A [`TimelineBuilder`] collects them, and makes a [`Timeline`]. A tick is a millisecond.
+//! A [`TimelineBuilder`] collects them and makes a [`Timeline`]. A tick is a millisecond.
 //!
 //! ```text
 //! let settings = Settings::new(50, 250, 1, 30_000)?;
@@ -13,11 +13,12 @@
 //! let timeline = builder.finish();
 //! ```
 //!
-//! Proved, against the definitions of `specs/`: each call of the builder answers the new race or the first fault, and
-//! a refused one leaves it as it was; `Timeline::seen` answers the least tick that no pause covers; two timelines are
-//! equal exactly where their races are; and settings and changes are those that were given, each in its range.
+//! Proved, against the definitions of `specs/`: each call of the builder yields the new race or the first fault, and
+//! a refused call leaves the race unchanged; `Timeline::seen` returns the least tick, at or after the given one, that
+//! no pause covers; two timelines are equal exactly if their races are; settings and changes are those given, each in
+//! its range.
 //!
-//! Tested only, in he_plan_tests: that a call succeeds where memory is granted.
+//! Tested only, in he_plan_tests: that a call succeeds if memory is available.
 #![tactic(auto)]
 
 mod addresses;

@@ -1,64 +1,64 @@
-// The ranges of what a race is made of. Everything else names these; proofs use no more of their values than what the
-// inequalities at the end say.
+// The ranges of a race's input. All other code uses these names; proofs use nothing of their values but the
+// inequalities at the end.
 
-/// The greatest Resolution Delay, in ticks.
+/// The maximum Resolution Delay, in ticks.
 pub const MAX_RESOLUTION: u64 = 1_000;
 
-/// The Resolution Delay of RFC 8305 section 8.
+/// The Resolution Delay of RFC 8305 section 8, in ticks.
 pub const DEFAULT_RESOLUTION: u64 = 50;
 
-/// The least Connection Attempt Delay of RFC 8305 section 8, in ticks.
+/// The minimum Connection Attempt Delay of RFC 8305 section 8, in ticks.
 pub const MIN_ATTEMPT: u64 = 10;
 
-/// The greatest Connection Attempt Delay of RFC 8305 section 8, in ticks.
+/// The maximum Connection Attempt Delay of RFC 8305 section 8, in ticks.
 pub const MAX_ATTEMPT: u64 = 2_000;
 
-/// The Connection Attempt Delay of RFC 8305 section 8.
+/// The Connection Attempt Delay of RFC 8305 section 8, in ticks.
 pub const DEFAULT_ATTEMPT: u64 = 250;
 
-/// The least floor after failures, in ticks; the greatest is the Connection Attempt Delay.
+/// The minimum floor after failures, in ticks; its maximum is the Connection Attempt Delay.
 pub const MIN_FLOOR: u64 = 10;
 
-/// The least First Address Family Count.
+/// The minimum First Address Family Count.
 pub const MIN_COUNT: u64 = 1;
 
-/// The greatest First Address Family Count.
+/// The maximum First Address Family Count.
 pub const MAX_COUNT: u64 = 8;
 
 /// The First Address Family Count of RFC 8305 section 8.
 pub const DEFAULT_COUNT: u64 = 1;
 
-/// The least limit of a race, in ticks.
+/// The minimum limit of a race, in ticks.
 pub const MIN_LIMIT: u64 = 1;
 
-/// The greatest limit of a race, in ticks.
+/// The maximum limit of a race, in ticks.
 pub const MAX_LIMIT: u64 = 3_600_000;
 
-/// The limit of a race that sets none.
+/// The default limit of a race, in ticks.
 pub const DEFAULT_LIMIT: u64 = 30_000;
 
-/// The greatest tick of an answer.
+/// The maximum tick of an answer.
 pub const MAX_TICK: u64 = 3_600_000;
 
-/// The least duration of an attempt, in ticks: a connect takes time.
+/// The minimum duration of an attempt, in ticks: a connect takes time.
 pub const MIN_DURATION: u64 = 1;
 
-/// The greatest duration of an attempt, in ticks.
+/// The maximum duration of an attempt, in ticks.
 pub const MAX_DURATION: u64 = 3_600_000;
 
-/// The greatest first tick after a pause.
+/// The maximum end of a pause: the first tick after it.
 pub const MAX_PAUSE_END: u64 = 3_600_001;
 
 /// No attempt starts and none finishes after this tick.
 pub const MAX_FINISH: u64 = 7_200_000;
 
-/// The most addresses of an answer.
+/// The maximum number of addresses of an answer.
 pub const MAX_ADDRESSES: usize = 256;
 
-/// The most attempts of a race: both answers' addresses.
+/// The maximum number of attempts of a race: one for each address of both answers.
 pub const MAX_ATTEMPTS: usize = 512;
 
-/// The most pauses of a race.
+/// The maximum number of pauses of a race.
 pub const MAX_PAUSES: usize = 520;
 
 const _: () = prove!(MIN_ATTEMPT > 0 && MIN_ATTEMPT <= MAX_ATTEMPT);

@@ -1,9 +1,9 @@
-// What an address does when it is tried.
+// The outcome of an attempt to connect to an address.
 
 ghost use Rattle.std.specs.Prelude.{◌≡◌};
 ghost use Rattle.he_timeline.specs.Timeline.{duration_of};
 
-/// What a tried address does: it connects or fails so many ticks after the start, 1 to 3,600,000.
+/// The outcome of an attempt: it connects or fails this number of ticks after its start, 1 to 3,600,000.
 #[derive(Clone, Copy, Debug, PartialEq, Eq)]
 pub enum Outcome {
     Ok(u64),

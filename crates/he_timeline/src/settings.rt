@@ -9,7 +9,7 @@ use crate::limits::{
 use std::marker::Model;
 use thiserror::Error;
 
-/// The first setting that is out of its range.
+/// A setting that is out of its range: the first one.
 #[derive(Clone, Copy, Debug, PartialEq, Eq, Error)]
 pub enum Range {
     #[error("the resolution delay is out of range")]
@@ -25,7 +25,7 @@ pub enum Range {
 }
 
 /// The settings of a race, in ticks of one millisecond: Resolution Delay 0 to 1,000, Connection Attempt Delay 10 to
-/// 2,000, First Address Family Count 1 to 8, limit 1 to 3,600,000, and a floor, if there is one, 10 to the Connection
+/// 2,000, First Address Family Count 1 to 8, limit 1 to 3,600,000, and an optional floor, 10 to the Connection
 /// Attempt Delay (RFC 8305 section 8; the limit and the floor are this project's own).
 #[derive(Clone, Copy, Debug, PartialEq, Eq)]
 pub struct Settings {
@@ -49,8 +49,8 @@ impl Model for Settings {
 }
 
 impl Settings {
-    /// The settings with these values and no floor, or the first value that is out of its range, in the order of the
-    /// arguments.
+    /// The settings with these values and without a floor. The error is the first value that is out of its range, in
+    /// the order of the arguments.
     pub fn new(resolution: u64, attempt: u64, count: u64, limit: u64) -> Result<Settings, Range>
         ensures { result ≡ settings_of resolution attempt count limit }
     {
@@ -75,8 +75,8 @@ impl Settings {
         })
     }
 
-    /// The settings with this floor, in ticks, or that it is out of range: 10 to the Connection Attempt Delay. Where
-    /// all attempts so far have failed, the next one waits for no more than the floor after the last start (own).
+    /// The settings with this floor, in ticks; an error unless it is 10 to the Connection Attempt Delay. If all
+    /// attempts so far have failed, the next one waits no longer than the floor after the last start (own).
     pub fn with_floor(self, floor: u64) -> Result<Settings, Range>
         ensures { result ≡ with_floor self floor }
     {
@@ -121,7 +121,7 @@ impl Settings {
         self.limit
     }
 
-    /// The floor, in ticks: the least time between two starts where all attempts so far have failed. Without one, only
+    /// The floor, in ticks: the least time between two starts if all attempts so far have failed. Without it, only
     /// the Connection Attempt Delay counts.
     pub fn floor(self) -> Option<u64>
         ensures value { result ≡ self.floor }

@@ -1,4 +1,4 @@
-// A race's whole input: settings, policy, host, answers, history, outcomes and pauses.
+// The whole input of a race: settings, policy, host, answers, history, outcomes and pauses.
 
 ghost use Rattle.std.specs.Prelude.{false, All, ◌≡◌, ◌+◌, ◌≤◌, drop, length, option_map, max, IfOk, IfSome, IsTrue, OnOk, OnErr};
 ghost use Rattle.std.specs.Cmp.Lexicographic.{pointwise};
@@ -23,7 +23,7 @@ use crate::outcome::Outcome;
 use crate::settings::Settings;
 use he_addr::{Family, Ip, Memory};
 use he_select::{Host, Known, Policy};
-use std::alloc::{AllocError, Allocator, Global};
+use std::alloc::{Allocator, Global};
 use std::marker::Model;
 
 // One family's answer.
@@ -41,9 +41,9 @@ impl<A: Allocator> Model for Answer<A> {
     ghost view = { λ answer. record { tick = answer.tick; addresses = answer.addresses.items } };
 }
 
-/// A race's whole input: its settings, the policy table and the host by which addresses are ordered, the answers of
-/// both families, what the client knows of addresses from earlier, what each address does when it is tried, and the
-/// pauses of the client. A `TimelineBuilder` makes it.
+/// The whole input of a race: its settings, the policy table and the host that determine the order of addresses, the
+/// answers of both families, the client's knowledge of addresses from earlier connections, the outcome of each
+/// address, and the pauses of the client. A `TimelineBuilder` makes it.
 #[derive(Drop)]
 pub struct Timeline<A: Allocator = Global> {
     settings: Settings,
@@ -106,7 +106,7 @@ impl<A: Allocator + Copy> Timeline<A> {
         put(&mut self.host, host);
     }
 
-    pub(crate) fn push_rtt(&mut self, ip: Ip, rtt: u64) -> Result<(), AllocError>
+    pub(crate) fn push_rtt(&mut self, ip: Ip, rtt: u64) -> Result<(), Memory>
         requires { IsRace (with_rtt self.old ip rtt) }
         ensures ok { OnOk result (self.new ≡ with_rtt self.old ip rtt) }
         ensures err { OnErr result (self.new ≡ self.old) }
@@ -115,7 +115,7 @@ impl<A: Allocator + Copy> Timeline<A> {
         self.history.push_rtt(ip, rtt, most)
     }
 
-    pub(crate) fn push_used(&mut self, ip: Ip) -> Result<(), AllocError>
+    pub(crate) fn push_used(&mut self, ip: Ip) -> Result<(), Memory>
         requires new { has_ip ip self.old.history.used ≡ false }
         requires race { IsRace (with_used self.old ip) }
         ensures ok { OnOk result (self.new ≡ with_used self.old ip) }
@@ -124,7 +124,7 @@ impl<A: Allocator + Copy> Timeline<A> {
         self.history.push_used(*self.pauses.allocator(), ip)
     }
 
-    pub(crate) fn push_outcome(&mut self, ip: Ip, outcome: Outcome) -> Result<(), AllocError>
+    pub(crate) fn push_outcome(&mut self, ip: Ip, outcome: Outcome) -> Result<(), Memory>
         requires { IsRace (with_outcome self.old ip outcome) }
         ensures ok { OnOk result (self.new ≡ with_outcome self.old ip outcome) }
         ensures err { OnErr result (self.new ≡ self.old) }
@@ -134,7 +134,7 @@ impl<A: Allocator + Copy> Timeline<A> {
         self.outcomes.push(ip, outcome)
     }
 
-    pub(crate) fn push_pause(&mut self, from: u64, to: u64) -> Result<(), AllocError>
+    pub(crate) fn push_pause(&mut self, from: u64, to: u64) -> Result<(), Memory>
         requires { IsRace (with_pause self.old from to) }
         ensures ok { OnOk result (self.new ≡ with_pause self.old from to) }
         ensures err { OnErr result (self.new ≡ self.old) }
@@ -145,14 +145,14 @@ impl<A: Allocator + Copy> Timeline<A> {
 }
 
 impl<A: Allocator> Timeline<A> {
-    /// How many addresses the answers have: no race has more attempts or outcomes.
+    /// The number of addresses in the answers: no race has more attempts or outcomes.
     pub fn address_count(&self) -> usize
         ensures { result ≡ length (addresses_of self.now.aaaa) + length (addresses_of self.now.a) }
     {
         answered_count(&self.aaaa) + answered_count(&self.a)
     }
 
-    /// The addresses of the family's answer as written, none where it has no answer.
+    /// The addresses of the family's answer in its order; none if the family has no answer.
     pub fn answered(&self, family: Family) -> &[Ip]
         ensures value { result.now ≡ addresses_of (reply_of self.now family) }
         ensures race { IsRace self.now }
@@ -170,7 +170,7 @@ impl<A: Allocator> Timeline<A> {
         self.outcomes.has(ip)
     }
 
-    /// The same timeline in another allocator.
+    /// A copy of the timeline in another allocator.
     pub fn copy<B: Allocator + Copy>(&self, alloc: B) -> Result<Timeline<B>, Memory>
         ensures { IfOk result (λ copy. copy ≡ self.now) }
     {
@@ -179,7 +179,7 @@ impl<A: Allocator> Timeline<A> {
         self.copy_with(alloc, outcomes, pauses)
     }
 
-    // The same timeline in another allocator, without its outcomes and pauses.
+    // A copy of the timeline in another allocator, without its outcomes and pauses.
     pub(crate) fn without_record<B: Allocator + Copy>(
         &self,
         alloc: B,
@@ -189,7 +189,7 @@ impl<A: Allocator> Timeline<A> {
         self.copy_with(alloc, ByAddress::none(alloc), Vec::new(alloc))
     }
 
-    // The same timeline in another allocator, with these outcomes and pauses.
+    // A copy of the timeline in another allocator, with these outcomes and pauses.
     fn copy_with<B: Allocator + Copy>(
         &self,
         alloc: B,
@@ -219,7 +219,7 @@ impl<A: Allocator> Timeline<A> {
         })
     }
 
-    /// The same race with the changes of its settings.
+    /// The race with the changes to its settings applied.
     #[inline(always)]
     pub fn with_changes(self, changes: Changes) -> Timeline<A>
         ensures { result ≡ changed changes self }
@@ -249,7 +249,7 @@ impl<A: Allocator> Timeline<A> {
         self.settings
     }
 
-    /// The policy table by which addresses are ordered.
+    /// The policy table that determines the order of addresses.
     pub fn policy(&self) -> &Policy<A>
         ensures value { result.now ≡ self.now.policy }
         ensures race { IsRace self.now }
@@ -257,7 +257,7 @@ impl<A: Allocator> Timeline<A> {
         &self.policy
     }
 
-    /// The host from which connections are made: its sources and routes.
+    /// The host that connects: its sources and routes.
     pub fn host(&self) -> &Host<A>
         ensures value { result.now ≡ self.now.host }
         ensures race { IsRace self.now }
@@ -265,7 +265,8 @@ impl<A: Allocator> Timeline<A> {
         &self.host
     }
 
-    /// The family's answer: its tick, 0 to 3,600,000, and its addresses as written, or none if it is never answered.
+    /// The family's answer: its tick, 0 to 3,600,000, and its addresses in its order. None if the family is never
+    /// answered.
     pub fn answer(&self, family: Family) -> Option<(u64, &[Ip])>
         ensures value { option_map (λ p. record { tick = p.0; addresses = p.1.now }) result
             ≡ reply_of self.now family }
@@ -281,8 +282,8 @@ impl<A: Allocator> Timeline<A> {
         }
     }
 
-    /// The last round trip times that the client knows of addresses, in milliseconds, 1 to 3,600,000, in the order in
-    /// which they were given (RFC 8305 section 4).
+    /// The known round trip times of addresses in milliseconds, 1 to 3,600,000, in the order given (RFC 8305 section
+    /// 4).
     pub fn rtts(&self) -> &[(Ip, u64)]
         ensures value { result.now ≡ self.now.history.rtts }
         ensures race { IsRace self.now }
@@ -290,7 +291,7 @@ impl<A: Allocator> Timeline<A> {
         self.history.rtts()
     }
 
-    /// The last round trip time that the client knows of the address, in milliseconds, or none if it knows none.
+    /// The last known round trip time of the address in milliseconds, if one is known.
     pub fn rtt(&self, ip: Ip) -> Option<u64>
         ensures value { result ≡ rtt_in self.now.history.rtts ip }
         ensures race { IsRace self.now }
@@ -305,7 +306,7 @@ impl<A: Allocator> Timeline<A> {
         self.history.has_rtt(ip)
     }
 
-    /// The addresses that the client used before, in the order in which they were given (RFC 8305 section 4).
+    /// The addresses that the client used before, in the order given (RFC 8305 section 4).
     pub fn used_addresses(&self) -> &[Ip]
         ensures value { result.now ≡ self.now.history.used }
         ensures race { IsRace self.now }
@@ -321,14 +322,14 @@ impl<A: Allocator> Timeline<A> {
         self.history.is_used(ip)
     }
 
-    /// What the client knows of the address from earlier (RFC 8305 section 4).
+    /// The client's knowledge of the address from earlier connections (RFC 8305 section 4).
     pub fn known(&self, ip: Ip) -> Known
         ensures { result ≡ known_of self.now.history ip }
     {
         self.history.known(ip)
     }
 
-    /// The addresses that have an outcome, in the order in which they were given; every other one is silent.
+    /// The addresses with an outcome, in the order given; every other address is silent.
     pub fn outcomes(&self) -> &[(Ip, Outcome)]
         ensures value { result.now ≡ self.now.outcomes }
         ensures race { IsRace self.now }
@@ -336,7 +337,7 @@ impl<A: Allocator> Timeline<A> {
         self.outcomes.as_slice()
     }
 
-    /// What the address does when it is tried, or none if it is silent.
+    /// The outcome of an attempt to connect to the address; None if the address is silent.
     pub fn outcome(&self, ip: Ip) -> Option<Outcome>
         ensures value { result ≡ outcome_of self.now ip }
         ensures range { IfSome result (λ outcome. (MIN_DURATION ≤ duration_of outcome)
@@ -354,7 +355,7 @@ impl<A: Allocator> Timeline<A> {
         seen_past(&self.pauses, tick)
     }
 
-    /// The pauses in order: a pause from `f` to `t` covers the ticks from `f` to `t - 1`.
+    /// The pauses in order. A pause from `f` to `t` covers the ticks from `f` to `t - 1`.
     pub fn pauses(&self) -> &[(u64, u64)]
         ensures value { result.now ≡ self.now.pauses }
         ensures race { IsRace self.now }
@@ -379,7 +380,7 @@ fn seen_past(pauses: &[(u64, u64)], tick: u64) -> u64
     seen_ahead(&pauses[ended_by(pauses, tick)..], tick)
 }
 
-// How many pauses end at or before the tick: these don't cover it.
+// The number of pauses that end at or before the tick; these don't cover it.
 fn ended_by(pauses: &[(u64, u64)], tick: u64) -> usize
     requires { IsTrue (are_pauses 0 pauses.now) }
     ensures few { result ≤ length pauses.now }
@@ -389,7 +390,7 @@ fn ended_by(pauses: &[(u64, u64)], tick: u64) -> usize
     pauses.partition_point(|pause| pause.1 <= tick)
 }
 
-// The pauses that follow one another from the tick on.
+// The least tick at or after `tick` that none of these pauses covers.
 fn seen_ahead(pauses: &[(u64, u64)], tick: u64) -> u64
     requires { IsTrue (are_ahead tick pauses.now) }
     ensures { result ≡ seen_past pauses.now tick }
@@ -478,7 +479,7 @@ fn same_pauses(x: &[(u64, u64)], y: &[(u64, u64)]) -> bool
 fn copy_answer<A: Allocator, B: Allocator + Copy>(
     alloc: B,
     answer: &Option<Answer<A>>,
-) -> Result<Option<Answer<B>>, AllocError>
+) -> Result<Option<Answer<B>>, Memory>
     ensures { IfOk result (λ copy. copy ≡ answer.now) }
 {
     match answer {
@@ -491,7 +492,7 @@ fn copy_answer<A: Allocator, B: Allocator + Copy>(
     }
 }
 
-/// The addresses of both answers are of their families' widths.
+/// The addresses of both answers fit their families' widths.
 pub fn are_addresses_in_range<A: Allocator>(timeline: &Timeline<A>)
     ensures six { All InRange (addresses_of timeline.now.aaaa) }
     ensures four { All InRange (addresses_of timeline.now.a) }

@@ -1,7 +1,7 @@
-//! The program `he`: it connects to a host as Happy Eyeballs has it, and records, replays and explains such races.
+//! The program `he`: a Happy Eyeballs client that connects to a host, and records, replays and explains such races.
 //!
-//! The crate `he_command` says what each command line does. Here are the program's words, its standard streams and its
-//! exit status.
+//! The crate `he_command` runs the command lines. This one has the program's words, its standard streams and its exit
+//! status.
 #![tactic(auto)]
 
 mod build;
@@ -22,8 +22,8 @@ fn main(rt: HostRuntime) -> ExitCode {
     ExitCode::from(run_program(&rt, &rt))
 }
 
-// Runs the command line that the program was started with, and answers the exit status. The runtime lends threads,
-// sockets and waiting in `main` alone, so `main` hands it on as what lends them too.
+// Runs the command line that the program was started with, and returns the exit status. The runtime gives threads,
+// sockets and waiting only in `main`, so `main` passes it on as what gives them too.
 fn run_program<R>(rt: &HostRuntime, system: &R) -> u8
 where
     R: System,
@@ -31,25 +31,13 @@ where
     if let Err(error) = open_standard(rt) {
         return report_path(rt.alloc(), NULL_DEVICE, error, &mut rt.stderr());
     }
-    match words_of(rt) {
-        Ok(words) => run_texts(rt, system, words.as_slice()),
-        Err(error) if error.kind() == io::ErrorKind::OutOfMemory => report(
-            StreamFault::Memory,
-            &mut rt.stderr(),
-        ),
-        Err(_) => report_not_text(&mut rt.stderr()),
-    }
-}
-
-// The words that the program was started with.
-fn words_of(rt: &HostRuntime) -> io::Result<Vec<String>> {
-    Ok(env::args(rt)?.collect(rt.alloc())?)
-}
-
-fn run_texts<R>(rt: &HostRuntime, system: &R, words: &[String]) -> u8
-where
-    R: System,
-{
+    let words = match words_of(rt) {
+        Ok(words) => words,
+        Err(error) if error.kind() == io::ErrorKind::OutOfMemory => {
+            return report(StreamFault::Memory, &mut rt.stderr());
+        }
+        Err(_) => return report_not_text(&mut rt.stderr()),
+    };
     let texts = words
         .iter()
         .map(|word| word.as_str())
@@ -60,7 +48,12 @@ where
     }
 }
 
-// Runs the command line. Where it is to take a text from a terminal, that is told first.
+// The words that the program was started with.
+fn words_of(rt: &HostRuntime) -> io::Result<Vec<String>> {
+    Ok(env::args(rt)?.collect(rt.alloc())?)
+}
+
+// Runs the command line. If it will read a text from a terminal, prints that first.
 fn run_words_of<R>(rt: &HostRuntime, system: &R, words: &[&str]) -> u8
 where
     R: System,

@@ -1,4 +1,4 @@
--- How the faults of a timeline's builder, of a policy table and of a host are told in a text.
+-- The text faults that correspond to the faults of a timeline's builder, of a policy table and of a host.
 use Rattle.he_timeline.specs.declared.builder.BuildFault.{BuildFault}
 use Rattle.he_timeline.specs.declared.builder.BuildFault.TheVariants as faults
 use Rattle.he_select.specs.declared.policy.PolicyFault.{PolicyFault}
@@ -8,7 +8,7 @@ use Rattle.he_select.specs.declared.host.HostFault.TheVariants as hosts
 use Rattle.he_words.specs.declared.fault.TextKind.{TextKind}
 use Rattle.he_words.specs.declared.fault.TextKind.TheVariants as kinds
 
--- how the faults of a timeline's builder are told
+-- the text fault for a fault of a timeline's builder
 abbrev pub kind_of : BuildFault → TextKind
 kind_of faults.Answered = kinds.Repeated
 kind_of faults.Range = kinds.Range
@@ -17,7 +17,7 @@ kind_of faults.Stranger = kinds.Address
 kind_of faults.Repeated = kinds.Repeated
 kind_of faults.Memory = kinds.Memory
 
--- how the faults of a policy table and of a host are told
+-- the text fault for a fault of a policy table, and of a host
 abbrev pub table_kind : PolicyFault → TextKind
 table_kind tables.Size = kinds.TooMany
 table_kind (tables.Repeated place) = kinds.Repeated

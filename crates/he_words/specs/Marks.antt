@@ -1,4 +1,4 @@
--- How what became of a connect is spelled, and the marks of sources and routes.
+-- How the outcome of a connect is spelled, and the marks of sources and routes.
 use Rattle.std.specs.Prelude.{ℕ, Bool, List, [], ◌∷◌, ◌++◌, if◌then◌else◌, codes}
 use Rattle.he_select.specs.declared.host.Source.{Source}
 use Rattle.he_select.specs.declared.host.Route.{Route}
@@ -9,7 +9,7 @@ abbrev pub mark_text : Outcome → List ℕ
 mark_text (outcomes.Ok ticks) = codes "ok"
 mark_text (outcomes.Fail ticks) = codes "fail"
 
--- a token that stands where a mark is set
+-- the token of a mark that is set
 abbrev pub marked : Bool → List ℕ → List (List ℕ)
 marked is token = if is then token ∷ [] else []
 

@@ -1,4 +1,4 @@
--- The words of timeline texts: how they are spelled, and the groups in which their lines stand.
+-- The words of timeline texts: their spellings, and the groups of their lines.
 use Rattle.std.specs.Prelude.{ℕ, ◌==◌, List, [], ◌∷◌, Bool, true, false, Option, Some, None, find, codes, Result, Ok, Err, if◌then◌else◌, nat_le}
 use Rattle.std.specs.Str.{bytes_eq}
 use Rattle.he_select.specs.Ranges.{most_rows, most_sources, most_routes}
@@ -13,7 +13,7 @@ use Rattle.he_words.specs.declared.words.Word.TheVariants.{Set, Policy, Source, 
 use Rattle.he_words.specs.declared.words.Name.{Name}
 use Rattle.he_words.specs.declared.words.Name.TheVariants.{Resolution, Attempt, Count, Limit, Floor}
 
--- the groups of lines behind the first one, in the order in which they stand
+-- the groups of the lines after the first one, in their order
 abbrev pub group_of : Word → ℕ
 group_of Set = 1
 group_of Policy = 2
@@ -61,7 +61,7 @@ abbrev pub is_end : Word → Bool
 is_end End = true
 is_end _ = false
 
--- the most lines of a word, and the fault of one more
+-- the maximum number of lines of a word, and the fault of a further line
 abbrev pub most_lines : Word → Option (ℕ × TextKind)
 most_lines Policy = Some (most_rows, kinds.TooMany)
 most_lines Source = Some (most_sources, kinds.TooMany)
@@ -71,13 +71,13 @@ most_lines A = Some (most_answers, kinds.Repeated)
 most_lines Pause = Some (MAX_PAUSES, kinds.TooMany)
 most_lines _ = None
 
--- the word that a token spells
+-- the word that a token spells; None if it spells none
 unfoldable pub word_in : List ℕ → Option Word
 word_in token =
     find (λ word. bytes_eq token (spelling_of word))
     (Set ∷ Policy ∷ Source ∷ Route ∷ Aaaa ∷ A ∷ Rtt ∷ Used ∷ Connect ∷ Pause ∷ End ∷ [])
 
--- the setting that a token names
+-- the setting that a token names; None if it names none
 unfoldable pub name_in : List ℕ → Option Name
 name_in token = find (λ name. bytes_eq token (name_spelling name)) (Resolution ∷ Attempt ∷ Count ∷ Limit ∷ Floor ∷ [])
 
@@ -85,13 +85,13 @@ name_in token = find (λ name. bytes_eq token (name_spelling name)) (Resolution 
 abbrev pub is_head_word : Word → Bool
 is_head_word word = nat_le (group_of word) 4
 
--- the version that a first line tells
+-- the version in a first line
 abbrev pub header_in : List ℕ → Result Version TextKind
 header_in line =
     if bytes_eq line (header_of One) then Ok One else if bytes_eq line (header_of Two) then Ok Two
     else Err kinds.Header
 
--- the least and the greatest value of a setting
+-- the minimum and the maximum value of a setting
 abbrev pub least_value : Name → ℕ
 least_value Resolution = 0
 least_value Attempt = MIN_ATTEMPT

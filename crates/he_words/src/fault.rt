@@ -1,4 +1,4 @@
-// What is wrong with a text, and where.
+// The first fault of a text, and its line.
 
 ghost use Rattle.std.specs.Prelude.{◌≡◌};
 ghost use Rattle.he_words.specs.declared.fault.TextKind.TheVariants as kinds;
@@ -9,44 +9,44 @@ use he_timeline::{BuildFault, Range};
 use std::alloc::{AllocError, AllocFailed};
 use thiserror::Error;
 
-/// What the first wrong thing of a text is. The lines are counted from 1, and the least line decides; on one line the
-/// first of the checks that a line undergoes.
+/// The kind of a text's first fault. Lines count from 1. The first faulty line decides; within a line, the first
+/// check that fails.
 #[derive(Clone, Copy, Debug, PartialEq, Eq, Error)]
 pub enum TextKind {
     /// The first line of a race is neither `race 1` nor `race 2`.
     #[error("header")]
     Header,
-    /// A line begins with no word of its group or a later one, has too few or too many tokens, or a token is none of
-    /// the keywords that may stand there.
+    /// A line begins with no word of its group or a later one, has too few or too many tokens, or has a token that is
+    /// none of the keywords allowed there.
     #[error("word")]
     Word,
-    /// A number isn't one to ten decimal digits without leading zeros.
+    /// A number is not one to ten decimal digits without leading zeros.
     #[error("number")]
     Number,
-    /// An address isn't one, is of the wrong family for its answer, stands in no answer, or is a source's and not
+    /// An address is malformed, is of the wrong family for its answer, is in no answer, or is a source's and not
     /// usable.
     #[error("address")]
     Address,
-    /// A prefix or a source isn't one.
+    /// A prefix or a source is malformed.
     #[error("prefix")]
     Prefix,
-    /// Something is given twice that may be given once.
+    /// Something that may be given only once is given twice.
     #[error("repeated")]
     Repeated,
     /// A number is out of its range, a pause overlaps the one before, or the floor is above the attempt delay.
     #[error("range")]
     Range,
-    /// A line is too long, or there is one line or address more than there may be.
+    /// A line is too long, or there are too many lines or addresses.
     #[error("too many")]
     TooMany,
     /// The text ends inside a race.
     #[error("unfinished")]
     Unfinished,
-    /// The rows of the policy table, of which this line is the last, are no table: `NoDefault`, `NoMapped` or
-    /// `SharedPrecedence`. The rows are counted from 0.
+    /// The rows of the policy table, of which this line is the last, are not a table: `NoDefault`, `NoMapped` or
+    /// `SharedPrecedence`. Rows count from 0.
     #[error("{0}")]
     Policy(PolicyFault),
-    /// Memory was refused while the line was read. It says nothing of the line.
+    /// An allocation failed while the line was read; the line may be correct.
     #[error("out of memory")]
     Memory,
 }
@@ -57,7 +57,7 @@ pub enum TextKind {
 pub struct TextFault {
     /// The line, counted from 1.
     pub line: u64,
-    /// What is wrong with it.
+    /// The kind of the fault.
     pub kind: TextKind,
 }
 

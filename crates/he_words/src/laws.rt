@@ -5,7 +5,7 @@ ghost use Rattle.he_words.specs.declared.limits.TheConstants.{MAX_LINE, MAX_ANSW
 ghost use Rattle.he_select.specs.Ranges.{least_interface};
 ghost use Rattle.he_words.specs.Ranges.{line_end, token_end, most_line_bytes, most_answers, most_source_marks, most_route_marks, most_u16, least_pause_end, most_races};
 
-/// The program's constants are the numbers of the definitions (`specs/Ranges`). Runs nothing.
+/// The constants of the code are those of the definitions (`specs/Ranges`). Runs nothing.
 pub fn ranges()
     ensures bytes { (LINE_END ≡ line_end) × (TOKEN_END ≡ token_end) }
     ensures lines { (MAX_LINE ≡ most_line_bytes) × (MAX_ANSWERS ≡ most_answers) }

@@ -1,9 +1,10 @@
-//! Words, numbers and faults of timeline texts: what reading and writing them have in common.
+//! Words, numbers and faults of timeline texts, shared by the code that reads them and the code that writes them.
 //!
-//! Each line of a race after the first one begins with a [`Word`]; `set` is followed by the [`Name`] of a setting; the
-//! first line has the [`Version`]. [`TextFault`] is a line of a text, counted from 1, with what is wrong there.
+//! Each line of a race after the first one begins with a [`Word`]. `set` is followed by the [`Name`] of a setting.
+//! The first line has the [`Version`]. [`TextFault`] is the first fault of a text: its line, counted from 1, and its
+//! kind.
 //!
-//! Proved: words are read and spelled as `specs/Words` says, and the constants of `limits` are the numbers of
+//! Proved: words are read and spelled as `specs/Words` defines, and the constants of `limits` are those of
 //! `specs/Ranges` (`laws::ranges`).
 #![tactic(auto)]
 

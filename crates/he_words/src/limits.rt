@@ -1,4 +1,4 @@
-// The bytes that part a text, and the limits of texts. Those of a race stand with its timeline.
+// The separators and limits of texts. The limits of a race are those of its timeline.
 
 /// The byte after each line.
 pub const LINE_END: u8 = b'\n';
@@ -6,32 +6,32 @@ pub const LINE_END: u8 = b'\n';
 /// The byte between two tokens of a line.
 pub const TOKEN_END: u8 = b' ';
 
-/// The most bytes of a line, its line end not counted.
+/// The maximum length of a line in bytes, without its line end.
 pub const MAX_LINE: usize = 16_384;
 
-/// The greatest precedence of a policy row.
+/// The maximum precedence of a policy row.
 pub const MAX_PRECEDENCE: u64 = 65_535;
 
-/// The greatest label of a policy row.
+/// The maximum label of a policy row.
 pub const MAX_LABEL: u64 = 65_535;
 
-/// The least number of an interface.
+/// The minimum number of an interface.
 pub const MIN_INTERFACE: u64 = 1;
 
-/// The greatest number of an interface.
+/// The maximum number of an interface.
 pub const MAX_INTERFACE: u64 = 65_535;
 
-/// The most marks of a source: `deprecated` and `temporary`.
+/// The maximum number of marks of a source: `deprecated` and `temporary`.
 pub const SOURCE_MARKS: usize = 2;
 
-/// The most marks of a route: `tunnel`.
+/// The maximum number of marks of a route: `tunnel`.
 pub const ROUTE_MARKS: usize = 1;
 
-/// The most lines with the answer of one family.
+/// The maximum number of answers of one family, each on one line.
 pub const MAX_ANSWERS: usize = 1;
 
-/// The least first tick after a pause.
+/// The minimum end of a pause: the first tick after it.
 pub const MIN_PAUSE_END: u64 = 1;
 
-/// The most races of a text.
+/// The maximum number of races in a text.
 pub const MOST_RACES: usize = 4_096;

@@ -19,7 +19,7 @@ pub enum Version {
 }
 
 impl Version {
-    /// The version in the first line of a race.
+    /// Reads the version from the first line of a race.
     pub fn read(line: &[u8]) -> Result<Version, TextKind>
         ensures { result ≡ header_in line.now }
     {
@@ -43,7 +43,7 @@ impl Version {
     }
 }
 
-/// The words that begin a line after the first one, in the order in which the lines of a race stand.
+/// The words that begin a line after the first one, in the order of the lines of a race.
 #[derive(Clone, Copy, Debug, PartialEq, Eq)]
 pub enum Word {
     Set,
@@ -59,12 +59,11 @@ pub enum Word {
     End,
 }
 
-// The last group of the lines that say where a race runs: all that a timeline is made with. What happens in it
-// follows.
+// The last group of the lines that set up a race: its settings, policy table and host. The events of the race follow.
 const LAST_HEAD_GROUP: u8 = 4;
 
 impl Word {
-    /// The word that a token spells.
+    /// The word that a token spells; None if it spells none.
     #[tactic(auto, unfolding(crate::specs::Words::word_in))]
     pub fn read(token: &[u8]) -> Option<Word>
         ensures { result ≡ word_in token.now }
@@ -96,7 +95,7 @@ impl Word {
         }
     }
 
-    /// How it is spelled.
+    /// The spelling of the word.
     pub fn spelling(self) -> &'static str
         ensures { result.now ≡ spelling_of self }
     {
@@ -115,7 +114,7 @@ impl Word {
         }
     }
 
-    /// The place of its lines among those of a race, from 1 on.
+    /// The place of the word's lines among those of a race, from 1 on.
     pub fn group(self) -> u8
         ensures { result ≡ group_of self }
     {
@@ -134,14 +133,14 @@ impl Word {
         }
     }
 
-    /// Whether its lines stand before all that happens in the race.
+    /// Whether the word's lines set up the race, before its events.
     pub fn is_head(self) -> bool
         ensures { result ≡ is_head_word self }
     {
         self.group() <= LAST_HEAD_GROUP
     }
 
-    /// Whether it is this word.
+    /// Whether it is the given word.
     pub fn is(self, word: Word) -> bool
         ensures { result ≡ same_word word self }
     {
@@ -158,7 +157,7 @@ impl Word {
         }
     }
 
-    /// The most lines of a race that begin with it, if there is a bound, and the fault of one more.
+    /// The maximum number of lines of a race that begin with it, if there is one, and the fault of a further line.
     pub fn most_lines(self) -> Option<(usize, TextKind)>
         ensures { result ≡ most_lines self }
     {
@@ -173,7 +172,7 @@ impl Word {
     }
 }
 
-/// The settings' names.
+/// The names of the settings.
 #[derive(Clone, Copy, Debug, PartialEq, Eq)]
 pub enum Name {
     Resolution,
@@ -184,7 +183,7 @@ pub enum Name {
 }
 
 impl Name {
-    /// The least value of the setting.
+    /// The minimum value of the setting, in ticks except for `Count`.
     pub fn least(self) -> u64
         ensures { result ≡ least_value self }
     {
@@ -197,7 +196,8 @@ impl Name {
         }
     }
 
-    /// The greatest value of the setting. A floor is also at most the race's attempt delay.
+    /// The maximum value of the setting, in ticks except for `Count`. A floor is also at most the race's attempt
+    /// delay.
     pub fn most(self) -> u64
         ensures { result ≡ most_value self }
     {
@@ -210,7 +210,7 @@ impl Name {
         }
     }
 
-    /// The setting that a token names.
+    /// The setting that a token names; None if it names none.
     #[tactic(auto, unfolding(crate::specs::Words::name_in))]
     pub fn read(token: &[u8]) -> Option<Name>
         ensures { result ≡ name_in token.now }

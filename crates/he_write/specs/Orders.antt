@@ -1,4 +1,5 @@
--- The text of an order: the addresses of a race as they would be tried if all were there (RFC 6724 section 6).
+-- The text of an order: the addresses of a race in the order in which they would be tried if all had come (RFC 6724
+-- section 6).
 use Rattle.std.specs.Prelude.{ℕ, ◌+◌, List, [], ◌∷◌, ◌++◌, decimal, Option, Some, None, codes}
 use Rattle.he_addr.specs.declared.ip.Ip.{Ip}
 use Rattle.he_addr.specs.Printing.{printed}
@@ -8,7 +9,7 @@ use Rattle.he_select.specs.declared.host.Source.{Source}
 use Rattle.he_select.specs.Selection.{SelectionInput, source_of}
 use Rattle.he_write.specs.Written.{written_line}
 
--- the source that the host uses for an address, if it reaches it
+-- the source that the host uses for an address; `none` if the host doesn't reach it
 abbrev pub from_text : Option Source → List ℕ
 from_text None = codes "none"
 from_text (Some source) = printed source.ip

@@ -1,4 +1,4 @@
--- The texts that are written.
+-- The texts that the writers append.
 use Rattle.std.specs.Prelude.{ℕ, true, false, List, [], ◌∷◌, ◌++◌, map, decimal, Option, Some, None, codes}
 use Rattle.std.specs.List.{flat_map, join_with_byte}
 use Rattle.he_addr.specs.declared.ip.Ip.{Ip}
@@ -23,11 +23,11 @@ use Rattle.he_words.specs.Words.{header_of}
 use Rattle.he_words.specs.Marks.{mark_text, source_marks, route_marks}
 use Rattle.he_addr.specs.Printing.{printed, source_text, prefix_text}
 
--- a line: its tokens parted by single spaces, and a line end
+-- a line: its tokens separated by single spaces, and a line end
 abbrev pub written_line : List (List ℕ) → List ℕ
 written_line tokens = join_with_byte token_end tokens ++ line_end ∷ []
 
--- what became of an attempt
+-- the mark and the tick of an attempt
 abbrev pub fate_text : Mark → List (List ℕ)
 fate_text (marks.Won tick) = codes "won" ∷ decimal tick ∷ []
 fate_text (marks.Failed tick) = codes "failed" ∷ decimal tick ∷ []
@@ -66,11 +66,11 @@ abbrev pub floor_text : Option ℕ → List ℕ
 floor_text None = []
 floor_text (Some floor) = setting_text (codes "floor") floor
 
--- all settings, the floor where there is one
+-- all settings, with the floor if there is one
 abbrev pub settings_text : SettingValues → List ℕ
 settings_text settings = delays_text settings ++ (bounds_text settings ++ floor_text settings.floor)
 
--- the version whose words the race needs: 2 where it has a floor, a round trip time or an address used before
+-- the least version that has the race's words: 2 if it has a floor, a round trip time or an address used before
 abbrev pub version_for : Option ℕ → List (Ip × ℕ) → List Ip → Version
 version_for None [] [] = One
 version_for _ _ _ = Two
@@ -100,7 +100,7 @@ host_route_text route =
 abbrev pub host_text : HostLists → List ℕ
 host_text host = flat_map host_source_text host.sources ++ flat_map host_route_text host.routes
 
--- what address selection looks at: the policy table, all its rows, and the host
+-- the input of address selection: the policy table, all its rows, and the host
 abbrev pub selection_text : Race → List ℕ
 selection_text race = flat_map row_text race.policy ++ host_text race.host
 

@@ -1,7 +1,7 @@
 //! Writing timelines, transcripts and orders to texts.
 //!
 //! Proved: [`write_timeline`], [`write_transcript`] and [`write_order`] append exactly the texts of `specs/Written`
-//! and `specs/Orders`, and leave the vector as it was when they are refused memory.
+//! and `specs/Orders`, and leave the vector unchanged if an allocation fails.
 #![tactic(auto)]
 
 pub mod orders;

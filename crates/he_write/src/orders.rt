@@ -1,4 +1,4 @@
-// Orders of addresses written to texts.
+// Writes orders of addresses to texts.
 
 ghost use Rattle.std.specs.Prelude.{◌≡◌, ◌+◌, ◌≤◌, ◌++◌, length, Some, OnOk, OnErr};
 ghost use Rattle.he_addr.specs.Prepending.{Prepends};
@@ -14,12 +14,12 @@ use he_timeline::Timeline;
 use he_words::{LINE_END, TOKEN_END};
 use std::alloc::Allocator;
 
-// The most bytes of what tells the source in a line: ` from `, an address and the line's end.
+// The maximum length of a line's end, in bytes: ` from `, the source's address and the line's end.
 const ORIGIN_LEN: usize = 46;
 
-// The lines of an order are made in a buffer, as those of attempts are.
+// The lines of an order are built in a buffer, like those of attempts.
 
-// from SOURCE, behind a space, and the line's end.
+// from SOURCE, after a space, and the line's end.
 fn prepend_from(source: Ip, buffer: &mut [u8], end: usize) -> usize
     requires { (ORIGIN_LEN ≤ end) × (end ≤ length buffer.old) }
     ensures written { Prepends buffer.old end buffer.new result (origin_text (Some source)) }
@@ -30,7 +30,7 @@ fn prepend_from(source: Ip, buffer: &mut [u8], end: usize) -> usize
     prepend_bytes(b" from ", buffer, address)
 }
 
-// from SOURCE or from none, behind a space, and the line's end.
+// from SOURCE or from none, after a space, and the line's end.
 fn prepend_origin(source: Option<Ip>, buffer: &mut [u8], end: usize) -> usize
     requires { (ORIGIN_LEN ≤ end) × (end ≤ length buffer.old) }
     ensures written { Prepends buffer.old end buffer.new result (origin_text source) }
@@ -89,10 +89,10 @@ fn write_whole<A: Allocator + Copy, B: Allocator>(
     write_line(b"end", &[], out)
 }
 
-/// Appends the text of the order in which the race's addresses would be tried if all of them were there (RFC 6724
-/// section 6): the usable addresses of both answers, whatever their ticks, sorted and not interlaced, each as `N
-/// ADDRESS from SOURCE` with N from 0, or `N ADDRESS from none` where the host can't reach it, and then `end`. After
-/// `Memory` the vector holds what it held.
+/// Appends the order in which the race's addresses would be tried if all had come (RFC 6724 section 6): the usable
+/// addresses of both answers, at whichever ticks these come, sorted and not interlaced, each as `N ADDRESS from
+/// SOURCE` with N from 0, or `N ADDRESS from none` if the host can't reach it, and then `end`. On `Memory` the vector
+/// is unchanged.
 pub fn write_order<A: Allocator + Copy, B: Allocator>(
     alloc: A,
     timeline: &Timeline<B>,

@@ -1,4 +1,4 @@
-// Timelines written to texts.
+// Writes timelines to texts.
 
 ghost use Rattle.std.specs.Prelude.{◌≡◌, ◌++◌, OnOk, OnErr};
 ghost use Rattle.std.specs.List.{flat_map};
@@ -63,7 +63,7 @@ fn write_settings<A: Allocator + Copy>(
     write_limits(settings, out)
 }
 
-// The version whose words the timeline needs.
+// The least version that has the words that the timeline needs.
 fn version<B: Allocator>(timeline: &Timeline<B>) -> Version
     ensures { result ≡ version_of timeline.now }
 {
@@ -256,7 +256,7 @@ fn write_all_used<A: Allocator + Copy>(ips: &[Ip], out: &mut Vec<u8, A>) -> Resu
     Ok(())
 }
 
-// What is known of addresses from earlier.
+// The knowledge of addresses from earlier connections.
 fn write_history<A: Allocator + Copy, B: Allocator>(
     timeline: &Timeline<B>,
     out: &mut Vec<u8, A>,
@@ -351,7 +351,7 @@ fn write_events<A: Allocator + Copy, B: Allocator>(
     write_told_and_known(timeline, out)
 }
 
-// All that stands behind the settings.
+// Everything after the settings.
 fn write_rest<A: Allocator + Copy, B: Allocator>(
     timeline: &Timeline<B>,
     out: &mut Vec<u8, A>,
@@ -387,11 +387,11 @@ fn write_whole<A: Allocator + Copy, B: Allocator>(
     write_line(b"end", &[], out)
 }
 
-/// Appends the text of a timeline: `race 2` where it has a floor, a round trip time or an address used before, else
-/// `race 1`; its four settings, and the floor if there is one; all rows of its policy table with prefixes in IPv6
-/// form, the host's sources and its routes, those for IPv4 in IPv4 form, the answers that there are, the round trip
-/// times, the addresses used before, the outcomes and the pauses in the order in which they were given, and `end`.
-/// After `Memory` the vector holds what it held.
+/// Appends the text of a timeline: `race 2` if it has a floor, a round trip time or an address used before, otherwise
+/// `race 1`; its four settings, and the floor if there is one; all rows of its policy table, with prefixes in IPv6
+/// form; the host's sources and its routes, those for IPv4 in IPv4 form; the answers; the round trip times, the
+/// addresses used before, the outcomes and the pauses, in the order given; and `end`. On `Memory` the vector is
+/// unchanged.
 pub fn write_timeline<A: Allocator + Copy, B: Allocator>(
     timeline: &Timeline<B>,
     out: &mut Vec<u8, A>,

@@ -1,4 +1,4 @@
-// Transcripts written to texts.
+// Writes transcripts to texts.
 
 ghost use Rattle.std.specs.Prelude.{◌≡◌, ◌+◌, ◌≤◌, ◌++◌, length, OnOk, OnErr};
 ghost use Rattle.he_addr.specs.Prepending.{Prepends};
@@ -12,13 +12,13 @@ use he_plan::{Line, Mark, Outcome3, Transcript};
 use he_words::{LINE_END, TOKEN_END};
 use std::alloc::Allocator;
 
-// The most bytes of what became of an attempt: ` cancelled `, a number and the line's end.
+// The maximum length of an attempt's mark, in bytes: ` cancelled `, a number and the line's end.
 const MARK_LEN: usize = 32;
 
-// The most bytes of the beginning of an attempt's line: `attempt `, two numbers, each with a space.
+// The maximum length of the beginning of an attempt's line, in bytes: `attempt `, and two numbers, each with a space.
 const START_LEN: usize = 50;
 
-// Lines of attempts are nearly all that is written, so they are not written as lists of tokens: a line is made in a
+// Nearly all lines written are those of attempts, so these are not written as lists of tokens: a line is built in a
 // buffer, from its end to its front, and appended at once.
 
 // A label, a number and the line's end.
@@ -33,7 +33,7 @@ fn prepend_last(label: &[u8], number: u64, buffer: &mut [u8], end: usize) -> usi
     prepend_bytes(label, buffer, digits)
 }
 
-// MARK TICK, behind a space, and the line's end.
+// MARK TICK, after a space, and the line's end.
 fn prepend_mark(mark: Mark, buffer: &mut [u8], end: usize) -> usize
     requires { (MARK_LEN ≤ end) × (end ≤ length buffer.old) }
     ensures written { Prepends buffer.old end buffer.new result (mark_end mark) }
@@ -46,7 +46,7 @@ fn prepend_mark(mark: Mark, buffer: &mut [u8], end: usize) -> usize
     }
 }
 
-// attempt PLACE START, and the space behind it.
+// attempt PLACE START, and the space after it.
 fn prepend_start(place: u64, tick: u64, buffer: &mut [u8], end: usize) -> usize
     requires { (START_LEN ≤ end) × (end ≤ length buffer.old) }
     ensures { Prepends buffer.old end buffer.new result (start_text place tick) }
@@ -127,7 +127,7 @@ fn write_whole<A: Allocator + Copy, B: Allocator>(
 
 /// Appends the text of a transcript: for each attempt, by place, `attempt PLACE START ADDRESS MARK TICK`, where MARK
 /// is `won`, `failed` or `cancelled`, and then `won PLACE TICK`, `exhausted TICK` or `limit TICK`, each with a line
-/// end. After `Memory` the vector holds what it held.
+/// end. On `Memory` the vector is unchanged.
 pub fn write_transcript<A: Allocator + Copy, B: Allocator>(
     transcript: &Transcript<B>,
     out: &mut Vec<u8, A>,

@@ -1,4 +1,4 @@
-// Lines written to a text.
+// Writes lines to a text.
 
 ghost use Rattle.std.specs.Prelude.{◌≡◌, ◌++◌, ◌∷◌, [], decimal, map, OnOk, OnErr};
 ghost use Rattle.he_addr.specs.Printing.{printed};
@@ -11,12 +11,13 @@ use he_select::Source;
 use he_words::{LINE_END, TOKEN_END};
 use std::alloc::Allocator;
 
-// The most bytes of a line that is made in a buffer. The longest is that of an attempt, `attempt PLACE START ADDRESS
-// cancelled TICK`: 8 and 11 bytes of words with their spaces, two more spaces, the line's end, three numbers of at
-// most 20 digits and an address of at most 39 bytes are 121. It is cleared for each line, so it has no room to spare.
+// The maximum length of a line that is built in a buffer, in bytes. The longest is that of an attempt, `attempt PLACE
+// START ADDRESS cancelled TICK`: 8 and 11 bytes of words with their spaces, two more spaces, the line's end, three
+// numbers of at most 20 digits and an address of at most 39 bytes are 121. The buffer is cleared for each line, so it
+// has no room to spare.
 pub(crate) const LINE_ROOM: usize = 121;
 
-// A token of a line. What takes more room than two words is borrowed: a line is a list of tokens.
+// A token of a line. Values larger than two words are borrowed: a line is a list of tokens.
 #[derive(Clone, Copy)]
 pub(crate) enum Token<'t> {
     Word(&'t [u8]),
@@ -26,7 +27,7 @@ pub(crate) enum Token<'t> {
     Source(&'t Source),
     // A prefix in IPv6 form.
     Prefix(&'t Prefix),
-    // A prefix, in IPv4 form where it holds IPv4 addresses.
+    // A prefix, in IPv4 form if it has only IPv4 addresses.
     Dotted(&'t Prefix),
 }
 
@@ -38,7 +39,7 @@ pub(crate) fn write_bytes<A: Allocator + Copy>(
     ensures ok { OnOk result (out.new.items ≡ out.old.items ++ bytes.now) }
     ensures err { OnErr result (out.new.items ≡ out.old.items) }
 {
-    out.extend_from_slice(bytes).map_err(|_| Memory)
+    out.extend_from_slice(bytes)
 }
 
 #[inline(always)]
@@ -64,7 +65,7 @@ fn write_token<A: Allocator + Copy>(token: Token, out: &mut Vec<u8, A>) -> Resul
     }
 }
 
-// A space, and the token.
+// A space and the token.
 #[inline(always)]
 fn write_spaced<A: Allocator + Copy>(token: Token, out: &mut Vec<u8, A>) -> Result<(), Memory>
     ensures { AppendsText result out.old.items out.new.items (32 ∷ token_text token.entry) }
@@ -73,7 +74,7 @@ fn write_spaced<A: Allocator + Copy>(token: Token, out: &mut Vec<u8, A>) -> Resu
     write_token(token, out)
 }
 
-// The tokens, each behind a space.
+// The tokens, each after a space.
 #[inline(always)]
 fn write_tokens<A: Allocator + Copy>(tokens: &[Token], out: &mut Vec<u8, A>) -> Result<(), Memory>
     ensures { AppendsText result out.old.items out.new.items (spaced (map token_text tokens.now)) }
@@ -84,7 +85,7 @@ fn write_tokens<A: Allocator + Copy>(tokens: &[Token], out: &mut Vec<u8, A>) -> 
     Ok(())
 }
 
-// The addresses, each behind a space.
+// The addresses, each after a space.
 fn write_addresses<A: Allocator + Copy>(ips: &[Ip], out: &mut Vec<u8, A>) -> Result<(), Memory>
     ensures { AppendsText result out.old.items out.new.items (spaced (map printed ips.now)) }
 {

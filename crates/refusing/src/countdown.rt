@@ -1,8 +1,8 @@
 // A count of calls, one of which is due.
 use std::sync::atomic::{AtomicU64, Ordering};
 
-// The most calls that may stand before the due one. The word holds how many do, and more than this once the due one
-// is past, since it then goes on below 0 and round.
+// The most calls before the due one. The word holds their number; after the due call it wraps around below 0, to more
+// than this.
 const MOST_LEFT: u64 = u64::MAX / 2;
 
 pub(crate) struct Countdown {
@@ -10,20 +10,20 @@ pub(crate) struct Countdown {
 }
 
 impl Countdown {
-    // No call is due for as long as the word lasts.
+    // No call is due until the word wraps around.
     pub(crate) fn new() -> Countdown {
         Countdown {
             left: AtomicU64::new(MOST_LEFT),
         }
     }
 
-    // The `nth` call from now on is due, the next being the first. At 0 none is.
+    // The `nth` call from now on is due, the next one being the first. At 0 none is.
     pub(crate) fn start(&self, nth: u64) {
         let left = nth.checked_sub(1).unwrap_or(MOST_LEFT).min(MOST_LEFT);
         self.left.store(left, Ordering::SeqCst);
     }
 
-    // Counts a call, and says whether it is the due one.
+    // Counts a call; true if it is the due one.
     pub(crate) fn is_due(&self) -> bool {
         self.left.fetch_sub(1, Ordering::SeqCst) == 0
     }

@@ -5,8 +5,8 @@ use crate::countdown::Countdown;
 use std::alloc::{AllocError, Allocator, Global};
 use std::fmt;
 
-/// An allocator that refuses one growth, and grants the others from `inner`. A growth is a call of `allocate`, and so
-/// are `grow` and `shrink`, which move the block. It is lent to what allocates, as a `&`.
+/// An allocator that refuses one growth, and grants the others from `inner`. A growth is a call of `allocate`, or of
+/// `grow` or `shrink`, which move the block. Code borrows it as its allocator, `&Refusing`.
 pub struct Refusing<B: Allocator = Global> {
     inner: B,
     countdown: Countdown,
@@ -15,7 +15,7 @@ pub struct Refusing<B: Allocator = Global> {
 impl<B: Allocator> Refusing<B> {
     ghost use Rattle.refusing.specs.Refusing.{inner_of};
 
-    /// It refuses nothing until `refuse` is called.
+    /// An allocator that refuses nothing until `refuse` is called.
     pub fn new(inner: B) -> Refusing<B>
         ensures { inner_of result ≡ inner }
     {
@@ -25,8 +25,8 @@ impl<B: Allocator> Refusing<B> {
         }
     }
 
-    /// From now on the `nth` growth is refused, counted from 1, and those before and after it are granted. At 0 none
-    /// is refused. What an earlier call asked is forgotten.
+    /// Refuses the `nth` growth from now on, counted from 1, and grants those before and after it. At 0 refuses none.
+    /// Replaces any earlier call.
     pub fn refuse(&self, nth: u64) {
         self.countdown.start(nth);
     }

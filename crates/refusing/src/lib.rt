@@ -1,7 +1,7 @@
-//! An allocator for tests, which refuses exactly one growth and grants all others.
+//! An allocator for tests that refuses exactly one growth and grants all others.
 //!
-//! Whatever allocates in Rattle may be told that there is no memory. A test of that hands a `&Refusing` to the code as
-//! its allocator, has each of its growths refused in turn, and looks at what the refusal left:
+//! Any allocation in Rattle may be refused. A test of this passes a `&Refusing` to the code as its allocator, has
+//! each of its growths refused in turn, and checks the state after the refusal:
 //!
 //! ```text
 //! let heap = Refusing::new(rt.alloc());
@@ -18,23 +18,23 @@
 //! assert!(rt; refused > 0);
 //! ```
 //!
-//! The closure makes what it changes anew in each run, on the heap, and what it only reads is made before, on
-//! `rt.alloc()`, where nothing is refused. It is proved with no proof file and no clause. What needs a `?` stands in a
-//! function of its own, which answers whether all is right, or `None` where memory was refused:
+//! The closure makes the values that it changes anew in each run, on the heap; the values that it only reads are made
+//! before, on `rt.alloc()`, which refuses nothing. It is proved with no proof file and no clause. Code that needs a
+//! `?` goes into a function of its own, which returns whether all is right, or `None` if memory was refused:
 //!
 //! ```text
 //! let refused = refused_in_turn(&heap, || is_written(&heap, address, expected));
 //! assert!(rt; refused.unwrap_or(0) > 0);
 //! ```
 //!
-//! A `&Refusing<Global>` is `Allocator + Copy + Send + Sync`, so threads may share it: of all their growths one is
-//! refused. A call of code over `A: Allocator + Send` asks that any thread may give a block back, which the check
-//! finds by itself, from `proofs/heap/RefusingAllocator/TheSendSync`.
+//! A `&Refusing<Global>` is `Allocator + Copy + Send + Sync`, so threads may share it: one of all their growths is
+//! refused. A call of code over `A: Allocator + Send` requires that any thread may give a block back; the check finds
+//! this by itself, from `proofs/heap/RefusingAllocator/TheSendSync`.
 //!
-//! Proved: what `Allocator` asks, so that a granted block is the inner allocator's, and each block goes back to it;
-//! and that the closure is run more often than `each_growth_refused` and `refused_in_turn` say, each run of the second
-//! being right or refused. Which growth is refused stands in an
-//! atomic word, of which no contract can speak, so that is tested only, in the crate `he_board_tests`.
+//! Proved: the clauses of `Allocator`, so that a granted block is the inner allocator's, and each block goes back to
+//! it; and that the closure is run more often than the results of `each_growth_refused` and `refused_in_turn`, each
+//! run of the latter being right or refused. An atomic word determines which growth is refused. No contract covers
+//! it, so that is only tested, in the crate `he_board_tests`.
 #![tactic(auto)]
 
 mod countdown;

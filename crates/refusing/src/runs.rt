@@ -9,8 +9,8 @@ use std::alloc::Allocator;
 pub const MOST_RUNS: u64 = 1_000;
 
 /// Calls `run` with its first growth on `heap` refused, then with its second, and so on up to a call that is granted
-/// all. Answers how many calls were refused one, or 0 if `MOST_RUNS` calls were: so a test asserts that it is above 0.
-/// Afterwards `heap` refuses nothing.
+/// all. Returns the number of calls that were refused one, or 0 if `MOST_RUNS` calls were: so a test asserts that it
+/// is above 0. Afterwards `heap` refuses nothing.
 pub fn each_growth_refused<B: Allocator, F: FnMut()>(heap: &Refusing<B>, mut run: F) -> u64
     requires { F.IsAlwaysCallable run }
     ensures few { result < MOST_RUNS }
@@ -28,9 +28,9 @@ pub fn each_growth_refused<B: Allocator, F: FnMut()>(heap: &Refusing<B>, mut run
     0
 }
 
-/// The same of a `make` that answers whether what it made is right, or `None` where memory was refused. Answers how
-/// many calls were refused a growth, up to the first that is granted all. `None` if a call made something wrong,
-/// answered `None` though all was granted, or if `MOST_RUNS` calls were refused one. Afterwards `heap` refuses
+/// Calls `make` in this way; `make` returns whether its result is right, or `None` if memory was refused. Returns the
+/// number of calls that were refused a growth, up to the first that is granted all. `None` if a result was wrong, if
+/// `make` returned `None` though all was granted, or if `MOST_RUNS` calls were refused one. Afterwards `heap` refuses
 /// nothing.
 pub fn refused_in_turn<B: Allocator, F: FnMut() -> Option<bool>>(
     heap: &Refusing<B>,

@@ -54,7 +54,7 @@ impl<'a> FakeReader<'a> {
         }
     }
 
-    /// The reader breaks where it would end: each read there fails.
+    /// The reader breaks instead of ending: each read after the last byte fails.
     pub fn broken(mut self) -> FakeReader<'a>
         ensures { result ≡ record self.entry { is_broken = true } }
     {
@@ -62,7 +62,7 @@ impl<'a> FakeReader<'a> {
         self
     }
 
-    /// The read of this number, counted from 0, answers `Interrupted` and gives nothing.
+    /// The read of this number, counted from 0, returns `Interrupted` and gives nothing.
     pub fn interrupted_at(mut self, read: u64) -> FakeReader<'a>
         ensures { result ≡ record self.entry { interrupted = Some read } }
     {
@@ -70,7 +70,7 @@ impl<'a> FakeReader<'a> {
         self
     }
 
-    /// How many reads there were, those that failed too.
+    /// The number of reads, failed ones included.
     pub fn reads(&self) -> u64
         ensures { result ≡ self.now.reads }
     {

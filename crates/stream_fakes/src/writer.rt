@@ -64,7 +64,7 @@ impl FakeWriter {
         }
     }
 
-    /// The writer takes at most so many bytes in all. After them a write fails.
+    /// The writer takes at most `most` bytes in all. After them a write fails.
     pub fn with_room(mut self, most: usize) -> FakeWriter
         ensures { result ≡ record self { most = most } }
     {
@@ -72,7 +72,7 @@ impl FakeWriter {
         self
     }
 
-    /// The writer takes at most so many bytes in one write.
+    /// The writer takes at most `step` bytes in one write.
     pub fn with_step(mut self, step: usize) -> FakeWriter
         requires { 0 < step }
         ensures { result ≡ record self { step = step } }
@@ -81,7 +81,7 @@ impl FakeWriter {
         self
     }
 
-    /// A write after the last byte that it takes answers that it took none, and does not fail.
+    /// A write after the last byte that it takes returns 0, and does not fail.
     pub fn taking_none(mut self) -> FakeWriter
         ensures { result ≡ record self { takes_none = true } }
     {
@@ -97,8 +97,8 @@ impl FakeWriter {
         self
     }
 
-    /// The call of this number answers `Interrupted` and does nothing. Writes and flushes are
-    /// counted together, from 0.
+    /// The call of this number returns `Interrupted` and does nothing. Writes and flushes are counted together, from
+    /// 0.
     pub fn interrupted_at(mut self, call: u64) -> FakeWriter
         ensures { result ≡ record self { interrupted = Some call } }
     {
@@ -106,28 +106,28 @@ impl FakeWriter {
         self
     }
 
-    /// What was written.
+    /// The bytes that were written.
     pub fn held(&self) -> &[u8]
         ensures { result.now ≡ self.now.held }
     {
         self.held.as_slice()
     }
 
-    /// How many writes and flushes there were, those that failed too.
+    /// The number of writes and flushes, failed ones included.
     pub fn calls(&self) -> u64
         ensures { result ≡ self.now.calls }
     {
         self.calls
     }
 
-    /// How many flushes succeeded.
+    /// The number of flushes that succeeded.
     pub fn flushes(&self) -> u64
         ensures { result ≡ self.now.flushes }
     {
         self.flushes
     }
 
-    // Counts the call, and fails where it is the one that is to be interrupted.
+    // Counts the call, and fails if it is the one to be interrupted.
     fn count_call(&mut self) -> Result<()>
         ensures counted { self.new ≡ record self.old { calls = next_count self.old.calls } }
         ensures err { OnErr result (self.old.interrupted ≡ Some self.old.calls) }

@@ -1,5 +1,5 @@
-// What happens in a race: the answers that come, what is known of an address from earlier, and what becomes of a
-// connect to it.
+// The events of a race: the answers, the knowledge of addresses from earlier connections, and the outcomes of
+// connects.
 
 ghost use Rattle.std.specs.Prelude.{◌≡◌, ◌<◌, ◌≤◌, ◌++◌, [], ◌∷◌, Ok, Err, true, length, IfOk, MatchResult};
 ghost use Rattle.he_addr.specs.declared.ip.Family.{Family};
@@ -17,7 +17,7 @@ use he_timeline::{Outcome, TimelineBuilder};
 use he_words::TextKind;
 use std::alloc::Allocator;
 
-// An address of the family.
+// Reads an address of the family.
 pub(crate) fn address(family: Family, token: &[u8]) -> Result<Ip, TextKind>
     ensures { result ≡ address_in family token.now }
 {
@@ -44,7 +44,7 @@ fn addresses<A: Allocator>(
     Ok(())
 }
 
-// Reads `none` alone, or so many addresses.
+// Reads `none` alone, or `count` addresses.
 #[tactic(auto, unfolding(crate::specs::Forms::listed_in))]
 pub(crate) fn listed<A: Allocator>(
     alloc: A,
@@ -66,8 +66,8 @@ pub(crate) fn listed<A: Allocator>(
     }
 }
 
-// What an answer's line gives: the tick, and the tokens that list the addresses, `count` of them, with the first one
-// of them by itself.
+// The parts of an answer's line: the tick; the `count` tokens that list the addresses; and the first of these by
+// itself.
 #[derive(Clone, Copy)]
 pub(crate) struct AnswerLine<'a> {
     pub(crate) tick: u64,
@@ -76,7 +76,7 @@ pub(crate) struct AnswerLine<'a> {
     pub(crate) count: usize,
 }
 
-// aaaa TICK none, aaaa TICK ADDRESS .. and the same of a, but for the addresses themselves
+// aaaa TICK none, aaaa TICK ADDRESS .., and the line of `a`; the addresses themselves are not read yet
 #[inline(always)]
 #[tactic(auto, unfolding(crate::specs::Forms::answer_in), using(crate::proofs::FormLaws::only_token))]
 pub(crate) fn answer(tokens: Tokens<'_>) -> Result<AnswerLine<'_>, TextKind>
@@ -107,7 +107,7 @@ pub(crate) fn answer(tokens: Tokens<'_>) -> Result<AnswerLine<'_>, TextKind>
     })
 }
 
-// In line: a call of it takes some thirty instructions more for each outcome.
+// Inlined: a call takes some thirty instructions more for each outcome.
 #[inline(always)]
 #[tactic(auto, unfolding(crate::specs::Forms::known_in))]
 fn known<A: Allocator + Copy>(token: &[u8], race: &TimelineBuilder<A>) -> Result<Ip, TextKind>

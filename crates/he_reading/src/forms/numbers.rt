@@ -6,7 +6,7 @@ ghost use Rattle.he_reading.specs.Forms.{number_from};
 use he_addr::read_number;
 use he_words::TextKind;
 
-// A number of a token that is to be from `low` to `high`. In line, as `known` of answers.rt.
+// Reads a number from `low` to `high`. Inlined, as `known` in answers.rt is.
 #[inline(always)]
 #[tactic(auto, unfolding(crate::specs::Forms::number_from))]
 pub(crate) fn number(low: u64, high: u64, token: &[u8]) -> Result<u64, TextKind>

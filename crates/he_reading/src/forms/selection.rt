@@ -1,4 +1,4 @@
-// What address selection looks at: the rows of the policy table, and the sources and routes of the host.
+// The input of address selection: the rows of the policy table, and the sources and routes of the host.
 
 ghost use Rattle.std.specs.Prelude.{◌≡◌, ◌≤◌, [], ◌∷◌};
 ghost use Rattle.he_addr.specs.Reading.{prefix_in};
@@ -15,7 +15,7 @@ use he_words::limits::{
     MAX_INTERFACE, MAX_LABEL, MAX_PRECEDENCE, MIN_INTERFACE, ROUTE_MARKS, SOURCE_MARKS,
 };
 
-// A number of at most 16 bits.
+// Reads a number of at most 16 bits.
 fn short(low: u64, high: u64, token: &[u8]) -> Result<u16, TextKind>
     requires { high ≤ u16.MAX }
     ensures { result ≡ number_from low high token.now }
@@ -23,8 +23,8 @@ fn short(low: u64, high: u64, token: &[u8]) -> Result<u16, TextKind>
     Ok(number(low, high, token)? as u16)
 }
 
-// The prefix that a token spells. Those of all addresses of a family are known by sight: most hosts have two default
-// routes and no other, and the reader takes some 450 instructions for each of them.
+// The prefix that a token spells. `::/0` and `0.0.0.0/0` are recognized without the reader: most hosts have two
+// default routes and no other, and the reader takes some 450 instructions for each of them.
 #[inline(always)]
 #[tactic(auto, using(crate::proofs::AllAddresses::all_six, crate::proofs::AllAddresses::all_four))]
 fn spelled_prefix(token: &[u8]) -> Option<Prefix>
@@ -59,7 +59,7 @@ pub(crate) fn row(tokens: Tokens) -> Result<Row, TextKind>
     })
 }
 
-// A usable address and the length of its prefix.
+// Reads a usable address and the length of its prefix.
 #[tactic(auto, unfolding(crate::specs::Forms::source_address_in))]
 fn source_address(token: &[u8]) -> Result<(Ip, u8), TextKind>
     ensures { result ≡ source_address_in token.now }
@@ -80,7 +80,7 @@ fn interface(token: &[u8]) -> Result<u16, TextKind>
     short(MIN_INTERFACE, MAX_INTERFACE, token)
 }
 
-// What the one mark of a source says.
+// Reads the only mark of a source.
 #[tactic(auto, unfolding(crate::specs::Forms::source_marks_in))]
 fn one_mark(only: &[u8]) -> Result<(bool, bool), TextKind>
     ensures { result ≡ source_marks_in (only.now ∷ []) }
