@@ -5,13 +5,15 @@
  * a signal handler. Texts are bytes with a length, and need no zero after them. Ticks are milliseconds from the start
  * of a race.
  *
- * WHAT IS PROVED of a function is stated at the function, by definitions beside the library's source. It holds if the
- * caller keeps to this: each pointer points to as much memory as its length says; the room that is written to, the
- * struct that is filled in and the text that is read do not overlap; and nothing else writes to them during the call.
- * A text or a room of length 0 may be a null pointer: that is tested, not proved.
+ * PROVED properties are listed at each function, by definitions beside the library's source. They hold if the caller
+ * keeps to this: each pointer points to as much memory as its length says; the room that is written to, the struct
+ * that is filled in and the text that is read do not overlap; and nothing else writes to them during the call. A text
+ * or a room of length 0 may be a null pointer: that is tested, not proved.
  *
  * TEXTS OF RACES. A text holds races, one after another. A race is a line `race 1` or `race 2`, then lines of the
  * kinds below, in this order, then a line `end`; each line ends with one line feed.
+ * Right before its first line a race may have lines that begin with `record`: when, for whom and why the race was
+ * recorded. They don't change the race.
  *
  *     set resolution 50               how long an IPv4 answer waits for the IPv6 one, 0 to 1000
  *     set attempt 250                 from one start to the next, 10 to 2000
@@ -46,20 +48,20 @@ extern "C" {
 #define HE_VERSION 10000
 uint32_t he_version(void);
 
-/* What a call returns. */
+/* The answer of a call. */
 enum he_answer {
     HE_DONE = 0,
     /* The text has a fault, which is reported. What comes before it was still written. */
     HE_FAULT = 1,
-    /* The room is too small. `length` is how many bytes are needed; the room is unchanged. */
+    /* The room is too small. `length` is the number of bytes needed; the room is unchanged. */
     HE_NO_ROOM = 2,
-    /* malloc refused. Nothing was written, and all members of the struct are 0. */
+    /* malloc failed. Nothing was written, and all members of the struct are 0. */
     HE_NO_MEMORY = 3,
     /* Only he_next: the record has more than one race. */
     HE_NOT_ONE = 4
 };
 
-/* What is wrong with the first faulty line of a text, by the first check that fails on it. */
+/* The kind of a fault: the first check that fails on the first faulty line of a text. */
 enum he_kind {
     HE_NO_FAULT = 0,
     HE_HEADER = 1,            /* the race does not begin with `race 1` or `race 2` */
@@ -75,35 +77,35 @@ enum he_kind {
     HE_NO_MAPPED_ROW = 11,    /* the policy table has no ::ffff:0:0/96 */
     HE_SHARED_PRECEDENCE = 12, /* a row inside ::ffff:0:0/96 has the precedence of one outside */
     HE_OTHER_POLICY = 13,     /* never reported: a policy row too many is HE_TOO_MANY, a prefix twice HE_REPEATED */
-    HE_MEMORY = 14            /* never reported: if malloc refuses, the answer is HE_NO_MEMORY, and the kind 0 */
+    HE_MEMORY = 14            /* never reported: if malloc fails, the answer is HE_NO_MEMORY, and the kind 0 */
 };
 
-/* What a call reports, besides its answer. */
+/* The details of a call, besides its answer. */
 struct he_told {
     uint64_t length; /* the number of bytes of the whole text to be written */
     uint64_t line;   /* the line of the fault, counted from 1; 0 if there is none */
     uint32_t kind;   /* an he_kind */
 };
 
-/* The transcripts, the orders or the explanations of a text, or how many races and lines it has. Each call writes into
- * `room` and reports in `told`.
+/* The transcripts, the orders or the explanations of a text, or its number of races and lines. Each call writes the
+ * text to `room`, and the details to `told`.
  *
  * Proved: unless the answer is HE_NO_MEMORY, the text to be written is, in full, the defined one: for each race up to
  * the text's first fault its transcript, its order, or an object that explains it (as `he explain --json` writes it,
  * in JSON, with `file` null), one after another; `line` and `kind` are those of that first fault. If and only if this
- * text fits, it is at the front of the room, and what is after it there stays; otherwise the answer is HE_NO_ROOM, and
- * the room is unchanged. The answer is HE_FAULT if and only if there is a fault and the room is large enough. he_check
- * writes `N races, M lines` if there is no fault.
+ * text fits, it is at the front of the room, and the rest of the room is unchanged; otherwise the answer is
+ * HE_NO_ROOM, and the room is unchanged. The answer is HE_FAULT if and only if there is a fault and the room is large
+ * enough. he_check writes `N races, M lines` if there is no fault.
  *
- * Tested only: what he_check says if there is a fault: its line and kind, the line itself with a mark below the part
- * that is wrong, and what was expected there. The slips that `he check` warns of are not reported.
+ * Tested only: the text of he_check if there is a fault: its line and kind, the line itself with a mark below the
+ * part that is wrong, and the form expected. The slips that `he check` warns of are not reported.
  */
 uint32_t he_replay(const uint8_t *text, size_t text_length, uint8_t *room, size_t room_length, struct he_told *told);
 uint32_t he_order(const uint8_t *text, size_t text_length, uint8_t *room, size_t room_length, struct he_told *told);
 uint32_t he_explain(const uint8_t *text, size_t text_length, uint8_t *room, size_t room_length, struct he_told *told);
 uint32_t he_check(const uint8_t *text, size_t text_length, uint8_t *room, size_t room_length, struct he_told *told);
 
-/* What to do next in a race that is under way. */
+/* The next action in a running race. */
 enum he_action {
     HE_START = 1,     /* connect to `address` now: the attempt at this `place` starts at `tick` */
     HE_WAIT = 2,      /* nothing is due before `tick`, unless something happens */
@@ -122,17 +124,17 @@ struct he_step {
     uint8_t address[16];  /* for a start, first byte first: 4 bytes of an IPv4 address, 16 of an IPv6 one; else 0 */
 };
 
-/* Says what is due at tick `now` in the race that `record` has so far, in which `started` attempts have started.
+/* Returns the action that is due at tick `now` in the race of `record`, in which `started` attempts have started.
  *
- * THE RECORD is the race's text of what has happened so far, without its line `end`. Its lines are in the order above,
- * so keep the answers, the `connect` lines and the `pause` lines apart, and join them for each call.
+ * THE RECORD is the text of the race so far, without its line `end`. Its lines are in the order above, so keep the
+ * answers, the `connect` lines and the `pause` lines apart, and join them for each call.
  *
- * A TURN. Read the clock once, as `now`, at least 1 tick later than in the previous turn. Write what has happened
- * since then into the record: an answer with the tick `now`; the end of an attempt with `now` minus its start. Call
- * he_next. Write the pause, if one is reported: the client came late to a start. On HE_START, connect, count the
- * attempt in `started`, and call again with the same `now`, having written nothing but that pause. On HE_WAIT, sleep
- * until that tick or until something happens; then a new turn begins. Otherwise the race is over: close all other
- * sockets, and end the record with a line `end`, which makes it a text that he_replay takes.
+ * A TURN. Read the clock once, as `now`, at least 1 tick later than in the previous turn. Write the events since then
+ * into the record: an answer with the tick `now`; the end of an attempt with `now` minus its start. Call he_next.
+ * Write the pause, if one is reported: the client came late to a start. On HE_START, connect, count the attempt in
+ * `started`, and call again with the same `now`, having written nothing but that pause. On HE_WAIT, sleep until that
+ * tick or until something happens; then a new turn begins. Otherwise the race is over: close all other sockets, and
+ * end the record with a line `end`, which makes it a text that he_replay takes.
  *
  * Proved: the step is that of a replay of the record followed by `end`, with the reported pause as its last line. The
  * attempt at place `started` of that transcript starts at `tick`, or is waited for if it starts later; if there is
