@@ -38,7 +38,7 @@ make refused HE=FILE       refuses each allocation of a built program in turn, a
                            the races that the crate cases runs
 make hosts HE=FILE         compares `he host` of a built program with a second reading (scripts/host_lines.py) and with
                            the kernel, in network namespaces; tries that reading on recorded hosts
-make captures HE=FILE      tries tools/from-capture and tools/compare-done on packet captures; needs tshark
+make captures HE=FILE      tries tools/from-capture and tools/compare-done on packet captures; needs tshark, tcpdump
 make live HE=FILE          runs live races of a built program, and looks from the other side at what it did
 make names HE=FILE         looks names up by a built program, from name servers of its own, right ones and wrong ones
 make connect HE=FILE       connects by a built program in full: transfers of 100 MB, 1,000 connections under faults

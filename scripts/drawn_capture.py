@@ -1,11 +1,13 @@
 """Draws races, and writes a packet capture of them and what tools/from-capture must make of it.
 
-A folder gets drawn.pcap, drawn.timeline, drawn.done, and drawn.said: the notes on silent addresses and on connections
-that are passed over. The races run beside each other, and some names and some addresses come again. Among their packets
-are aliases, answers over TCP, answers with what they don't need, copies as they are captured on two interfaces,
-repetitions, refusals, ICMP errors that are heeded and such that are not, connections that come too late, and further
-ones after the race is won.
+A folder gets drawn.pcap, drawn.timeline with record lines, drawn.done: what the client did, as transcripts; and
+drawn.said: the notes on silent addresses and on connections that are passed over. The races run beside each other, and
+some names and some addresses come again. Among their packets are aliases, answers over TCP, answers with what they
+don't need, copies as they are captured on two interfaces, repetitions, refusals, ICMP errors that are heeded and such
+that are not, attempts that the client gives up, connections that come too late, and further ones after the race is
+won.
 """
+import datetime
 import ipaddress
 import random
 import struct
@@ -44,10 +46,15 @@ def tcp(source, source_port, target, target_port, sequence, flags, payload=b""):
                                              0) + payload)
 
 
-def icmp(packet):
-    """The error that a router answers a packet with: host, or address, unreachable."""
+# ICMP errors by family: their types and codes (RFC 1812 section 5.2.7, RFC 4443 section 3), and their words.
+ERRORS = {4: {(3, 1): "unreachable", (3, 0): "unreachable", (3, 3): "refused", (3, 13): "forbidden"},
+          6: {(1, 3): "unreachable", (1, 0): "unreachable", (1, 4): "refused", (1, 1): "forbidden"}}
+
+
+def icmp(packet, kind=None):
+    """The error that a router answers a packet with: by default host, or address, unreachable."""
     version = packet[0] >> 4
-    kind, protocol, most = ((3, 1), 1, 28) if version == 4 else ((1, 3), 58, 1000)
+    kind, protocol, most = (kind or (3, 1), 1, 28) if version == 4 else (kind or (1, 3), 58, 1000)
     return ip(ROUTER[version], CLIENT[version], protocol, struct.pack("!BBHI", *kind, 0, 0) + packet[:most])
 
 
@@ -65,6 +72,12 @@ def dns(ident, name, version, records=None, flags=0x8180, others=()):
 
 
 # Races
+
+
+def moment(micros):
+    """A time as RFC 3339 has it."""
+    time = datetime.datetime.fromtimestamp(micros // 1_000_000, datetime.timezone.utc)
+    return f"{time:%Y-%m-%dT%H:%M:%S}.{micros // 1000 % 1000:03}Z"
 
 
 class Drawn(random.Random):
@@ -127,7 +140,8 @@ class Drawn(random.Random):
         self.add(answered, tcp(*back, 901, ACK, struct.pack("!H", len(answer)) + answer))
 
     def attempt(self, start, tick, address, fate, duration, stop):
-        """The packets of an attempt. A connection that comes after the race is won is reset, or made and closed."""
+        """The packets of an attempt; gives the word of a failed one. A connection that comes after the race is won is
+        reset, or made and closed."""
         there = CLIENT[address.version], self.next_port(), address, 443
         back, sequence = there[2:] + there[:2], self.randrange(1 << 32)
         syn, next_sequence = tcp(*there, sequence, SYN), sequence + 1 & 0xFFFFFFFF
@@ -137,16 +151,23 @@ class Drawn(random.Random):
             if self.random() < 0.3:
                 self.add(begun + 300_000, icmp(syn))  # not heeded: another SYN follows
             self.add(begun + 1_000_000, syn)
-        elif fate == "ok":
+        elif fate in ("ok", "left"):
             self.add(ended, tcp(*back, 7, SYN | ACK))
-            if tick + duration > stop and self.random() < 0.5:
+            if fate == "left" or tick + duration > stop and self.random() < 0.5:
                 self.add(ended + 10, tcp(*there, next_sequence, RST))
             else:
                 if self.random() < 0.8:  # else it is not captured
                     self.add(ended + 5_000, tcp(*there, next_sequence, FIN | ACK))
                 self.add(ended + 9_000, tcp(*there, next_sequence + 1 & 0xFFFFFFFF, RST))
+            return "timed-out" if fate == "left" and tick + duration < stop else None
+        elif self.random() < 0.5:
+            self.add(ended, tcp(*back, 0, RST | ACK))
+            return "refused"
         else:
-            self.add(ended, tcp(*back, 0, RST | ACK) if self.random() < 0.5 else icmp(syn))
+            kind = self.choice(list(ERRORS[address.version]))
+            self.add(ended, icmp(syn, kind))
+            return ERRORS[address.version][kind]
+        return None
 
     def further(self, start, tick, addresses):
         """Connections that a client makes when the race is won; how many."""
@@ -164,8 +185,8 @@ class Drawn(random.Random):
         self.shuffle(known)
         tick, attempts = 400 + self.randrange(100), []
         for address in known[:self.randrange(1, len(known) + 1)] if known else []:
-            fate = self.choice(["ok", "ok", "fail", None])
-            attempts.append((tick, address, fate, self.randrange(1, 900 if fate == "ok" else 300)))
+            fate = self.choice(["ok", "ok", "ok", "fail", "fail", None, "left"])
+            attempts.append((tick, address, fate, self.randrange(1, 900 if fate in ("ok", "left") else 300)))
             tick += self.randrange(10, 400)
         self.tell(start, name, found, {version: self.randrange(1, 400) for version in (6, 4)}, attempts)
 
@@ -181,11 +202,16 @@ class Drawn(random.Random):
 
     def tell(self, start, name, found, ticks, attempts):
         """The packets and the texts of a race, with the attempts that begin before it is won."""
-        lines = ["race 1", *HOST]
+        lines, records = ["race 1", *HOST], [f"at {moment(start)}", f"to {name} 443", f"from {CLIENT[4]}"]
         for version in (6, 4):
             self.lookup(start, name, version, ticks[version], found[version])
             if found[version] is not None:
                 lines.append(f"{WORDS[version]} {ticks[version]} {' '.join(map(str, found[version])) or 'none'}")
+            if not found[version]:
+                word = "no-answer" if found[version] is None else "no-address"
+                records.append(f"lookup {WORDS[version]} {word}")
+        # A query that has no answer is sent again after 550 ms, when attempts are under way.
+        records += [f"server {SERVER} silent 550"] * (None in found.values())
         successes = [(tick + duration, place) for place, (tick, _, fate, duration) in enumerate(attempts)
                      if fate == "ok"]
         stop, winner = min(successes, default=(None, None))
@@ -195,12 +221,14 @@ class Drawn(random.Random):
         ends = [tick + (1000 if fate is None else duration) for tick, _, fate, duration in attempts]
         last, done, said = max(ends) if stop is None else stop, [], []
         for place, (tick, address, fate, duration) in enumerate(attempts):
-            self.attempt(start, tick, address, fate, duration, last)
+            word = self.attempt(start, tick, address, fate, duration, last + (stop is None))
+            records += [f"attempt {address} {word}"] if word else []
             is_failed = fate == "fail" and tick + duration <= last
             mark = f"won {stop}" if place == winner else f"cancelled {last}"
             mark = f"failed {tick + duration}" if is_failed else mark
+            mark = f"cancelled {min(last, tick + duration)}" if fate == "left" else mark
             done.append(f"attempt {place} {tick} {address} {mark}")
-            lines += [f"connect {address} {fate} {duration}"] if fate else []
+            lines += [f"connect {address} {'ok' if fate == 'left' else fate} {duration}"] if fate else []
             said += [] if fate else [f"{address} was silent: 2 SYNs"]
         known = [address for version in (6, 4) for address in found[version] or []]
         is_over = None not in found.values() and len(attempts) == len(known) and all(
@@ -208,7 +236,19 @@ class Drawn(random.Random):
         done.append(f"won {winner} {stop}" if stop else f"exhausted {last}" if is_over else f"limit {last}")
         if further := self.further(start, stop, known) if stop else 0:
             said.append(f"{further} further connection{'s' * (further > 1)} passed over")
-        self.races.append((start, [*lines, "end"], done, said))
+        tried = [address for _, address, _, _ in attempts]
+        records += [f"untried {address}" for address in known if address not in tried]
+        self.races.append((start, records, [*lines, "end"], done, said, self.result(attempts, stop, last)))
+
+    def result(self, attempts, stop, last):
+        """What the client did, and the tick after which this is known: it stops where the next SYN was due, two
+        seconds after the second one, and another second later."""
+        if stop is not None:
+            return f"connected {stop}", 0
+        if all(fate == "fail" for _, _, fate, _ in attempts):
+            return f"failed {last}", 0
+        signs = [tick + {None: 1000, "left": duration}.get(fate, 0) for tick, _, fate, duration in attempts]
+        return f"gave-up {max(signs)}", max([tick + 4000 for tick, _, fate, _ in attempts if fate is None], default=0)
 
 
 def draw_all(races, seed):
@@ -222,9 +262,13 @@ def draw_all(races, seed):
             drawn.race(start, f"name{number % NAMES}.test")
         number += 1
     told = sorted(drawn.races, key=lambda race: race[0])
-    timeline, done = ([line for race in told for line in race[at]] for at in (1, 2))
-    said = [f"{place}: {note}" for place, race in enumerate(told, 1) for note in race[3]]
-    return {"timeline": timeline, "done": done, "said": said}, sorted(drawn.packets)
+    packets, timeline, done, said = sorted(drawn.packets), [], [], []
+    for place, (begun, records, lines, did, notes, (result, until)) in enumerate(told, 1):
+        is_known = begun + until * 1000 + 500 <= packets[-1][0]
+        timeline += [f"record {line}" for line in [*records, *([result] if is_known else [])]] + lines
+        done += did
+        said += [f"{place}: {note}" for note in notes]
+    return {"timeline": timeline, "done": done, "said": said}, packets
 
 
 def draw_into(folder, races, seed):

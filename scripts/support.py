@@ -36,7 +36,8 @@ ALONE = 0.1  # seconds in which this machine answers itself
 os.environ["PATH"] += ":/usr/sbin:/sbin"  # where dnsmasq, sshd and ip may be
 # The parts of each harness, scripts/parts/NAME.py, in their order.
 PARTS = {
-    "examples": "examples lines page documents documents_parallel manual installed architecture captures library fuzz",
+    "examples": "examples lines page documents documents_parallel manual installed architecture captures "
+                "captures_records library fuzz",
     "network": "hosts hosts_bytes live names names_files connect connect_relay proxy proxy_clients proxy_log proxy_load "
                "proxy_names proxy_strangers proxy_programs",
     "hostile": "hostile refused faults",

@@ -1,17 +1,21 @@
 """Tries tools/from-capture and tools/compare-done, with a built program, on captures of clients (examples/captures),
-which must give the texts that stand beside them; of races that are drawn (drawn_capture.py), whose timelines are
-known; and on such that are damaged, cut, or tell too little; and tools/compare-done on races that were made up.
+which must give the texts beside them; of races that are drawn (drawn_capture.py), whose timelines are known; and on
+such that are damaged, cut, or show too little; and how both compare races that were made up.
 
 needs: tshark
 """
 import re
+import runpy
+import types
 
+from drawn_capture import HOST as HOST_LINES
 from drawn_capture import draw_into
 from support import OPTIONS, ROOT, must, needs, run, seconds_of_children, tell
 
 HE = OPTIONS.program
 CAPTURES = ROOT / "examples/captures"
 HOST = CAPTURES / "host-lines"
+TOOL = types.SimpleNamespace(**runpy.run_path(str(ROOT / "tools/from-capture"), run_name="from_capture"))
 CLIENTS = {"curl": "curl", "wget": "wget", "ssh": "ssh", "go": "Go", "node": "node", "asyncio": "asyncio"}
 DRAWN = 1000
 MOST_SECONDS = 60
@@ -30,9 +34,10 @@ def from_capture(*words):
     return run(ROOT / "tools/from-capture", *words)
 
 
-def compare(timeline, done):
-    rules = run(HE, "replay", input=timeline.read_text())
-    return run(ROOT / "tools/compare-done", timeline, done, input=rules.stdout)
+def noted(said):
+    """Of each race the last note, which says where it departs from the rules."""
+    found = dict(re.findall(r"(?m)^(\d+): (.*)$", said))
+    return {number: found[number] for number in sorted(found, key=int)}
 
 
 def is_same(name, is_good):
@@ -52,19 +57,38 @@ def is_refused(name, words, said):
 
 
 def check_clients():
-    """What is made of each capture stands beside it."""
-    done = OPTIONS.folder / "done"
+    """What is made of each capture is beside it."""
     for client in CLIENTS:
-        ran = from_capture(CAPTURES / f"{client}.pcap", "--host", HOST, "--done", done)
-        compared = compare(CAPTURES / f"{client}.timeline", CAPTURES / f"{client}.done").stdout
-        is_same(f"{client}: status", is_sound(ran))
-        for end, text in (("timeline", ran.stdout), ("said", ran.stderr), ("done", done.read_text()),
-                          ("compared", compared)):
+        ran = from_capture(CAPTURES / f"{client}.pcap", "--host", HOST)
+        compared = from_capture(CAPTURES / f"{client}.pcap", "--host", HOST, "--compare", "--he", HE)
+        lines = "".join(f"{number}: {words}\n" for number, words in noted(compared.stderr).items())
+        is_same(f"{client}: status", is_sound(ran) and compared.stdout == ran.stdout)
+        is_same(f"{client}: notes", compared.stderr == ran.stderr + lines)
+        for end, text in (("timeline", ran.stdout), ("said", ran.stderr), ("compared", lines)):
             is_same(f"{client}.{end}", text == (CAPTURES / f"{client}.{end}").read_text())
+
+
+def check_versions():
+    """Without its record lines a timeline has the transcripts, orders and stories that it has with them."""
+    for client in CLIENTS:
+        lines = (CAPTURES / f"{client}.timeline").read_text()
+        plain = re.sub(r"(?m)^record .*\n", "", lines)
+        is_same(f"{client}: record lines", plain.count("race 1\n") == lines.count("\nrecord at ") + 1)
+        for command in ("replay", "order"):
+            written = [run(HE, command, input=text).stdout for text in (plain, lines)]
+            is_same(f"{client}: {command}", written[0] == written[1])
 
 
 def check_table():
     must(table() in (ROOT / "docs/CLIENTS.md").read_text(), f"the table of docs/CLIENTS.md should be\n{table()}")
+
+
+def transcript_of(course):
+    """What a client did, in the form of a transcript."""
+    lines = [f"attempt {place} {start} {ip} {mark} {tick}\n"
+             for place, (start, ip, mark, tick) in enumerate(course.attempts)]
+    place = next((f"{place} " for place, attempt in enumerate(course.attempts) if attempt.mark == "won"), "")
+    return "".join([*lines, f"{course.result} {place}{course.tick}\n"])
 
 
 def check_drawn():
@@ -72,12 +96,14 @@ def check_drawn():
     work, host = OPTIONS.folder, OPTIONS.folder / "host"
     draw_into(work, DRAWN, OPTIONS.seed)
     lines = (work / "drawn.timeline").read_text()
-    host.write_text("".join(f"{line}\n" for line in lines.splitlines()[1:5]))
+    host.write_text("".join(f"{line}\n" for line in HOST_LINES))
     begun = seconds_of_children()
-    ran = from_capture(work / "drawn.pcap", "--host", host, "--done", work / "done")
+    ran = from_capture(work / "drawn.pcap", "--host", host)
     is_same("time", seconds_of_children() - begun < MOST_SECONDS)
     is_same("timelines", ran.stdout == lines)
-    is_same("what was done", (work / "done").read_text() == (work / "drawn.done").read_text())
+    races = TOOL.read_capture(types.SimpleNamespace(file=str(work / "drawn.pcap"), client=[]), [])[2].races
+    did = "".join(transcript_of(TOOL.course(race)) for race in races if race.attempts)
+    is_same("what was done", did == (work / "drawn.done").read_text())
     said = [line for line in ran.stderr.splitlines() if re.search(r" was silent: | passed over$| of no answer ", line)]
     is_same("what is said", "".join(f"{line}\n" for line in said) == (work / "drawn.said").read_text())
     is_same("he check", run(HE, "check", input=lines).returncode == 0)
@@ -94,20 +120,24 @@ def check_fit():
         fitted = OPTIONS.folder / "fitted"
         fitted.write_text(ran.stdout)
         is_same(f"{client} fitted: status", is_sound(ran))
-        parts = [compare(text, CAPTURES / f"{client}.done").stdout.splitlines()[:-1]
-                 for text in (CAPTURES / f"{client}.timeline", fitted)]
-        rule = re.compile(r"\d+: as the rules have it")
-        is_same(f"{client} fitted: nothing lost", all(rule.match(after) for before, after in zip(*parts)
-                                                      if rule.match(before)))
-        told = re.findall(r"(?m)^\d+: (?:(?:attempt|resolution|floor) \d[^:]*|the standard's settings): (.*)$",
-                          ran.stderr)
-        is_same(f"{client} fitted: what is said", told == [line.partition(": ")[2] for line in parts[1]])
+        settings = r"(?:attempt|resolution|floor) \d[^:]*|the standard's settings"
+        after = re.findall(rf"(?m)^\d+: ({settings}): (.*)$", ran.stderr)
+        before = list(noted((CAPTURES / f"{client}.compared").read_text()).values())
+        is_same(f"{client} fitted: nothing lost", len(after) == len(before) and all(
+            words == once for (_, words), once in zip(after, before) if once == "as the rules have it"))
+        is_same(f"{client} fitted: what is not", all(
+            words == once for (settings, words), once in zip(after, before) if settings == "the standard's settings"))
+        replayed = run(HE, "replay", input=ran.stdout).stdout
+        ended = run(ROOT / "tools/compare-done", fitted, input=replayed).stdout.splitlines()
+        is_same(f"{client} fitted: the ends", all(
+            line.endswith(words) or "not known" in line for line, (_, words) in zip(ended, after)
+            if words == "as the rules have it"))
         delays = [int(delay) for delay in re.findall(r"(?m)^set attempt (\d+)$", ran.stdout)]
         own = OWN_DELAYS.get(client)
         is_same(f"{client} fitted: its delay", all(own <= delay <= own + 3 for delay in delays) and delays if own
                 else not delays)
     is_refused("no program to fit with", [CAPTURES / "curl.pcap", "--fit", "--he", OPTIONS.folder / "nothing"],
-               "--fit needs the program he")
+               "--compare and --fit need the program he")
 
 
 def check_faults():
@@ -116,7 +146,7 @@ def check_faults():
     host.write_text("source 192.0.2.2/24 1\naaaa 0 none\n")
     for name, content, said in (
             ("empty", b"", "the file is empty"), ("text", b"race 1\nend\n" * 99, "isn't a capture file"),
-            ("cut", whole[:-7], "cut short"), ("cut-in-the-header", whole[:17], "cut short"),
+            ("cut-in-the-header", whole[:17], "cut short"),
             ("damaged", whole[:24] + b"\xff" * 16 + whole[40:], "damaged or corrupt"),
             ("without-packets", whole[:24], "no race in it")):
         (work / name).write_bytes(content)
@@ -128,15 +158,25 @@ def check_faults():
             ("no such client", [kept, "--client", "192.0.2.99"], "no race"),
             ("no address", [kept, "--client", "curl"], "--client"), ("no host lines", [kept, "--host", host], "line 2"),
             ("no such host", [kept, "--host", work / "nothing"], "nothing"),
-            ("no such folder", [kept, "--done", work / "nothing/done"], "nothing"),
             ("no such option", [kept, "--nothing"], "--nothing")):
         is_refused(name, words, said)
+
+
+def check_damaged():
+    """Captures in which bytes are changed at random: what is left is told, and the program takes it."""
+    needs("editcap")
+    for number in range(8):
+        file = OPTIONS.folder / "damaged.pcap"
+        run("editcap", "-E", f"0.0{1 + number % 4}", "--seed", number, CAPTURES / "node.pcap", file)
+        ran = from_capture(file, "--share")
+        is_same(f"damaged capture {number}: {ran.stderr[-200:]}", is_sound(ran)
+                or ran.returncode == 1 and ran.stderr.count("\n") == 1)
 
 
 def check_parts():
     """Captures of which a part is missing: what is left is told, and what is missing is said."""
     work, kept = OPTIONS.folder, CAPTURES / "curl.pcap"
-    wanted = from_capture(kept, "--host", HOST).stdout.split("race 1\n")[1]
+    wanted = from_capture(kept, "--host", HOST).stdout.partition("end\n")[0] + "end\n"
     for name, filter, said in (
             ("late", "not (dns.flags.response == 0 and frame.number < 4)", "the capture began late"),
             ("no-answer", "not (dns.flags.response == 1 and dns.qry.type == 1)", "no answer for A, so no line"),
@@ -150,7 +190,7 @@ def check_parts():
     is_refused("packets cut when captured", [work / "short", "--name", "many.test"], "more are cut or damaged")
     is_refused("connections alone", [work / "connections"], "no race in it")
     one = from_capture(kept, "--host", HOST, "--name", "FINE.test.", "--client", "192.0.2.2", "--client", "2001:db8::2")
-    is_same("one race", one.returncode == 0 and one.stdout == "race 1\n" + wanted)
+    is_same("one race", one.returncode == 0 and one.stdout == wanted)
     shown = from_capture(kept)
     is_same("no host", is_sound(shown) and "those that the SYNs show" in shown.stderr
             and "source 2001:db8::2/64 1\n" in shown.stdout)
@@ -158,7 +198,7 @@ def check_parts():
 
 IPS = {"6": "2001:db8::1", "4": "192.0.2.1"}
 V6, BOTH = "10 6 won 30", "10 6 cancelled 280, 260 4 won 280"
-COMPARISONS = [  # the ticks of both answers, what the rules give, what a client did, and what is told first of it
+DEPARTURES = [  # the ticks of both answers, what the rules give, what a client did, and what is said first of it
     ("10 0", V6, V6, "as the rules have it"), ("10 0", V6, "29 6 won 49", "as the rules have it"),
     ("10 0", V6, "31 6 won 51", "a later start: attempt 1"),
     ("10 0", V6, "10 4 won 30", "another order: attempt 1 is at 192.0.2.1"),
@@ -185,20 +225,52 @@ def transcript(attempts):
     return "".join([*lines, *(won or [f"limit {rows[-1][3]}\n"])])
 
 
-def check_comparisons():
-    timeline, done = OPTIONS.folder / "timeline", OPTIONS.folder / "done"
-    for number, (ticks, rules, did, wanted) in enumerate(COMPARISONS):
-        answers = [f"{word} {tick} {IPS[family]}\n" for word, tick, family in zip(("aaaa", "a"), ticks.split(), "64")]
-        timeline.write_text("".join(["race 1\n", *(line for line in answers if " - " not in line), "end\n"]))
-        done.write_text(transcript(did))
-        told = run(ROOT / "tools/compare-done", timeline, done, input=transcript(rules))
-        is_same(f"comparison {number}", told.returncode == 0 and told.stdout.startswith(f"1: {wanted}"))
-    one = transcript(V6)
-    for number, (rules, did) in enumerate(((one * 2, one), ("limit\n", one), (one, "nothing\n"), (one, "limit 30\n"))):
-        done.write_text(did)
-        told = run(ROOT / "tools/compare-done", timeline, done, input=rules)
-        is_same(f"fault {number}", told.returncode == 1 and not told.stdout
-                and re.fullmatch(r"compare-done: .*\n", told.stderr))
+def check_departures():
+    for number, (ticks, rules, did, wanted) in enumerate(DEPARTURES):
+        answered = {kind: int(tick) for kind, tick in zip(("aaaa", "a"), ticks.split()) if tick != "-"}
+        courses = [next(TOOL.courses(transcript(each))) for each in (rules, did)]
+        found = "; ".join(TOOL.departures(answered, *courses)) or "as the rules have it"
+        is_same(f"departure {number}: {found}", found.startswith(wanted))
+    nothing = TOOL.departures({}, TOOL.Course([], "limit", 30000), next(TOOL.courses(transcript(V6))))
+    is_same("the rules try nothing", nothing == ["the rules try nothing"])
+
+
+ENDS = [  # record lines, what the rules give, and what is said of both
+    ("connected 30", V6, "as the rules have it"), ("connected 50", V6, "as the rules have it"),
+    ("connected 51", V6, "connected after 51 ms, by the rules after 30: 21 later"),
+    ("connected 259", BOTH, "connected after 259 ms, by the rules after 280: 21 sooner"),
+    ("gave-up 900", V6, "gave-up after 900 ms, by the rules connected after 30"),
+    ("failed 9", V6, "failed after 9 ms, by the rules connected after 30"),
+    ("connected 9", "10 6 cancelled 3000", "connected after 9 ms, by the rules not connected after 3000"),
+    ("gave-up 900", "10 6 cancelled 3000", "as the rules have it"),
+    ("failed 9", "10 6 failed 30", "as the rules have it"),
+    ("untried 192.0.2.1, connected 280", BOTH, "not known: the rules try 192.0.2.1 at 260, which nobody tried"),
+    ("untried 192.0.2.1, connected 30", V6, "as the rules have it"),
+    ("from 192.0.2.9", V6, "no record line says how the client ended"),
+]
+
+
+def check_ends():
+    """tools/compare-done, with all races in one text, and its faults."""
+    timeline = OPTIONS.folder / "timeline"
+    lines = ["".join(f"record {line}\n" for line in said.split(", ")) + "race 1\nend\n" for said, _, _ in ENDS]
+    timeline.write_text("".join([*lines, "race 1\nend\n"]))
+    given = "".join(transcript(rules) for _, rules, _ in ENDS) + "limit 9\n"
+    ran = run(ROOT / "tools/compare-done", timeline, input=given)
+    wanted = [said for _, _, said in ENDS] + ["no record line says how the client ended"]
+    wanted = [f"{number}: {said}" for number, said in enumerate(wanted, 1)]
+    last = "13 races, 5 as the rules have it, 3 not known"
+    is_same("ends", ran.returncode == 0 and ran.stdout.splitlines() == [*wanted, last])
+    wider = run(ROOT / "tools/compare-done", timeline, "--slack", "21", input=transcript(V6) * 13)
+    is_same("slack", wider.returncode == 0 and "3: as the rules have it\n" in wider.stdout)
+    for number, (text, rules) in enumerate((("race 1\nend\n", V6 * 0), ("record connected x\nrace 1\nend\n", V6),
+                                            ("race 1\nend\n" * 2, V6), ("race 1\nend\n", None))):
+        timeline.write_text(text)
+        given = "nothing\n" if rules is None else transcript(rules) if rules else ""
+        ran = run(ROOT / "tools/compare-done", timeline, input=given)
+        is_same(f"fault {number}", ran.returncode == 1 and not ran.stdout
+                and re.fullmatch(r"compare-done: .*\n", ran.stderr))
+    is_same("no timeline", run(ROOT / "tools/compare-done", OPTIONS.folder / "nothing").returncode == 1)
 
 
 def short(compared):
@@ -210,21 +282,21 @@ def short(compared):
 
 def cells(client):
     """By the name of a scenario: time to connect, attempts, and the first place where the client leaves the rules."""
-    timeline, done = CAPTURES / f"{client}.timeline", CAPTURES / f"{client}.done"
-    names = [line.split()[1] for line in (CAPTURES / f"{client}.said").read_text().splitlines()
-             if re.match(r"\d+ ", line)]
-    races = re.findall(r"((?:attempt .*\n)+)(\w+) .*?(\d+)\n", done.read_text())
-    compared = [line.split(": ", 1)[1] for line in compare(timeline, done).stdout.splitlines()[:-1]]
-    told = {}
-    for name, (attempts, result, tick), parts in zip(names, races, compared):
-        time = tick if result == "won" else "never"
-        told[name.removesuffix(".test")] = f"{time}, {attempts.count('attempt')}: {short(parts)}"
-    return told
+    races = (CAPTURES / f"{client}.timeline").read_text().removesuffix("end\n").split("end\n")
+    compared = noted((CAPTURES / f"{client}.compared").read_text()).values()
+    found = {}
+    for race, departures in zip(races, compared, strict=True):
+        name = re.search(r"(?m)^record to (\S+)\.test ", race)[1]
+        time = re.search(r"(?m)^record connected (\d+)$", race)
+        answered = sum(len(line.split()) - 2 for line in re.findall(r"(?m)^(?:aaaa|a) .*[^e]$", race))
+        tried = answered - race.count("\nrecord untried ")
+        found[name] = f"{time[1] if time else 'never'}, {tried}: {short(departures)}"
+    return found
 
 
 def table():
     by_client = {client: cells(client) for client in CLIENTS}
-    names = dict.fromkeys(name for told in by_client.values() for name in told)
+    names = dict.fromkeys(name for found in by_client.values() for name in found)
     rows = [["Scenario", *CLIENTS.values()], ["---"] * (len(CLIENTS) + 1)]
-    rows += [[f"`{name}`", *(told.get(name, "never, 0: no lookup") for told in by_client.values())] for name in names]
+    rows += [[f"`{name}`", *(found.get(name, "never, 0: no lookup") for found in by_client.values())] for name in names]
     return "".join(f"| {' | '.join(row)} |\n" for row in rows)
