@@ -285,12 +285,22 @@ def interlace(addresses, count):
     return [addresses[place] for _, place in sorted(keyed)]
 
 
+class Record:
+    """What a race's record lines say: texts as they stand, addresses and numbers as such."""
+
+    def __init__(self):
+        self.time = self.target = self.client = self.end = None
+        # (families in the order of their lines, as are the addresses)
+        self.lookups, self.servers, self.attempts, self.untried = {}, [], {}, []
+
+
 class Race:
     """A race that begins with this line of its text, counted from 1, or whose record lines do."""
 
     def __init__(self, line):
         self.line, self.settings, self.answers, self.outcomes, self.rtts = line, {}, {}, {}, {}
         self.rows, self.sources, self.routes, self.pauses, self.used = [], [], [], [], []
+        self.record = Record()
 
     def changed(self, changes):
         """The race with these settings in place of its own; a floor above the attempt delay then is that delay."""
@@ -591,7 +601,7 @@ class RecordReader:
     """Reads the record lines of a race, of which the first is this line of the text."""
 
     def __init__(self, line):
-        self.begin, self.group, self.counts, self.families, self.addresses = line, 0, Counter(), [], []
+        self.begin, self.group, self.counts, self.record = line, 0, Counter(), Record()
 
     def line(self, line):
         _, word, *tokens = (*line.split(" "), "") if line == "record" else line.split(" ")
@@ -605,7 +615,10 @@ class RecordReader:
             raise Fault("repeated" if most == 1 else "too many")
         if len(tokens) + 2 != RECORD_LENGTHS.get(word, 3):
             raise Fault("word")
-        getattr(self, "client_end" if word in CLIENT_ENDS else f"say_{word}")(*tokens)
+        if word in CLIENT_ENDS:
+            self.record.end = word, number(*tokens, 0, MOST_TICK)
+        else:
+            getattr(self, f"say_{word}")(*tokens)
 
     def say_at(self, time):
         parts = TIME.fullmatch(time)
@@ -615,36 +628,34 @@ class RecordReader:
         days = [31, 29 if calendar.isleap(year) else 28, 31, 30, 31, 30, 31, 31, 30, 31, 30, 31]
         if not 1 <= month <= 12 or not 1 <= day <= days[month - 1] or hour > 23 or minute > 59 or second > 59:
             raise Fault("range")
+        self.record.time = time
 
     def say_to(self, host, port):
         if not re.fullmatch("[!-~]{1,%d}" % MOST_HOST_BYTES, host):
             raise Fault("word")
-        number(port, 1, MOST_WORD)
+        self.record.target = host, number(port, 1, MOST_WORD)
 
     def say_from(self, text):
-        self.address(text)
+        self.record.client = self.address(text)
 
     def say_lookup(self, family, word):
         keyword(family, ["aaaa", "a"])
         keyword(word, LOOKUP_WORDS)
-        once(family, self.families)
-        self.families.append(family)
+        once(family, self.record.lookups)
+        self.record.lookups[family] = word
 
     def say_server(self, text, word, ticks):
-        self.address(text)
-        keyword(word, SERVER_WORDS)
-        number(ticks, 0, MOST_TICK)
+        self.record.servers.append((self.address(text), keyword(word, SERVER_WORDS), number(ticks, 0, MOST_TICK)))
 
     def say_attempt(self, text, word):
-        address = self.address(text)
-        keyword(word, ATTEMPT_WORDS)
+        address, word = self.address(text), keyword(word, ATTEMPT_WORDS)
         self.told_once(address)
+        self.record.attempts[address] = word
 
     def say_untried(self, text):
-        self.told_once(self.address(text))
-
-    def client_end(self, ticks):
-        number(ticks, 0, MOST_TICK)
+        address = self.address(text)
+        self.told_once(address)
+        self.record.untried.append(address)
 
     def address(self, text):
         address = read_address(text)
@@ -653,8 +664,7 @@ class RecordReader:
         return address
 
     def told_once(self, address):
-        once(address, self.addresses)
-        self.addresses.append(address)
+        once(address, [*self.record.attempts, *self.record.untried])
 
 
 def whole_lines(text):
@@ -685,6 +695,7 @@ def read_text(text):
             if reader is None:
                 reader, header = Reader(HEADERS[line], record.begin if record else place + 1), place + 1
             elif reader.line(line, next_line if follows and len(next_line) <= MOST_LINE_BYTES else None):
+                reader.race.record = record.record if record else reader.race.record
                 races.append(reader.race)
                 record = reader = None
         except Fault as fault:

@@ -6,7 +6,7 @@ needs: python3, its standard library alone
 from collections import namedtuple
 
 from plain import print_address
-from plain_story import ending
+from plain_story import ending, heading
 
 LEAST_COLUMNS = 10
 # What a line has beside its label, its columns and its words: an edge at both sides, and a space outside each.
@@ -64,7 +64,7 @@ def picture(number, race, width, signs):
     def column(tick):
         return min(tick, end) * (columns - 1) // end if end else 0
 
-    lines = [f"race {number}, line {race.line}: {ending(race.report)}"]
+    lines = [f"{heading(number, race)}{ending(race.report)}"]
     lines += [f"{row.label:{label}} {signs['edge']}{bar(row, column, signs):{columns}}{signs['edge']} {row.words}"
               for row in drawn]
     lines.append(" " * (label + 2) + "0" + " " * max(columns - len(str(end)) - 4, 1) + f"{end} ms")

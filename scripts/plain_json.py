@@ -51,6 +51,26 @@ def order(race):
             for number, fact in enumerate(facts)]
 
 
+def recorded(record):
+    """The members that the record lines give; a value that is not known has none."""
+    told = {}
+    if record.target:
+        told["host"], told["port"] = record.target
+    if record.time:
+        told["at"] = record.time
+    if record.client:
+        told["from"] = print_address(record.client)
+    if record.end:
+        told["client"] = dict(zip(["end", "ms"], record.end))
+    lookups = [{"family": family, "reason": word} for family, word in record.lookups.items()]
+    servers = [{"address": print_address(address), "reason": word, "ms": ticks}
+               for address, word, ticks in record.servers]
+    outcomes = [{"address": print_address(address), "reason": word} for address, word in record.attempts.items()]
+    outcomes += [{"address": print_address(address), "untried": True} for address in record.untried]
+    lists = {"lookups": lookups, "servers": servers, "outcomes": outcomes}
+    return {**told, **{name: listed for name, listed in lists.items() if listed}}
+
+
 def lines_of(races, changes, value_of):
     return "".join(one_line({"file": None, "race": number, "line": race.line, **value_of(race)})
                    for number, race in enumerate((race.changed(changes) for race in races), 1)).encode()
@@ -66,5 +86,5 @@ def ordered(races, changes):
 
 
 def explained(races, changes):
-    return lines_of(races, changes, lambda race: {"order": order(race), "events": [
+    return lines_of(races, changes, lambda race: {**recorded(race.record), "order": order(race), "events": [
         {"tick": tick, **event} for tick, event, _ in plain_story.events(race, race.report)]})

@@ -23,6 +23,49 @@ LEAST_PAUSE, MAX_NAMED = 5, 3
 Cause = namedtuple("Cause", "words due name delay after", defaults=(None, None))
 
 
+# What the record lines say
+
+
+LOOKUPS = {"no-such-name": "no such name", "no-address": "no address", "no-answer": "no answer", "refused": "refused",
+           "failed": "the name servers failed", "malformed": "a malformed answer", "not-asked": "not asked"}
+ATTEMPTS = {"refused": "refused", "unreachable": "unreachable", "timed-out": "timed out", "reset": "reset",
+            "forbidden": "forbidden", "no-source": "no source address", "other": "for another reason"}
+SERVERS = {"silent": "no answer in", "refused": "refused after", "failed": "failed after",
+           "unreachable": "unreachable after"}
+CLIENTS = {"connected": "connected", "gave-up": "gave up", "failed": "failed"}
+
+
+def heading(number, race):
+    """The host and port, the client and the time, where the record has them; the race; and what its client did."""
+    record, named = race.record, ""
+    if record.target:
+        host, port = record.target
+        named = f"[{host}]:{port}" if ":" in host else f"{host}:{port}"
+    if record.client:
+        named += f"{' ' if named else ''}for {print_address(record.client)}"
+    if record.time:
+        named += f"{', ' if named else ''}{record.time[:10]} {record.time[11:19]}Z"
+    place = f"race {number}, line {race.line}"
+    told = f"{named} ({place}): " if named else f"{place}: "
+    if not record.end:
+        return told
+    word, ticks = record.end
+    return f"{told}the client {CLIENTS[word]} after {ticks} ms; by RFC 8305: "
+
+
+def why(race, name):
+    """Why the family has no address, where a look-up failed."""
+    return f": {LOOKUPS[race.record.lookups[name]]}" if name in race.record.lookups else ""
+
+
+def notes(race):
+    """The name servers that were given up, and the addresses that no client tried."""
+    servers = [f"name server {print_address(address)}: {SERVERS[word]} {ticks} ms"
+               for address, word, ticks in race.record.servers]
+    return servers + [f"no client tried {print_address(address)}: its outcome is unknown"
+                      for address in race.record.untried]
+
+
 # How a race ended
 
 
@@ -37,9 +80,10 @@ def ending(report):
 def between(race, report, winner):
     """What stood between the winner's answer and its attempt."""
     waited = ["the wait for the AAAA answer"] if winner.address.family == 4 and waits(race) else []
-    fates = ["gave no answer", "failed"]
-    stood = [f"{print_address(line.address)} {fates[line.fate == 'failed' and line.tick <= winner.start]}"
-             for line in report.lines[:winner.place]]
+    silent = ["gave no answer", "was not tried"]
+    stood = [f"{print_address(line.address)} "
+             + ("failed" if line.fate == "failed" and line.tick <= winner.start
+                else silent[line.address in race.record.untried]) for line in report.lines[:winner.place]]
     more = f" and {len(stood) - MAX_NAMED} more" if len(stood) > MAX_NAMED else ""
     return ", ".join(waited + stood[:MAX_NAMED]) + more
 
@@ -185,8 +229,10 @@ def answers(race):
         if name in race.answers:
             tick, usable = race.seen(tick_of(race, name)), len(race.usable(name))
             missing = "" if race.is_seen(other, tick) else f"; the {NAMES[other]} answer is not there yet"
-            to_try = counted(usable, "address", "addresses")
-            told = f"{NAMES[name]} answer{late(race, tick)}: {to_try} to try{missing}"
+            to_try = f": {counted(usable, 'address', 'addresses')} to try"
+            failed = why(race, name)
+            told = (f"{NAMES[name]}{failed}{late(race, tick)}{to_try if usable else ''}{missing}" if failed
+                    else f"{NAMES[name]} answer{late(race, tick)}{to_try}{missing}")
             yield tick, {"event": "answer", "family": name, "usable": usable}, told
 
 
@@ -210,7 +256,17 @@ def ends(race, report, fate):
     words = {"failed": "failed", "won": "connected", "cancelled": "cancelled"}[fate]
     return [(line.tick, {"event": fate, "attempt": line.place},
              f"attempt {line.place + 1} {words} after {line.tick - line.start} ms"
-             + (late(race, line.tick) if fate != "cancelled" else "")) for line in report.lines if line.fate == fate]
+             + (late(race, line.tick) if fate != "cancelled" else "") + of_client(race, line))
+            for line in report.lines if line.fate == fate]
+
+
+def of_client(race, line):
+    """Why the client's attempt failed; or that no client tried the address of one that is cancelled."""
+    record = race.record
+    if line.fate == "failed" and line.address in record.attempts:
+        return f": {ATTEMPTS[record.attempts[line.address]]}"
+    is_unknown = line.fate == "cancelled" and line.address in record.untried
+    return "; no client tried it: its outcome is unknown" if is_unknown else ""
 
 
 def events(race, report):
@@ -228,8 +284,9 @@ def events(race, report):
 
 def happened(race, report):
     width = len(str(report.result.tick)) + 2
-    return ["course:", *(f"{tick:>{width}} ms  {told}" for tick, event, told in events(race, report)
-                         if event["event"] != "pause" or event["until"] - tick >= LEAST_PAUSE)]
+    title = "course by RFC 8305:" if race.record.end else "course:"
+    return [title, *(f"{tick:>{width}} ms  {told}" for tick, event, told in events(race, report)
+                     if event["event"] != "pause" or event["until"] - tick >= LEAST_PAUSE)]
 
 
 # What had to wait, and what a floor would have changed
@@ -238,10 +295,10 @@ def happened(race, report):
 def waited(race, report, name):
     """What is told of an answer that did not come, that came too late, or whose addresses had to wait."""
     if name not in race.answers:
-        return [f"no {NAMES[name]} answer came"]
+        return [f"no {NAMES[name]} answer came{why(race, name)}"]
     seen = race.seen(tick_of(race, name))
     if seen > report.result.tick:
-        return [f"the {NAMES[name]} answer came at {seen} ms, after the end"]
+        return [f"the {NAMES[name]} answer came at {seen} ms, after the end{why(race, name)}"]
     if not race.usable(name):
         return []
     starts = [line.start for line in report.lines if WORDS[line.address.family] == name]
@@ -264,8 +321,8 @@ def floored(race, report):
 def story(number, race):
     """The story of the race of this number in its text, counted from 1."""
     report = race.report
-    lines = [f"race {number}, line {race.line}: {verdict(race, report)}", *preferred(race), *happened(race, report)]
-    lines += [*waited(race, report, "aaaa"), *waited(race, report, "a"), *floored(race, report)]
+    lines = [f"{heading(number, race)}{verdict(race, report)}", *preferred(race), *happened(race, report)]
+    lines += [*waited(race, report, "aaaa"), *waited(race, report, "a"), *notes(race), *floored(race, report)]
     return ("\n" if number > 1 else "") + "".join(line + "\n" for line in lines)
 
 

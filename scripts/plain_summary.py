@@ -18,7 +18,10 @@ RECORD = re.compile(r"(?:.*/)?(\d{4}-\d\d-\d\d)/(\d\d)-\d\d-\d\d\.\d{3}-[^/]*", 
 FAMILIES = {6: "IPv6", 4: "IPv4", None: "none"}
 HEADING = "  races     won    p50    p90    p99  attempts    IPv6   lost ms  {}\n"
 
-Summary = namedtuple("Summary", "races won kinds times lost attempts most waited failed silent tried slowest")
+LOOKUPS = {"aaaa": "AAAA", "a": "A"}
+
+Summary = namedtuple(
+    "Summary", "races won kinds times lost attempts most waited failed silent tried slowest ends lookups servers")
 
 
 def percentile(times, percent):
@@ -26,14 +29,14 @@ def percentile(times, percent):
     return next(time for time in sorted(times) if 100 * sum(other <= time for other in times) >= percent * len(times))
 
 
-def is_failed(_, line):
-    return line.fate == "failed"
+def is_failed(race, line):
+    return line.fate == "failed" and line.address not in race.record.untried
 
 
 def is_silent(race, line):
     """Whether an attempt was under way up to the race's end, for the Connection Attempt Delay or longer, to an address
-    that does nothing."""
-    return (line.fate == "cancelled" and line.address not in race.outcomes
+    that does nothing, and that a client tried."""
+    return (line.fate == "cancelled" and line.address not in race.outcomes and line.address not in race.record.untried
             and line.tick - line.start >= race.setting("attempt"))
 
 
@@ -88,13 +91,75 @@ def summed(races, changes):
         max((len(report.lines) for _, report in made), default=0), sum(has_waited(*one) for one in made),
         *(Counter(line.address for race, line in lines if test(race, line)) for test in (is_failed, is_silent)),
         Counter(line.address for _, line in lines),
-        sorted(won, key=lambda one: (-one[2].result.tick, one[0])))
+        sorted(won, key=lambda one: (-one[2].result.tick, one[0])),
+        [(*race.record.end, report.result.tick if report.winner else None) for race, report in made if race.record.end],
+        Counter(item for race in races for item in race.record.lookups.items()),
+        Counter((address, word == "silent") for race in races for address, word, _ in race.record.servers))
 
 
 def worst(summary):
     """The addresses to which most attempts failed or were silent, equal ones by their number as IPv6 addresses."""
     lost = summary.failed + summary.silent
     return sorted(lost, key=lambda address: (-lost[address], plain.mapped(address)))[:MOST_TOLD]
+
+
+def client_times(summary):
+    """The times after which clients connected, and those by the rules in the same races, where these were won."""
+    connected = [(ticks, time) for word, ticks, time in summary.ends if word == "connected"]
+    return [ticks for ticks, _ in connected], [time for _, time in connected if time is not None]
+
+
+def ended(summary):
+    """How many clients ended so, of each way in which any did."""
+    counts = Counter(word for word, _, _ in summary.ends)
+    return [(word, counts[word]) for word in plain.CLIENT_ENDS if counts[word]]
+
+
+def failed_lookups(summary):
+    """How many look-ups of each family have no address for each reason, where any have."""
+    each = [(family, word, summary.lookups[family, word]) for family in LOOKUPS for word in plain.LOOKUP_WORDS]
+    return [one for one in each if one[2]]
+
+
+def dead_servers(summary):
+    """The name servers that most often did not answer, with how often they failed and were silent."""
+    lost = Counter()
+    for (address, _), number in summary.servers.items():
+        lost[address] += number
+    first = sorted(lost, key=lambda address: (-lost[address], plain.mapped(address)))[:MOST_TOLD]
+    return [(address, summary.servers[address, False], summary.servers[address, True]) for address in first]
+
+
+def record_lines(summary):
+    """What the record lines say."""
+    within = "median {median} ms, 90 of 100 within {p90} ms, 99 of 100 within {p99} ms, greatest {greatest} ms"
+    clients, by_rules = client_times(summary)
+    ends, lookups, servers = ended(summary), failed_lookups(summary), dead_servers(summary)
+    return [
+        *["clients: " + ", ".join(f"{number} {word.replace('-', ' ')}" for word, number in ends)] * bool(ends),
+        *[f"{what}: {within.format(**percentiles(times))}"
+          for what, times in (("the clients connected after", clients), ("by RFC 8305 it would have been", by_rules))
+          if times],
+        *["look-ups without an address: "
+          + ", ".join(f"{number} {LOOKUPS[family]} {word.replace('-', ' ')}" for family, word, number in lookups)]
+        * bool(lookups),
+        *["name servers that did not answer:"] * bool(servers),
+        *(f"  {failed} failed, {silent} silent of {counted(failed + silent, 'attempt')} to {print_address(address)}"
+          for address, failed, silent in servers),
+    ]
+
+
+def record_members(summary):
+    clients, by_rules = client_times(summary)
+    ends, lookups, servers = ended(summary), failed_lookups(summary), dead_servers(summary)
+    members = {
+        "clients": {word.replace("-", "_"): number for word, number in ends},
+        "client_ms": percentiles(clients), "rules_ms": percentiles(by_rules),
+        "lookups": {f"{family}_{word.replace('-', '_')}": number for family, word, number in lookups},
+        "servers": [{"failed": failed, "silent": silent, "attempts": failed + silent, "address": print_address(address)}
+                    for address, failed, silent in servers],
+    }
+    return {name: value for name, value in members.items() if value}
 
 
 def percentiles(times, names=tuple(PERCENTS)):
@@ -128,6 +193,7 @@ def as_text(summary, slowest):
         *["failed or silent most often:"] * bool(addresses),
         *(f"  {summary.failed[address]} failed, {summary.silent[address]} silent of"
           f" {counted(summary.tried[address], 'attempt')} to {print_address(address)}" for address in addresses),
+        *record_lines(summary),
         *["slowest:"] * bool(slow),
         *(f"  -:{race.line} race {number}: {report.result.tick} ms to"
           f" {print_address(report.winner.address)}, {race.lost()} ms lost"
@@ -153,7 +219,7 @@ def as_object(summary, slowest):
         "connect_ms": percentiles(summary.times),
         "lost_ms": {dead: lost_json(summary.lost[dead]) for dead in ("failed", "silent")},
         "attempts": {"total": summary.attempts, "most": summary.most}, "resolution_delay": summary.waited,
-        "failing": failing, **({"slowest": slow} if slowest else {}),
+        "failing": failing, **record_members(summary), **({"slowest": slow} if slowest else {}),
     }
 
 

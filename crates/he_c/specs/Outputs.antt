@@ -31,12 +31,12 @@ IsOrderText text race = text ≡ order_text race
 abbrev pub Anywhere : (List ℕ → Race → Type 0) → TextRelation
 Anywhere IsText number line = IsText
 
--- the object that explains the race; the name of the text's file is null
+-- the object that explains the race, without its record; the name of the text's file is null
 abbrev pub IsExplanationText : TextRelation
 IsExplanationText number line text race =
     (report : Report) × IsTranscript race report
-    × IsExplanationJson (record { file = None; number = number; line = line }) (preferred race) (events_in race report)
-    text
+    × IsExplanationJson (record { file = None; number = number; line = line }) [] (preferred race)
+    (events_in race report) text
 
 -- the text of this kind for the race
 abbrev pub IsTextOf : Content → TextRelation

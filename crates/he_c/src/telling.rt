@@ -10,6 +10,7 @@ use he_course::Course;
 use he_inputs::{Ending, InputFault, RaceReader, RaceReaderFault};
 use he_json::write_explanation_json;
 use he_plan::{Transcript, transcript_of};
+use he_record::Record;
 use he_timeline::Timeline;
 use he_write::{write_order, write_transcript};
 use std::alloc::Global;
@@ -103,5 +104,5 @@ fn append_explanation(
         text.new.items) }
 {
     let course = Course::of(alloc, race, number, line)?;
-    write_explanation_json(alloc, &course, None, text)
+    write_explanation_json(alloc, &course, &Record::none(alloc), None, text)
 }

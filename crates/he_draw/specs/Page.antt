@@ -5,6 +5,7 @@ use Rattle.he_course.specs.declared.course.Course.{Course}
 use Rattle.he_print.specs.declared.part.Fact.{Fact}
 use Rattle.he_print.specs.declared.part.Fact.TheVariants.{Said, Number, Place}
 use Rattle.he_print.specs.Parts.{States}
+use Rattle.he_record.specs.Said.{Said as RecordSaid}
 use Rattle.he_story.specs.Story.{Tells, race_facts}
 use Rattle.he_story.specs.declared.said.Said.{Said as Words}
 use Rattle.he_draw.specs.declared.rows.Row.{Row}
@@ -56,24 +57,27 @@ opening_facts course file =
     ++ (anchor_facts file course.number
     ++ ((Number (end_of course) ∷ []) ++ (anchor_facts file course.number ++ Number (end_of course) ∷ []))))
 
--- its heading, and its rows
-unfoldable pub section_facts : {A : Type 0} → Course A → ℕ → List (Fact Words)
-section_facts course file =
-    opening_facts course file
-    ++ (race_facts course ++ flat_map (page_row_facts (end_of course)) (rows_of course))
+-- its rows
+unfoldable pub section_facts : {A : Type 0} → Course A → List (Fact Words)
+section_facts course = flat_map (page_row_facts (end_of course)) (rows_of course)
 
--- a race's part of a page: its picture, then its story; nothing of the story is read as a tag
-pub record IsSection {A : Type 0} (course : Course A) (file : ℕ) (text : List ℕ) : Type 0 where
-  pub picture : List ℕ
+-- a race's part of a page: its links, the heading of its story, its rows, and its story; nothing of the heading and
+-- the story is read as a tag
+pub record IsSection {A : Type 0} (said : List RecordSaid) (course : Course A) (file : ℕ) (text : List ℕ) : Type 0 where
+  pub links : List ℕ
+  pub heading : List ℕ
+  pub rows : List ℕ
   pub story : List ℕ
   pub last : List ℕ
-  pub drawn : States (section_facts course file) picture
-  pub told : Tells course [] story
-  pub parts : text ≡ picture ++ (flat_map escaped story ++ last)
+  pub opened : States (opening_facts course file) links
+  pub headed : States (race_facts said course) heading
+  pub drawn : States (section_facts course) rows
+  pub told : Tells said course [] story
+  pub parts : text ≡ links ++ (flat_map escaped heading ++ (rows ++ (flat_map escaped story ++ last)))
 
 -- it has been appended
-abbrev pub WritesSection : {A : Type 0} → Course A → ℕ → List ℕ → List ℕ → Type 0
-WritesSection course file old new = (text : List ℕ) × IsSection course file text × (new ≡ old ++ text)
+abbrev pub WritesSection : {A : Type 0} → List RecordSaid → Course A → ℕ → List ℕ → List ℕ → Type 0
+WritesSection said course file old new = (text : List ℕ) × IsSection said course file text × (new ≡ old ++ text)
 
 -- a text's name is a heading above its races; nothing of it is read as a tag
 abbrev pub name_text : List ℕ → List ℕ

@@ -7,6 +7,7 @@ use Rattle.he_print.specs.declared.part.Fact.{Fact}
 use Rattle.he_print.specs.declared.part.Fact.TheVariants.{Said, Number, Ip, Times}
 use Rattle.he_print.specs.declared.part.Part.{Part}
 use Rattle.he_print.specs.Parts.{States, fact_of}
+use Rattle.he_record.specs.Said.{Said as RecordSaid}
 use Rattle.he_story.specs.Story.{race_facts}
 use Rattle.he_story.specs.declared.said.Said.{Said as Words}
 use Rattle.he_story.specs.declared.said.Said.TheVariants as says
@@ -68,8 +69,8 @@ row_facts columns end row =
     ∷ (columns_facts columns (column columns end row.from) (column columns end row.to) row.what
     ++ words_facts row.from row.to row.what)
 
--- how the race ended, its rows in this number of columns, and the end of the scale below them
-unfoldable pub picture_facts : {A : Type 0} → ℕ → Course A → List (Fact Words)
-picture_facts columns course =
-    race_facts course
+-- the heading of its story, its rows in this number of columns, and the end of the scale below them
+unfoldable pub picture_facts : {A : Type 0} → ℕ → List RecordSaid → Course A → List (Fact Words)
+picture_facts columns said course =
+    race_facts said course
     ++ (flat_map (row_facts columns (end_of course)) (rows_of course) ++ Number (end_of course) ∷ [])

@@ -3,7 +3,8 @@ use Rattle.std.specs.Prelude.{ℕ, ◌+◌, ◌-◌, ◌*◌, ◌++◌, List, []
 use Rattle.he_course.specs.declared.course.Course.{Course}
 use Rattle.he_print.specs.declared.part.Fact.{Fact}
 use Rattle.he_print.specs.declared.part.Fact.TheVariants.{Said, Number}
-use Rattle.he_story.specs.Story.{race_facts}
+use Rattle.he_record.specs.Said.{Said as RecordSaid}
+use Rattle.he_story.specs.Story.{outcome_facts}
 use Rattle.he_story.specs.declared.said.Said.{Said as Words}
 use Rattle.he_draw.specs.declared.rows.Row.{Row}
 use Rattle.he_draw.specs.declared.rows.What.{What}
@@ -47,10 +48,10 @@ image_rows_facts end place (row ∷ more) =
 
 -- its height; how the race ended, as the title and above the rows; the depth of the edges of the time, and its end;
 -- and the rows
-unfoldable pub svg_facts : {A : Type 0} → Course A → List (Fact Words)
-svg_facts course =
+unfoldable pub svg_facts : {A : Type 0} → List RecordSaid → Course A → List (Fact Words)
+svg_facts said course =
     let top = Number (top_of (length (rows_of course))) in
     (top ∷ [])
-    ++ (race_facts course
-    ++ (race_facts course
+    ++ (outcome_facts said course
+    ++ (outcome_facts said course
     ++ ((top ∷ top ∷ Number (end_of course) ∷ []) ++ image_rows_facts (end_of course) 0 (rows_of course))))

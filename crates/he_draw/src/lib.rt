@@ -1,6 +1,7 @@
 //! Pictures of a race, as `he draw` prints them.
 //!
-//! [`write_picture`] draws a race for a terminal: a line on how it ended; a row for the AAAA answer, the A answer,
+//! [`write_picture`] draws a race for a terminal: a line on how it ended, with the host, the client and the time of
+//! its record and the recorded client's own result, if it has them; a row for the AAAA answer, the A answer,
 //! each pause and each attempt, with a bar from its start to its end on one scale of time, and these ticks; and the
 //! scale. The right edge is the end of the race; nothing later is drawn. The A answer's bar is the wait for the AAAA
 //! answer (RFC 8305 section 3). [`write_svg`] draws the rows as an SVG image, and [`collect_rows`] returns the rows
@@ -23,7 +24,7 @@
 //! and each attempt once, by place. The appended text states the facts of `specs/Picture` or `specs/Svg`, in this
 //! order: how the race ended, and for each row its subject, the columns before, in and after its bar, its ticks, and
 //! its outcome. If memory is refused, the vector is unchanged. A section has those rows with their ticks, and totals
-//! their numbers (`specs/Page`); no byte of a name or a story is read as a tag.
+//! their numbers (`specs/Page`); no byte of a name, a heading or a story is read as a tag.
 //!
 //! Not proved: the words, signs and colours, that lines are as wide as the terminal, and how a viewer shows an image.
 #![tactic(auto)]

@@ -12,41 +12,44 @@ use crate::rows::collect_rows;
 use he_addr::Memory;
 use he_course::Course;
 use he_print::{Part, push_parts, write_parts};
+use he_record::Record;
 use he_story::{Said, heading_parts};
 use std::alloc::Allocator;
 
-/// Appends the picture of the race: a line on how it ended; a row for each answer, each pause that begins before the
-/// end, and each attempt by place, with a bar from its start to its end and these ticks, in milliseconds; the scale;
-/// and an empty line. Lines are `width` columns wide, or wider if that leaves fewer than ten for the bars. After
-/// `Memory` the vector is unchanged.
-pub fn write_picture<A: Allocator + Copy, B: Allocator>(
+/// Appends the picture of the race: the first line of its story, without the time that it lost; a row for each answer,
+/// each pause that begins before the end, and each attempt by place, with a bar from its start to its end and these
+/// ticks, in milliseconds; the scale; and an empty line. Lines are `width` columns wide, or wider if that leaves fewer
+/// than ten for the bars. After `Memory` the vector is unchanged.
+pub fn write_picture<A: Allocator + Copy, B: Allocator, C: Allocator>(
     course: &Course<B>,
+    recorded: &Record<'_, C>,
     look: Look,
     width: u16,
     out: &mut Vec<u8, A>,
 ) -> Result<(), Memory>
     ensures ok { OnOk result ((columns : ℕ) × (LEAST_COLUMNS ≤ columns)
-        × Prints (picture_facts columns course.now) out.old.items out.new.items) }
+        × Prints (picture_facts columns recorded.now course.now) out.old.items out.new.items) }
     ensures err { OnErr result (out.new.items ≡ out.old.items) }
 {
-    let text = picture(*out.allocator(), course, look, width)?;
+    let text = picture(*out.allocator(), course, recorded, look, width)?;
     out.extend_from_slice(&text)
 }
 
 // The picture in a text of its own: if memory runs out, nothing of it is appended.
 #[tactic(auto, unfolding(crate::specs::Picture::picture_facts))]
-fn picture<A: Allocator + Copy, B: Allocator>(
+fn picture<A: Allocator + Copy, B: Allocator, C: Allocator>(
     alloc: A,
     course: &Course<B>,
+    recorded: &Record<'_, C>,
     look: Look,
     width: u16,
 ) -> Result<Vec<u8, A>, Memory>
     ensures { IfOk result (λ text. (columns : ℕ) × (LEAST_COLUMNS ≤ columns)
-        × States (picture_facts columns course.now) text.items) }
+        × States (picture_facts columns recorded.now course.now) text.items) }
 {
     let rows = collect_rows(alloc, course)?;
     let (frame, labels) = frame_of(alloc, look, width, course.end(), &rows)?;
-    let mut parts = heading_parts(alloc, course)?;
+    let mut parts = heading_parts(alloc, course, recorded)?;
     push_parts(&[Part::Words(b"\n")], &mut parts)?;
     push_rows(frame, &labels, &rows, &mut parts)?;
     push_scale(frame, &mut parts)?;

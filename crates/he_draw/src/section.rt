@@ -2,8 +2,8 @@
 
 ghost use Rattle.std.specs.Prelude.{◌≡◌, ◌++◌, [], IfOk, OnOk};
 ghost use Rattle.std.specs.List.{flat_map};
-ghost use Rattle.he_print.specs.Parts.{fact_of};
-ghost use Rattle.he_story.specs.Story.{Tells};
+ghost use Rattle.he_print.specs.Parts.{States, fact_of};
+ghost use Rattle.he_story.specs.Story.{Tells, race_facts};
 ghost use Rattle.he_draw.specs.Picture.{Prints, told};
 ghost use Rattle.he_draw.specs.Page.{WritesSection, anchor_facts, opening_facts, page_row_facts, section_facts, track_facts};
 
@@ -13,63 +13,92 @@ use crate::words::{became_word, label, push_words};
 use he_addr::Memory;
 use he_course::Course;
 use he_print::{Part, push_parts, write_parts};
+use he_record::Record;
 use he_story::{Said, heading_parts, write_story};
 use std::alloc::Allocator;
 
-/// Appends the race to a page: its rows, with bars on one scale or on its own, and its story, folded. `file` is the
-/// place of its text among those of the page, counted from 0: the race's anchor is `race-7`, or, from the second text
-/// on, `race-7-of-2`. After `Memory` the vector holds a first part of it too.
-pub fn write_section<A: Allocator + Copy, B: Allocator>(
+/// Appends the race to a page: the heading of its story, its rows, with bars on one scale or on its own, and its
+/// story, folded. `file` is the place of its text among those of the page, counted from 0: the race's anchor is
+/// `race-7`, or, from the second text on, `race-7-of-2`. After `Memory` the vector holds a first part of it too.
+pub fn write_section<A: Allocator + Copy, B: Allocator, C: Allocator>(
     course: &Course<B>,
+    recorded: &Record<'_, C>,
     file: usize,
     text: &mut Vec<u8, A>,
 ) -> Result<(), Memory>
-    ensures { OnOk result (WritesSection course.now file text.old.items text.new.items) }
+    ensures { OnOk result (WritesSection recorded.now course.now file text.old.items text.new.items) }
 {
     let alloc = *text.allocator();
-    write_rows(alloc, course, file, text)?;
-    let story = story(alloc, course)?;
+    write_links(alloc, course, file, text)?;
+    let heading = heading(alloc, course, recorded)?;
+    write_escaped(&heading, text)?;
+    write_rows(alloc, course, text)?;
+    let story = story(alloc, course, recorded)?;
     write_escaped(&story, text)?;
     text.extend_from_slice(b"</pre></details></section>\n")?;
     Ok(())
 }
 
-fn story<A: Allocator + Copy, B: Allocator>(
+fn heading<A: Allocator + Copy, B: Allocator, C: Allocator>(
     alloc: A,
     course: &Course<B>,
+    recorded: &Record<'_, C>,
 ) -> Result<Vec<u8, A>, Memory>
-    ensures { IfOk result (λ story. Tells course.now [] story.items) }
+    ensures { IfOk result (λ heading. States (race_facts recorded.now course.now) heading.items) }
+{
+    let parts = heading_parts(alloc, course, recorded)?;
+    let mut heading = Vec::new(alloc);
+    write_parts(&parts, &mut heading)?;
+    Ok(heading)
+}
+
+fn story<A: Allocator + Copy, B: Allocator, C: Allocator>(
+    alloc: A,
+    course: &Course<B>,
+    recorded: &Record<'_, C>,
+) -> Result<Vec<u8, A>, Memory>
+    ensures { IfOk result (λ story. Tells recorded.now course.now [] story.items) }
 {
     let mut story = Vec::new(alloc);
-    write_story(alloc, course, &mut story)?;
+    write_story(alloc, course, recorded, &mut story)?;
     Ok(story)
 }
 
-// The section without the story.
-fn write_rows<A: Allocator + Copy, B: Allocator>(
+// The links before the heading.
+fn write_links<A: Allocator + Copy, B: Allocator>(
     alloc: A,
     course: &Course<B>,
     file: usize,
     text: &mut Vec<u8, A>,
 ) -> Result<(), Memory>
-    ensures { OnOk result (Prints (section_facts course.now file) text.old.items text.new.items) }
+    ensures { OnOk result (Prints (opening_facts course.now file) text.old.items text.new.items) }
 {
-    let parts = section_parts(alloc, course, file)?;
+    let mut parts = Vec::new(alloc);
+    push_opening(course, file, &mut parts)?;
+    write_parts(&parts, text)
+}
+
+// The rows after the heading.
+fn write_rows<A: Allocator + Copy, B: Allocator>(
+    alloc: A,
+    course: &Course<B>,
+    text: &mut Vec<u8, A>,
+) -> Result<(), Memory>
+    ensures { OnOk result (Prints (section_facts course.now) text.old.items text.new.items) }
+{
+    let parts = row_parts(alloc, course)?;
     write_parts(&parts, text)
 }
 
 #[tactic(auto, unfolding(crate::specs::Page::section_facts))]
-fn section_parts<A: Allocator + Copy, B: Allocator>(
+fn row_parts<A: Allocator + Copy, B: Allocator>(
     alloc: A,
     course: &Course<B>,
-    file: usize,
 ) -> Result<Vec<Part<Said>, A>, Memory>
-    ensures { IfOk result (λ parts. told parts.items ≡ section_facts course.now file) }
+    ensures { IfOk result (λ parts. told parts.items ≡ section_facts course.now) }
 {
     let rows = collect_rows(alloc, course)?;
     let mut parts = Vec::new(alloc);
-    push_opening(course, file, &mut parts)?;
-    push_parts(&heading_parts(alloc, course)?, &mut parts)?;
     push_parts(&[Part::Words(b"</small></h3>\n")], &mut parts)?;
     push_rows(course.end(), &rows, &mut parts)?;
     push_parts(

@@ -10,35 +10,39 @@ use crate::shapes::{push_shapes, top_of};
 use he_addr::Memory;
 use he_course::Course;
 use he_print::{Part, push_parts, write_parts};
-use he_story::heading_parts;
+use he_record::Record;
+use he_story::outcome_parts;
 use std::alloc::Allocator;
 
-/// Appends the picture of the race as one SVG image: its title is how the race ended, and it has the rows of
+/// Appends the picture of the race as one SVG image: its title is how the race ended, after its recorded
+/// client's own result, and it has the rows of
 /// [`crate::collect_rows`], each with a bar from its start to its end and these ticks, in milliseconds. Bars differ
 /// by colour, and by a sign or a pattern too. After `Memory` the vector is unchanged.
-pub fn write_svg<A: Allocator + Copy, B: Allocator>(
+pub fn write_svg<A: Allocator + Copy, B: Allocator, C: Allocator>(
     course: &Course<B>,
+    recorded: &Record<'_, C>,
     out: &mut Vec<u8, A>,
 ) -> Result<(), Memory>
-    ensures ok { OnOk result (Prints (svg_facts course.now) out.old.items out.new.items) }
+    ensures ok { OnOk result (Prints (svg_facts recorded.now course.now) out.old.items out.new.items) }
     ensures err { OnErr result (out.new.items ≡ out.old.items) }
 {
-    let text = svg(*out.allocator(), course)?;
+    let text = svg(*out.allocator(), course, recorded)?;
     out.extend_from_slice(&text)
 }
 
 // The image in a text of its own: if memory runs out, nothing of it is appended.
 #[tactic(auto, unfolding(crate::specs::Svg::svg_facts))]
-fn svg<A: Allocator + Copy, B: Allocator>(
+fn svg<A: Allocator + Copy, B: Allocator, C: Allocator>(
     alloc: A,
     course: &Course<B>,
+    recorded: &Record<'_, C>,
 ) -> Result<Vec<u8, A>, Memory>
-    ensures { IfOk result (λ text. States (svg_facts course.now) text.items) }
+    ensures { IfOk result (λ text. States (svg_facts recorded.now course.now) text.items) }
 {
     let rows = collect_rows(alloc, course)?;
     let top = Part::Number(top_of(rows.len()));
     let end = Part::Number(course.end());
-    let heading = heading_parts(alloc, course)?;
+    let heading = outcome_parts(alloc, course, recorded)?;
     let mut parts = Vec::new(alloc);
     push_parts(&[Part::Words(OPENING), top, Part::Words(TITLE)], &mut parts)?;
     push_parts(&heading, &mut parts)?;

@@ -1,3 +1,4 @@
 mod CharacterLaws
 mod LineLaws
 mod RowLaws
+mod WriteLaws

@@ -1,18 +1,28 @@
 -- Each text is one line.
-use Rattle.std.proofs.Common.{◌≡◌, ℕ, true, false, List, [], ◌∷◌, ◌++◌, map, codes, decimal, refl, ◌∙◌, append_assoc}
+use Rattle.std.proofs.Common.{◌≡◌, ◌&&◌, ℕ, Bool, true, false, List, [], ◌∷◌, ◌++◌, map, codes, decimal, refl, ◌∙◌, append_assoc}
 use Rattle.std.specs.Prelude.{Option, None, Some}
 use Rattle.std.specs.Borrow.{Bor}
 use Rattle.std.specs.Cmp.Derive.{both_true}
-use Rattle.std.specs.List.{list_all}
+use Rattle.std.specs.List.{flat_map, list_all}
+use Rattle.std.proofs.lemmas.Bool.{false≢true}
 use Rattle.std.proofs.lemmas.List.Folds.{list_all-append}
 use Rattle.he_addr.specs.declared.ip.Ip.{Ip}
 use Rattle.he_addr.specs.Printing.{printed}
 use Rattle.he_print.specs.Escaping.{StringsAreLines, string_text}
+use Rattle.he_record.specs.declared.moment.Moment.{Moment}
+use Rattle.he_record.specs.declared.reasons.ClientEnd.{ClientEnd}
+use Rattle.he_record.specs.Given.{at_given, end_given, from_given, to_given}
+use Rattle.he_record.specs.Moments.{moment_text}
+use Rattle.he_record.specs.Said.{Said, AtSaid, ToSaid, FromSaid, LookupSaid, ServerSaid, AttemptSaid, UntriedSaid, EndSaid, ticks_of, word_said}
+use Rattle.he_record.specs.Words.{attempt_spelling, family_spelling, lookup_spelling, server_spelling, word_spelling}
 use Rattle.he_json.specs.Documents.{Spot, beginning_text, explanation_text, file_text, order_text, transcript_text}
 use Rattle.he_json.specs.Json.{address_text, member_text, object_text, objects_text, parted, value_text}
 use Rattle.he_json.specs.Laws.{IsLine}
 use Rattle.he_json.specs.Machine.{machine_text}
 use Rattle.he_json.specs.Names.{addresses_text, answer_text, given_text, names_text}
+use Rattle.he_json.specs.Recorded.{array_text, attempt_text, client_text, listing_text, lookup_text, object_texts, opening_text, recorded_text, result_text, server_text, target_text, time_text, untried_text}
+use Rattle.he_json.specs.declared.recorded.Listing.{Listing}
+use Rattle.he_json.specs.declared.recorded.Listing.TheVariants as listings
 use Rattle.he_json.specs.declared.members.Member.{Member}
 use Rattle.he_json.specs.declared.members.Value.{Value}
 use Rattle.he_json.specs.declared.members.Value.TheVariants as values
@@ -23,6 +33,14 @@ Stands text = list_all stands text ≡ true
 
 both : (first more : List ℕ) → Stands first → Stands more → Stands (first ++ more)
 both first more one other = list_all-append stands first more ∙ both_true one other
+
+first_true : (a b : Bool) → (a && b) ≡ true → a ≡ true
+first_true true b is = refl
+first_true false b is = absurd (false≢true is)
+
+second_true : (a b : Bool) → (a && b) ≡ true → b ≡ true
+second_true true b is = is
+second_true false b is = absurd (false≢true is)
 
 address_stands : (ip : Ip) → Stands (address_text ip)
 address_stands ip = both_true refl (both (printed ip) (codes "\"") (printed_stands ip) refl)
@@ -97,12 +115,112 @@ module _ (strings : StringsAreLines) where
             (bracketed (codes ",\"result\":") (object_text end) (codes "}") refl (object_stands end) refl)),
       )
 
-  pub explanation_is_line : (spot : Spot) (addresses events : List (List Member)) → IsLine (explanation_text spot addresses events)
-  explanation_is_line spot addresses events =
-      let last : List ℕ = codes ",\"events\":" ++ (objects_text events ++ codes "}") in (
-        beginning_text spot ++ (codes ",\"order\":" ++ (objects_text addresses ++ last)),
+  target_stands : (target : Option (List ℕ × ℕ)) → Stands (target_text target)
+  target_stands None = refl
+  target_stands (Some target) =
+      bracketed (codes ",\"host\":") (string_text target.0) (codes ",\"port\":" ++ decimal target.1) refl (strings target.0) (both (codes ",\"port\":") (decimal target.1) refl (decimal_stands target.1))
+
+  time_stands : (at : Option Moment) → Stands (time_text at)
+  time_stands None = refl
+  time_stands (Some moment) = both (codes ",\"at\":") (string_text (moment_text moment)) refl (strings (moment_text moment))
+
+  client_stands : (from : Option Ip) → Stands (client_text from)
+  client_stands None = refl
+  client_stands (Some ip) = both (codes ",\"from\":") (address_text ip) refl (address_stands ip)
+
+  result_stands : (end : Option ClientEnd) → Stands (result_text end)
+  result_stands None = refl
+  result_stands (Some end) =
+      bracketed (codes ",\"client\":{\"end\":") (string_text (word_spelling (word_said (EndSaid end)))) (codes ",\"ms\":" ++ (decimal (ticks_of end) ++ codes "}")) refl (strings (word_spelling (word_said (EndSaid end))))
+      (bracketed (codes ",\"ms\":") (decimal (ticks_of end)) (codes "}") refl (decimal_stands (ticks_of end)) refl)
+
+  -- the object of an address, with a reason
+  reason_stands : (ip : Ip) (reason last : List ℕ) → Stands last → Stands (codes "{\"address\":" ++ (address_text ip ++ (codes ",\"reason\":" ++ (string_text reason ++ last))))
+  reason_stands ip reason last ends =
+      bracketed (codes "{\"address\":") (address_text ip) (codes ",\"reason\":" ++ (string_text reason ++ last)) refl (address_stands ip)
+      (bracketed (codes ",\"reason\":") (string_text reason) last refl (strings reason) ends)
+
+  abbrev AllStand : List (List ℕ) → Type 0
+  AllStand texts = list_all (λ text. list_all stands text) texts ≡ true
+
+  one_stands : (text : List ℕ) → Stands text → AllStand (text ∷ [])
+  one_stands text is = both_true is refl
+
+  texts_stand : (listing : Listing) (line : Said) → AllStand (object_texts listing line)
+  texts_stand listings.Lookups (LookupSaid family reason) =
+      one_stands (lookup_text family reason) (bracketed (codes "{\"family\":") (string_text (family_spelling family)) (codes ",\"reason\":" ++ (string_text (lookup_spelling reason) ++ codes "}")) refl (strings (family_spelling family))
+      (bracketed (codes ",\"reason\":") (string_text (lookup_spelling reason)) (codes "}") refl (strings (lookup_spelling reason)) refl))
+  texts_stand listings.Servers (ServerSaid ip reason ticks) =
+      one_stands (server_text ip reason ticks) (reason_stands ip (server_spelling reason) (codes ",\"ms\":" ++ (decimal ticks ++ codes "}")) (bracketed (codes ",\"ms\":") (decimal ticks) (codes "}") refl (decimal_stands ticks) refl))
+  texts_stand listings.Outcomes (AttemptSaid ip reason) = one_stands (attempt_text ip reason) (reason_stands ip (attempt_spelling reason) (codes "}") refl)
+  texts_stand listings.Outcomes (UntriedSaid ip) =
+      one_stands (untried_text ip) (bracketed (codes "{\"address\":") (address_text ip) (codes ",\"untried\":true}") refl (address_stands ip) refl)
+  texts_stand listings.Lookups (AtSaid moment) = refl
+  texts_stand listings.Lookups (ToSaid host port) = refl
+  texts_stand listings.Lookups (FromSaid ip) = refl
+  texts_stand listings.Lookups (ServerSaid ip reason ticks) = refl
+  texts_stand listings.Lookups (AttemptSaid ip reason) = refl
+  texts_stand listings.Lookups (UntriedSaid ip) = refl
+  texts_stand listings.Lookups (EndSaid end) = refl
+  texts_stand listings.Servers (AtSaid moment) = refl
+  texts_stand listings.Servers (ToSaid host port) = refl
+  texts_stand listings.Servers (FromSaid ip) = refl
+  texts_stand listings.Servers (LookupSaid family reason) = refl
+  texts_stand listings.Servers (AttemptSaid ip reason) = refl
+  texts_stand listings.Servers (UntriedSaid ip) = refl
+  texts_stand listings.Servers (EndSaid end) = refl
+  texts_stand listings.Outcomes (AtSaid moment) = refl
+  texts_stand listings.Outcomes (ToSaid host port) = refl
+  texts_stand listings.Outcomes (FromSaid ip) = refl
+  texts_stand listings.Outcomes (LookupSaid family reason) = refl
+  texts_stand listings.Outcomes (ServerSaid ip reason ticks) = refl
+  texts_stand listings.Outcomes (EndSaid end) = refl
+
+  all_stand : (listing : Listing) (said : List Said) → AllStand (flat_map (object_texts listing) said)
+  all_stand listing [] = refl
+  all_stand listing (line ∷ said) =
+      list_all-append (λ text. list_all stands text) (object_texts listing line) (flat_map (object_texts listing) said) ∙ both_true (texts_stand listing line) (all_stand listing said)
+
+  apart_stands : (gap : List ℕ) → Stands gap → (texts : List (List ℕ)) → AllStand texts → Stands (parted gap texts)
+  apart_stands gap between [] are = refl
+  apart_stands gap between (text ∷ texts) are =
+      bracketed gap text (parted (codes ",") texts) between
+      (first_true (list_all stands text) (list_all (λ t. list_all stands t) texts) are)
+      (apart_stands (codes ",") refl texts (second_true (list_all stands text) (list_all (λ t. list_all stands t) texts) are))
+
+  opening_stands : (listing : Listing) → Stands (opening_text listing)
+  opening_stands listings.Lookups = refl
+  opening_stands listings.Servers = refl
+  opening_stands listings.Outcomes = refl
+
+  array_stands : (opening : List ℕ) → Stands opening → (texts : List (List ℕ)) → AllStand texts → Stands (array_text opening texts)
+  array_stands opening begins [] are = refl
+  array_stands opening begins (text ∷ texts) are = bracketed opening (parted [] (text ∷ texts)) (codes "]") begins (apart_stands [] refl (text ∷ texts) are) refl
+
+  listing_stands : (listing : Listing) (said : List Said) → Stands (listing_text listing said)
+  listing_stands listing said = array_stands (opening_text listing) (opening_stands listing) (flat_map (object_texts listing) said) (all_stand listing said)
+
+  recorded_stands : (said : List Said) → Stands (recorded_text said)
+  recorded_stands said =
+      let outcomes = listing_text listings.Outcomes said in
+      let servers = listing_text listings.Servers said ++ outcomes in
+      let lookups = listing_text listings.Lookups said ++ servers in
+      let result = result_text (end_given said) ++ lookups in
+      let client = client_text (from_given said) ++ result in
+      both (target_text (to_given said)) (time_text (at_given said) ++ client) (target_stands (to_given said))
+      (both (time_text (at_given said)) client (time_stands (at_given said))
+      (both (client_text (from_given said)) result (client_stands (from_given said))
+      (both (result_text (end_given said)) lookups (result_stands (end_given said))
+      (both (listing_text listings.Lookups said) servers (listing_stands listings.Lookups said)
+      (both (listing_text listings.Servers said) outcomes (listing_stands listings.Servers said) (listing_stands listings.Outcomes said))))))
+
+  pub explanation_is_line : (spot : Spot) (said : List Said) (addresses events : List (List Member)) → IsLine (explanation_text spot said addresses events)
+  explanation_is_line spot said addresses events =
+      let last : List ℕ = codes ",\"events\":" ++ (objects_text events ++ codes "}") in
+      let more : List ℕ = codes ",\"order\":" ++ (objects_text addresses ++ last) in (
+        beginning_text spot ++ (recorded_text said ++ more),
         simp append_assoc,
-        both (beginning_text spot) (codes ",\"order\":" ++ (objects_text addresses ++ last)) (beginning_stands spot)
+        bracketed (beginning_text spot) (recorded_text said) more (beginning_stands spot) (recorded_stands said)
             (bracketed (codes ",\"order\":") (objects_text addresses) last refl (objects_stands addresses)
             (bracketed (codes ",\"events\":") (objects_text events) (codes "}") refl (objects_stands events) refl)),
       )

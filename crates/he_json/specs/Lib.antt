@@ -4,3 +4,4 @@ pub mod Json
 pub mod Laws
 pub mod Machine
 pub mod Names
+pub mod Recorded

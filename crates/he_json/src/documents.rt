@@ -8,10 +8,12 @@ use crate::events::event_rows;
 use crate::members::{Member, write_object, write_objects, write_words};
 use crate::order::{place_rows, preferred_rows};
 use crate::place::Place;
+use crate::recorded::write_recorded;
 use he_addr::{Memory, write_number};
 use he_course::{Course, Event, Preferred};
 use he_plan::{Line, Outcome3, Transcript};
 use he_print::write_string;
+use he_record::Record;
 use he_select::DestinationAttributes;
 use std::alloc::Allocator;
 
@@ -70,16 +72,18 @@ fn write_order<A: Allocator + Copy>(
     write_words(b"}\n", text)
 }
 
-fn write_explanation<A: Allocator + Copy>(
+fn write_explanation<A: Allocator + Copy, C: Allocator>(
     place: Place<'_>,
+    recorded: &Record<'_, C>,
     addresses: &[Vec<Member, A>],
     events: &[Vec<Member, A>],
     text: &mut Vec<u8, A>,
 ) -> Result<(), Memory>
-    ensures { OnOk result (text.new.items ≡ text.old.items ++ explanation_text (spot_of place.entry)
+    ensures { OnOk result (text.new.items ≡ text.old.items ++ explanation_text (spot_of place.entry) recorded.now
         (map (λ row. row.items) addresses.now) (map (λ row. row.items) events.now)) }
 {
     write_beginning(place, text)?;
+    write_recorded(recorded, text)?;
     write_words(b",\"order\":", text)?;
     write_objects(addresses, text)?;
     write_words(b",\"events\":", text)?;
@@ -117,18 +121,20 @@ fn order_of<A: Allocator + Copy>(
     Ok(text)
 }
 
-fn explanation_of<A: Allocator + Copy>(
+fn explanation_of<A: Allocator + Copy, C: Allocator>(
     alloc: A,
     place: Place<'_>,
+    recorded: &Record<'_, C>,
     addresses: &[Preferred],
     events: &[Event],
 ) -> Result<Vec<u8, A>, Memory>
-    ensures { IfOk result (λ text. IsExplanationJson (spot_of place.entry) addresses.now events.now text.items) }
+    ensures { IfOk result (λ text. IsExplanationJson (spot_of place.entry) recorded.now addresses.now events.now
+        text.items) }
 {
     let addresses = preferred_rows(alloc, addresses)?;
     let events = event_rows(alloc, events)?;
     let mut text = Vec::new(alloc);
-    write_explanation(place, &addresses, &events, &mut text)?;
+    write_explanation(place, recorded, &addresses, &events, &mut text)?;
     Ok(text)
 }
 
@@ -215,15 +221,22 @@ pub fn write_order_json<A: Allocator + Copy, T: Allocator>(
 ///   8305 section 4);
 /// - `failed`, an `attempt`; `won` by an `attempt`, `exhausted` or `limit`, the end; `cancelled` by it, an `attempt`.
 ///
+/// A race with record lines has the members that its record gives, after `line`: `host` and `port`; `at`, the time of
+/// tick 0; `from`, the client's address; `client`, its own result, with its `end` (`connected`, `gave-up`, `failed`)
+/// and the `ms` from tick 0; `lookups`, each a `family` without an address and the `reason`; `servers`, each the
+/// `address` of a name server that was given up, the `reason` and the `ms` until then; `outcomes`, each an `address`
+/// with the `reason` that the attempt at it failed, or `untried`, true, if no client tried it.
+///
 /// After `Memory` the vector is unchanged.
-pub fn write_explanation_json<A: Allocator + Copy, B: Allocator, T: Allocator>(
+pub fn write_explanation_json<A: Allocator + Copy, B: Allocator, C: Allocator, T: Allocator>(
     alloc: A,
     course: &Course<B>,
+    recorded: &Record<'_, C>,
     file: Option<&str>,
     out: &mut Vec<u8, T>,
 ) -> Result<(), Memory>
     ensures ok { OnOk result (Appends (IsExplanationJson
-        (record { file = name_of file.entry; number = course.now.number; line = course.now.line })
+        (record { file = name_of file.entry; number = course.now.number; line = course.now.line }) recorded.now
         course.now.addresses.items course.now.events.items) out.old.items out.new.items) }
     ensures err { OnErr result (out.new.items ≡ out.old.items) }
 {
@@ -232,6 +245,6 @@ pub fn write_explanation_json<A: Allocator + Copy, B: Allocator, T: Allocator>(
         number: course.number,
         line: course.line,
     };
-    let text = explanation_of(alloc, place, &course.addresses, &course.events)?;
+    let text = explanation_of(alloc, place, recorded, &course.addresses, &course.events)?;
     out.extend_from_slice(&text)
 }

@@ -4,7 +4,9 @@
 //! of preference, and [`write_explanation_json`] that order with its reasons and the events of the race. Each object
 //! of a race begins with the name of the race's file, its number and its line ([`Place`]). Attempts and places are
 //! counted from 0, ticks are milliseconds. [`write_machine_json`] writes the addresses and routes of a machine, and
-//! [`write_names_json`] the addresses of a host.
+//! [`write_names_json`] the addresses of a host. An explanation has the race's record too (he_record): the host and
+//! port, the time, the client's address and its own result, failed look-ups, name servers that were given up, and for
+//! addresses the reason that the attempt failed, or that no client tried them.
 //!
 //! The texts are JSON (RFC 8259) without spaces between their parts.
 //!
@@ -26,6 +28,7 @@ pub mod names;
 mod order;
 pub mod place;
 mod reasons;
+mod recorded;
 
 pub use documents::{write_explanation_json, write_order_json, write_transcript_json};
 pub use machine::write_machine_json;

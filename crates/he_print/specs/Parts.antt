@@ -18,6 +18,7 @@ text_of (parts.Number n) = decimal n
 text_of (parts.Aligned width n) = aligned width n
 text_of (parts.Place place) = decimal (place + 1)
 text_of (parts.Ip ip) = printed ip
+text_of (parts.Byte byte) = byte ∷ []
 text_of (parts.Repeated count words) = repeat count words.now
 
 -- words without a meaning state nothing
@@ -28,6 +29,7 @@ fact_of (parts.Number n) = facts.Number n ∷ []
 fact_of (parts.Aligned width n) = facts.Number n ∷ []
 fact_of (parts.Place place) = facts.Place place ∷ []
 fact_of (parts.Ip ip) = facts.Ip ip ∷ []
+fact_of (parts.Byte byte) = facts.Byte byte ∷ []
 fact_of (parts.Repeated count words) = facts.Times count ∷ []
 
 -- the text consists of parts with exactly these facts, in this order

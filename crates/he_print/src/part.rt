@@ -27,6 +27,9 @@ pub enum Part<S: Copy> {
 
     Ip(Ip),
 
+    /// A byte of a name.
+    Byte(u8),
+
     /// The words repeated this many times: a bar of a chart, or spaces.
     Repeated(usize, &'static [u8]),
 }
@@ -38,6 +41,7 @@ pub enum Fact<S: Copy> {
     Number(u64),
     Place(usize),
     Ip(Ip),
+    Byte(u8),
     Times(usize),
 }
 
@@ -79,6 +83,7 @@ fn write_part<S: Copy, A: Allocator + Copy>(
         Part::Aligned(width, number) => write_aligned(*width, *number, text),
         Part::Place(place) => write_place(*place, text),
         Part::Ip(ip) => write_ip(*ip, text),
+        Part::Byte(byte) => write_words(&[*byte], text),
         Part::Repeated(count, words) => write_repeated(*count, words, text),
     }
 }

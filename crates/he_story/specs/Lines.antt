@@ -26,6 +26,10 @@ use Rattle.he_course.specs.declared.listing.Listed.{Listed}
 use Rattle.he_print.specs.Parts.{fact_of}
 use Rattle.he_print.specs.declared.part.Fact.{Fact}
 use Rattle.he_print.specs.declared.part.Fact.TheVariants as facts
+use Rattle.he_record.specs.declared.reasons.LookupReason.{LookupReason}
+use Rattle.he_record.specs.Given.{end_given, lookup_given}
+use Rattle.he_record.specs.Said.{Said as RecordSaid}
+use Rattle.he_story.specs.Recorded.{because_facts, course_said, is_unknown_at, reason_at, say, unknown_facts}
 use Rattle.he_story.specs.declared.happening.TheConstants.{LEAST_PAUSE}
 use Rattle.he_story.specs.declared.said.Said.{Said}
 use Rattle.he_story.specs.declared.said.Said.TheVariants as says
@@ -34,10 +38,6 @@ use Rattle.he_story.specs.declared.story.Story.{Story}
 -- the facts of the story so far
 abbrev pub told : {A : Type 0} → Story A → List (Fact Said)
 told story = flat_map fact_of story.parts.items
-
--- a statement, with the facts in its words
-abbrev pub say : Said → List (Fact Said) → List (Fact Said)
-say said stands = facts.Said said ∷ stands
 
 -- the block of an address, by its prefix: 64:ff9b::/96 (RFC 6052), 2002::/16 (RFC 3056), 2001::/32 (RFC 4380)
 abbrev pub block_facts : Ip → List (Fact Said)
@@ -173,14 +173,24 @@ abbrev pub other_facts : Family → Bool → List (Fact Said)
 other_facts family true = []
 other_facts family false = say (says.StillMissing family) []
 
-module _ {A : Type 0} (course : Course A) where
+-- the number of addresses of an answer
+abbrev pub count_facts : ℕ → List (Fact Said)
+count_facts count = if count == 0 then [] else say says.ToTry (facts.Number count ∷ [])
+
+-- an answer and its addresses, or the reason that it has none
+abbrev pub reply_facts : Family → ℕ → Option ℕ → Option LookupReason → List (Fact Said)
+reply_facts family count late None =
+    say (says.Answered family) [] ++ (late_facts late ++ say says.ToTry (facts.Number count ∷ []))
+reply_facts family count late (Some reason) =
+    say (says.Lookup family reason) [] ++ (late_facts late ++ count_facts count)
+
+module _ {A : Type 0} (said : List RecordSaid) (course : Course A) where
   -- the client's pauses, the answers, and the wait for the AAAA answer
   abbrev pub met_facts : ℕ → Option ℕ → EventKind → List (Fact Said)
   met_facts tick late (kinds.Paused end) = say says.Paused (facts.Number end ∷ [])
   met_facts tick late (kinds.Answered family count) =
-      say (says.Answered family) []
-      ++ (late_facts late ++ (say says.ToTry (facts.Number count ∷ [])
-      ++ other_facts (other_of family) (is_seen_by tick (answer_of course (other_of family)))))
+      reply_facts family count late (lookup_given family said)
+      ++ other_facts (other_of family) (is_seen_by tick (answer_of course (other_of family)))
   met_facts tick late (kinds.Waits end) = say says.Waits (facts.Number end ∷ [])
   met_facts tick late kinds.DelayOver = say says.DelayOver [] ++ late_facts late
   met_facts tick late _ = []
@@ -189,10 +199,12 @@ module _ {A : Type 0} (course : Course A) where
   kind_facts tick late (kinds.Started start) = start_facts start late
   kind_facts tick late (kinds.Failed place) =
       became_facts says.Failed place (taken course.transcript.lines place tick) late
+      ++ because_facts (reason_at said course.transcript.lines place)
   kind_facts tick late (kinds.Won place) =
       became_facts says.Won place (taken course.transcript.lines place tick) late
   kind_facts tick late (kinds.Cancelled place) =
       became_facts says.Cancelled place (taken course.transcript.lines place tick) None
+      ++ unknown_facts (is_unknown_at said course.transcript.lines place)
   kind_facts tick late kinds.Exhausted = say says.Exhausted []
   kind_facts tick late kinds.Limit = say says.Limit []
   kind_facts tick late kind = met_facts tick late kind
@@ -205,4 +217,4 @@ module _ {A : Type 0} (course : Course A) where
       ++ kind_facts event.tick (late_at course.events.items event.tick) event.kind
 
   abbrev pub happening_facts : List (Fact Said)
-  happening_facts = say says.Course [] ++ flat_map event_facts course.events.items
+  happening_facts = say (course_said (end_given said)) [] ++ flat_map event_facts course.events.items

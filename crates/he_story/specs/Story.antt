@@ -22,7 +22,10 @@ use Rattle.he_course.specs.declared.floor.Ended.{Ended}
 use Rattle.he_print.specs.Parts.{States}
 use Rattle.he_print.specs.declared.part.Fact.{Fact}
 use Rattle.he_print.specs.declared.part.Fact.TheVariants as facts
-use Rattle.he_story.specs.Lines.{happening_facts, preferred_facts, say}
+use Rattle.he_record.specs.Given.{end_given, is_untried_given}
+use Rattle.he_record.specs.Said.{Said as RecordSaid}
+use Rattle.he_story.specs.Lines.{happening_facts, preferred_facts}
+use Rattle.he_story.specs.Recorded.{client_facts, named_facts, note_facts, say, unseen_reason, why_facts}
 use Rattle.he_story.specs.declared.said.Said.{Said}
 use Rattle.he_story.specs.declared.said.Said.TheVariants as says
 use Rattle.he_story.specs.declared.verdict.TheConstants.{MAX_NAMED}
@@ -38,10 +41,18 @@ ended_by winner attempts (results.Limit tick) = say says.LimitReached (facts.Num
 abbrev pub ending_facts : Ended → List (Fact Said)
 ending_facts ended = ended_by ended.winner ended.attempts ended.result
 
--- the race, and how it ended
-abbrev pub race_facts : {A : Type 0} → Course A → List (Fact Said)
-race_facts course =
-    say says.Race (facts.Number course.number ∷ facts.Number course.line ∷ []) ++ ending_facts course.ended
+-- the number of the race in its input, and its first line
+abbrev pub place_facts : ℕ → ℕ → List (Fact Said)
+place_facts number line = say says.Race (facts.Number number ∷ facts.Number line ∷ [])
+
+-- the race, the recorded client's own result, and how the race ended
+abbrev pub outcome_facts : {A : Type 0} → List RecordSaid → Course A → List (Fact Said)
+outcome_facts said course =
+    place_facts course.number course.line ++ (client_facts (end_given said) ++ ending_facts course.ended)
+
+-- and before that its record's host, client and time
+abbrev pub race_facts : {A : Type 0} → List RecordSaid → Course A → List (Fact Said)
+race_facts said course = named_facts said ++ outcome_facts said course
 
 abbrev pub is_wait : EventKind → Bool
 is_wait (kinds.Waits end) = true
@@ -59,18 +70,24 @@ abbrev pub had_failed : ℕ → Mark → Bool
 had_failed tick (marks.Failed failed) = nat_le failed tick
 had_failed tick _ = false
 
--- an attempt that had failed by the tick at which the winner's started, or gave no answer by then
-abbrev pub stood_facts : ℕ → Line → List (Fact Said)
-stood_facts tick line =
-    say (if had_failed tick line.mark then says.HadFailed else says.GaveNoAnswer) (facts.Ip line.ip ∷ [])
+-- an attempt that had failed by the tick at which the winner's started, or gave no answer by then; where no client
+-- tried the address, it is not known whether it would have answered
+abbrev pub stood_said : List RecordSaid → ℕ → Line → Said
+stood_said said tick line =
+    if had_failed tick line.mark then says.HadFailed
+    else if is_untried_given line.ip said then says.NotTried
+    else says.GaveNoAnswer
+
+abbrev pub stood_facts : List RecordSaid → ℕ → Line → List (Fact Said)
+stood_facts said tick line = say (stood_said said tick line) (facts.Ip line.ip ∷ [])
 
 abbrev pub more_facts : ℕ → List (Fact Said)
 more_facts count = if count == 0 then [] else say says.More (facts.Number count ∷ [])
 
 -- the first attempts, and the number of further ones
-abbrev pub between_facts : ℕ → List Line → List (Fact Said)
-between_facts tick lines =
-    flat_map (stood_facts tick) (take MAX_NAMED lines) ++ more_facts (length lines - MAX_NAMED)
+abbrev pub between_facts : List RecordSaid → ℕ → List Line → List (Fact Said)
+between_facts said tick lines =
+    flat_map (stood_facts said tick) (take MAX_NAMED lines) ++ more_facts (length lines - MAX_NAMED)
 
 -- the first attempt at an address of the family
 abbrev pub first_of : Family → List Line → Option Line
@@ -98,12 +115,12 @@ abbrev pub sooner_facts : Option Ended → List (Fact Said)
 sooner_facts None = []
 sooner_facts (Some ended) = say says.WithFloor (facts.Number MIN_FLOOR ∷ []) ++ ending_facts ended
 
-module _ {A : Type 0} (course : Course A) where
+module _ {A : Type 0} (said : List RecordSaid) (course : Course A) where
   -- the time that the race lost, and the attempts between the winner's answer and the winner's start
   abbrev pub lost_facts : Line → ℕ → List (Fact Said)
   lost_facts winner lost =
       say says.Lost (facts.Number lost ∷ [])
-      ++ (wait_facts (has_waited course.events.items winner.ip) ++ between_facts winner.tick (before_winner course))
+      ++ (wait_facts (has_waited course.events.items winner.ip) ++ between_facts said winner.tick (before_winner course))
 
   abbrev pub verdict_by : Option Line → Option ℕ → List (Fact Said)
   verdict_by None lost = []
@@ -115,23 +132,23 @@ module _ {A : Type 0} (course : Course A) where
 
   -- the race, how it ended, and the time that it lost
   abbrev pub heading_facts : List (Fact Said)
-  heading_facts =
-      say says.Race (facts.Number course.number ∷ facts.Number course.line ∷ [])
-      ++ (ending_facts course.ended ++ verdict_facts)
+  heading_facts = race_facts said course ++ verdict_facts
 
   abbrev pub answer_facts : Family → List (Fact Said)
   answer_facts family =
       answered_by (end_event course.transcript.result).tick course.transcript.lines family (answer_of course family)
+      ++ why_facts (unseen_reason said (end_event course.transcript.result).tick family (answer_of course family))
 
-  -- the answers that the race did not have, and those whose addresses had to wait
+  -- the answers that the race did not have, and those whose addresses had to wait; the name servers that were given
+  -- up, and the addresses that no client tried
   abbrev pub closing_facts : List (Fact Said)
-  closing_facts = answer_facts families.V6 ++ answer_facts families.V4
+  closing_facts = answer_facts families.V6 ++ (answer_facts families.V4 ++ flat_map note_facts said)
 
   abbrev pub story_facts : List (Fact Said)
   story_facts =
       heading_facts
       ++ (preferred_facts course.addresses.items
-      ++ (happening_facts course ++ (closing_facts ++ (sooner_facts course.sooner ++ say says.End []))))
+      ++ (happening_facts said course ++ (closing_facts ++ (sooner_facts course.sooner ++ say says.End []))))
 
   -- a text that states these facts has been appended
   abbrev pub Tells : List ℕ → List ℕ → Type 0

@@ -3,8 +3,9 @@
 
 ghost use Rattle.std.specs.Prelude.{◌≡◌, ◌++◌, OnOk};
 ghost use Rattle.he_story.specs.Lines.{told};
-ghost use Rattle.he_story.specs.Story.{answer_facts, closing_facts, first_of, gap_facts, seen_facts, sooner_facts};
+ghost use Rattle.he_story.specs.Story.{answer_facts, answered_by, closing_facts, first_of, gap_facts, seen_facts, sooner_facts};
 
+use crate::recorded::unseen_reason;
 use crate::said::Said;
 use crate::story::Story;
 use crate::words::name_of;
@@ -12,6 +13,7 @@ use he_addr::{Family, Memory};
 use he_course::{Course, Ended, Seen};
 use he_plan::Line;
 use he_print::Part;
+use he_record::Record;
 use he_timeline::limits::MIN_FLOOR;
 use std::alloc::Allocator;
 
@@ -65,25 +67,46 @@ impl<A: Allocator> Story<A> {
         self.tell_gap(family, seen.tick, first_of(family, lines))
     }
 
-    fn tell_answer<B: Allocator>(
+    // The answer of a family, as a race saw it that ended at `end`.
+    fn tell_answered(
         &mut self,
-        course: &Course<B>,
         family: Family,
+        end: u64,
+        lines: &[Line],
+        seen: Option<Seen>,
     ) -> Result<(), Memory>
-        ensures { OnOk result (told self.new ≡ told self.old ++ answer_facts course.now family) }
+        ensures { OnOk result (told self.new ≡ told self.old ++ answered_by end lines.now family seen) }
     {
-        let lines = course.transcript.attempts();
-        match course.answer(family) {
-            Some(seen) => self.tell_seen(family, course.end(), lines, seen),
+        match seen {
+            Some(seen) => self.tell_seen(family, end, lines, seen),
             None => self.tell(Said::NoAnswer(family), &[Part::Words(name_of(family))]),
         }
     }
 
-    pub(crate) fn tell_answers<B: Allocator>(&mut self, course: &Course<B>) -> Result<(), Memory>
-        ensures { OnOk result (told self.new ≡ told self.old ++ closing_facts course.now) }
+    fn tell_answer<B: Allocator, C: Allocator>(
+        &mut self,
+        course: &Course<B>,
+        recorded: &Record<'_, C>,
+        family: Family,
+    ) -> Result<(), Memory>
+        ensures { OnOk result (told self.new ≡ told self.old ++ answer_facts recorded.now course.now family) }
     {
-        self.tell_answer(course, Family::V6)?;
-        self.tell_answer(course, Family::V4)
+        let (end, seen) = (course.end(), course.answer(family));
+        self.tell_answered(family, end, course.transcript.attempts(), seen)?;
+        self.tell_why(unseen_reason(recorded, end, family, seen))
+    }
+
+    // The answers, the name servers that were given up, and the addresses that no client tried.
+    pub(crate) fn tell_closing<B: Allocator, C: Allocator>(
+        &mut self,
+        course: &Course<B>,
+        recorded: &Record<'_, C>,
+    ) -> Result<(), Memory>
+        ensures { OnOk result (told self.new ≡ told self.old ++ closing_facts recorded.now course.now) }
+    {
+        self.tell_answer(course, recorded, Family::V6)?;
+        self.tell_answer(course, recorded, Family::V4)?;
+        self.tell_notes(recorded.lines())
     }
 
     // How the race would have ended with the least floor, if that is sooner.

@@ -2,9 +2,10 @@
 
 ghost use Rattle.std.specs.Prelude.{◌≡◌, ◌++◌, IfOk, OnOk};
 ghost use Rattle.std.specs.List.{flat_map};
-ghost use Rattle.he_story.specs.Lines.{became_facts, cause_facts, event_facts, happening_facts, held_facts, is_seen_by, is_short, is_short_to, kind_facts, late_at, late_facts, listed_facts, met_facts, other_facts, other_of, short_pauses, start_facts, taken, told};
+ghost use Rattle.he_story.specs.Lines.{became_facts, cause_facts, event_facts, happening_facts, held_facts, is_seen_by, is_short, is_short_to, kind_facts, late_at, late_facts, listed_facts, met_facts, other_facts, other_of, reply_facts, short_pauses, start_facts, taken, told};
 
 use crate::preferred::width_of;
+use crate::recorded::{course_said, is_unknown_at, reason_at};
 use crate::said::Said;
 use crate::story::Story;
 use crate::words::{name_of, noun, turn_words};
@@ -12,6 +13,7 @@ use he_addr::{Family, Memory};
 use he_course::{Cause, Course, Event, EventKind, Listed, Seen, Start};
 use he_plan::Line;
 use he_print::Part;
+use he_record::{LookupReason, Record};
 use std::alloc::Allocator;
 
 /// The shortest pause, in milliseconds, that has a line in a story.
@@ -175,24 +177,49 @@ impl<A: Allocator> Story<A> {
         self.tell(Said::StillMissing(family), &[Part::Words(name_of(family))])
     }
 
+    // An answer with this number of addresses, or the reason that it has none.
+    fn tell_reply(
+        &mut self,
+        family: Family,
+        count: usize,
+        late: Option<u64>,
+        reason: Option<LookupReason>,
+    ) -> Result<(), Memory>
+        ensures { OnOk result (told self.new ≡ told self.old ++ reply_facts family count late reason) }
+    {
+        let name = Part::Words(name_of(family));
+        let noun = Part::Words(noun(count, b"address", b"addresses"));
+        let to_try = [Part::Number(count as u64), noun];
+        let Some(reason) = reason else {
+            self.tell(Said::Answered(family), &[name])?;
+            self.tell_late(late)?;
+            return self.tell(Said::ToTry, &to_try);
+        };
+        self.tell(Said::Lookup(family, reason), &[name])?;
+        self.tell_late(late)?;
+        if count == 0 {
+            return Ok(());
+        }
+        self.tell(Said::ToTry, &to_try)
+    }
+
     // The client's pauses, the answers, and the wait for the AAAA answer.
-    fn tell_met<B: Allocator>(
+    fn tell_met<B: Allocator, C: Allocator>(
         &mut self,
         course: &Course<B>,
+        recorded: &Record<'_, C>,
         pauses: &[Event],
         event: Event,
     ) -> Result<(), Memory>
-        ensures { OnOk result (told self.new ≡ told self.old ++ met_facts course.now event.tick
+        ensures { OnOk result (told self.new ≡ told self.old ++ met_facts recorded.now course.now event.tick
             (late_at pauses.now event.tick) event.kind) }
     {
         match event.kind {
             EventKind::Paused(end) => self.tell(Said::Paused, &[Part::Number(end)]),
             EventKind::Answered(family, count) => {
                 let other = other_of(family);
-                let noun = Part::Words(noun(count, b"address", b"addresses"));
-                self.tell(Said::Answered(family), &[Part::Words(name_of(family))])?;
-                self.tell_late(late_at(pauses, event.tick))?;
-                self.tell(Said::ToTry, &[Part::Number(count as u64), noun])?;
+                let late = late_at(pauses, event.tick);
+                self.tell_reply(family, count, late, recorded.lookup(family))?;
                 self.tell_other(other, is_seen_by(course.answer(other), event.tick))
             }
             EventKind::Waits(end) => self.tell(Said::Waits, &[Part::Number(end)]),
@@ -204,13 +231,14 @@ impl<A: Allocator> Story<A> {
         }
     }
 
-    fn tell_kind<B: Allocator>(
+    fn tell_kind<B: Allocator, C: Allocator>(
         &mut self,
         course: &Course<B>,
+        recorded: &Record<'_, C>,
         pauses: &[Event],
         event: Event,
     ) -> Result<(), Memory>
-        ensures { OnOk result (told self.new ≡ told self.old ++ kind_facts course.now event.tick
+        ensures { OnOk result (told self.new ≡ told self.old ++ kind_facts recorded.now course.now event.tick
             (late_at pauses.now event.tick) event.kind) }
     {
         let lines = course.transcript.attempts();
@@ -218,7 +246,8 @@ impl<A: Allocator> Story<A> {
             EventKind::Started(start) => self.tell_start(start, pauses, event.tick),
             EventKind::Failed(place) => {
                 let taken = taken(lines, place, event.tick);
-                self.tell_became(Said::Failed, place, taken, late_at(pauses, event.tick))
+                self.tell_became(Said::Failed, place, taken, late_at(pauses, event.tick))?;
+                self.tell_because(reason_at(recorded, lines, place))
             }
             EventKind::Won(place) => {
                 let taken = taken(lines, place, event.tick);
@@ -226,59 +255,62 @@ impl<A: Allocator> Story<A> {
             }
             EventKind::Cancelled(place) => {
                 let taken = taken(lines, place, event.tick);
-                self.tell_became(Said::Cancelled, place, taken, None)
+                self.tell_became(Said::Cancelled, place, taken, None)?;
+                self.tell_unknown(is_unknown_at(recorded, lines, place))
             }
             EventKind::Exhausted => self.tell(Said::Exhausted, &[]),
             EventKind::Limit => self.tell(Said::Limit, &[]),
             EventKind::Paused(_)
             | EventKind::Answered(_, _)
             | EventKind::Waits(_)
-            | EventKind::DelayOver => self.tell_met(course, pauses, event),
+            | EventKind::DelayOver => self.tell_met(course, recorded, pauses, event),
         }
     }
 
     // `pauses` are the short ones of the course.
-    fn tell_event<B: Allocator>(
+    fn tell_event<B: Allocator, C: Allocator>(
         &mut self,
         course: &Course<B>,
+        recorded: &Record<'_, C>,
         pauses: &[Event],
-        width: usize,
         event: Event,
     ) -> Result<(), Memory>
         requires { pauses.now ≡ short_pauses course.now.events.items }
-        ensures { OnOk result (told self.new ≡ told self.old ++ event_facts course.now event) }
+        ensures { OnOk result (told self.new ≡ told self.old ++ event_facts recorded.now course.now event) }
     {
         if is_short(&event) {
             return Ok(());
         }
+        let width = width_of(course.end());
         self.tell(Said::At, &[Part::Aligned(width, event.tick)])?;
-        self.tell_kind(course, pauses, event)
+        self.tell_kind(course, recorded, pauses, event)
     }
 
-    pub(crate) fn tell_events<B: Allocator>(
+    pub(crate) fn tell_events<B: Allocator, C: Allocator>(
         &mut self,
         alloc: A,
         course: &Course<B>,
+        recorded: &Record<'_, C>,
     ) -> Result<(), Memory>
-        ensures { OnOk result (told self.new ≡ told self.old ++ happening_facts course.now) }
+        ensures { OnOk result (told self.new ≡ told self.old ++ happening_facts recorded.now course.now) }
     {
         let pauses = short_pauses(alloc, &course.events)?;
-        self.tell(Said::Course, &[])?;
-        self.tell_each(course, &pauses, width_of(course.end()))
+        self.tell(course_said(recorded.end()), &[])?;
+        self.tell_each(course, recorded, &pauses)
     }
 
-    fn tell_each<B: Allocator>(
+    fn tell_each<B: Allocator, C: Allocator>(
         &mut self,
         course: &Course<B>,
+        recorded: &Record<'_, C>,
         pauses: &[Event],
-        width: usize,
     ) -> Result<(), Memory>
         requires { pauses.now ≡ short_pauses course.now.events.items }
-        ensures { OnOk result (told self.new ≡ told self.old ++ flat_map (event_facts course.now)
+        ensures { OnOk result (told self.new ≡ told self.old ++ flat_map (event_facts recorded.now course.now)
             course.now.events.items) }
     {
         for event in &course.events {
-            self.tell_event(course, pauses, width, *event)?;
+            self.tell_event(course, recorded, pauses, *event)?;
         }
         Ok(())
     }

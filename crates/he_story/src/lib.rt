@@ -4,22 +4,27 @@
 //! with its source and the rule of RFC 6724 section 6 or RFC 8305 section 4 that sorts it after the one before; the
 //! events of its course, one a line; and which answers never came, and how long an answer waited for an attempt.
 //! Attempts and places are counted from 1, ticks are milliseconds. A short pause has no line: the event that it held
-//! back is marked as late.
+//! back is marked as late. If the race has record lines ([`Record`]), the story begins with its host, client and time
+//! and the recorded client's own result. It has the reason of each failed look-up and attempt, and ends with the name
+//! servers that were given up and the addresses that no client tried.
 //!
-//! Proved, for every course: the appended text states the facts of `specs/Story`, in that order, so each event of the
-//! course has its line, with its tick, places, addresses, times and cause (`specs/Lines`). If memory is refused, the
-//! vector is unchanged. he_course defines the course of a race. All words are in `src/words.rt`.
+//! Proved, for every course and record: the appended text states the facts of `specs/Story`, in that order, so each
+//! event of the course has its line, with its tick, places, addresses, times and cause (`specs/Lines`). If memory is
+//! refused, the vector is unchanged. he_course defines the course of a race. All words are in `src/words.rt`.
+//!
+//! [`Record`]: he_record::Record
 #![tactic(auto)]
 
 mod closing;
 mod happening;
 mod heading;
 mod preferred;
+mod recorded;
 mod said;
 pub mod story;
 mod verdict;
 mod words;
 
-pub use heading::heading_parts;
+pub use heading::{heading_parts, outcome_parts};
 pub use said::Said;
 pub use story::write_story;

@@ -2,11 +2,20 @@
 
 use he_addr::Family;
 use he_course::Turn;
+use he_record::{AttemptReason, LookupReason, ServerReason};
 use he_select::DestinationRule;
 
 /// A statement of a story. The numbers, places and addresses in its words are facts of their own.
 #[derive(Clone, Copy, Debug, PartialEq, Eq)]
 pub enum Said {
+    // The race's record: its host and port, its client, its time, and the client's own result.
+    Target,
+    For,
+    Moment,
+    ClientConnected,
+    ClientGaveUp,
+    ClientFailed,
+    ByRules,
     // The race, and how it ended.
     Race,
     Connected,
@@ -18,6 +27,7 @@ pub enum Said {
     WaitForAaaa,
     HadFailed,
     GaveNoAnswer,
+    NotTried,
     More,
     // Its addresses.
     NoAddress,
@@ -33,18 +43,22 @@ pub enum Said {
     UnknownTime,
     // Its events.
     Course,
+    CourseByRules,
     At,
     Paused,
     Late,
     Answered(Family),
     ToTry,
+    Lookup(Family, LookupReason),
     StillMissing(Family),
     Waits,
     DelayOver,
     Starts,
     Failed,
+    Because(AttemptReason),
     Won,
     Cancelled,
+    OutcomeUnknown,
     Exhausted,
     Limit,
     // Why an attempt starts, and its address.
@@ -61,8 +75,11 @@ pub enum Said {
     // Waits, and how the race would have ended with a floor.
     NoAnswer(Family),
     AfterEnd(Family),
+    Why(LookupReason),
     Untried(Family),
     Passed(Family),
+    Server(ServerReason),
+    NobodyTried,
     WithFloor,
     End,
 }

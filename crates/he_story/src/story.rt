@@ -12,6 +12,7 @@ use crate::words::{piece, words_of};
 use he_addr::Memory;
 use he_course::Course;
 use he_print::{Part, push_parts, write_parts};
+use he_record::Record;
 use std::alloc::Allocator;
 
 // Room for the parts of most stories: per line, and for the other lines.
@@ -39,13 +40,18 @@ impl<A: Allocator> Story<A> {
         Ok(())
     }
 
-    fn tell_all<B: Allocator>(&mut self, alloc: A, course: &Course<B>) -> Result<(), Memory>
-        ensures { OnOk result (told self.new ≡ told self.old ++ story_facts course.now) }
+    fn tell_all<B: Allocator, C: Allocator>(
+        &mut self,
+        alloc: A,
+        course: &Course<B>,
+        recorded: &Record<'_, C>,
+    ) -> Result<(), Memory>
+        ensures { OnOk result (told self.new ≡ told self.old ++ story_facts recorded.now course.now) }
     {
-        self.tell_heading(course)?;
+        self.tell_heading(course, recorded)?;
         self.tell_preferred(&course.addresses)?;
-        self.tell_events(alloc, course)?;
-        self.tell_answers(course)?;
+        self.tell_events(alloc, course, recorded)?;
+        self.tell_closing(course, recorded)?;
         self.tell_sooner(course.sooner)?;
         self.tell(Said::End, &[])
     }
@@ -57,22 +63,27 @@ impl<A: Allocator> Story<A> {
 /// the end, how long an answer waited for the first attempt at one of its addresses, and how the race would have
 /// ended with a floor, if earlier.
 ///
+/// What the race's record says is part of it: host, port, client's address and time, in the first line; the recorded
+/// client's own result, before the race's by the rules; the reason that a family has no address, or that an attempt
+/// failed; the name servers that were given up; and the addresses that no client tried, whose outcome is not known.
+///
 /// # Errors
 ///
 /// `Memory` if an allocation was refused. The vector is then unchanged.
-pub fn write_story<A: Allocator + Copy, B: Allocator>(
+pub fn write_story<A: Allocator + Copy, B: Allocator, C: Allocator>(
     alloc: A,
     course: &Course<B>,
+    recorded: &Record<'_, C>,
     out: &mut Vec<u8, A>,
 ) -> Result<(), Memory>
-    ensures ok { OnOk result (Tells course.now out.old.items out.new.items) }
+    ensures ok { OnOk result (Tells recorded.now course.now out.old.items out.new.items) }
     ensures err { OnErr result (out.new.items ≡ out.old.items) }
 {
     let lines = course.addresses.len().saturating_add(course.events.len());
     let room = lines.saturating_mul(PARTS_PER_LINE);
     let parts = Vec::with_capacity(alloc, room.saturating_add(OTHER_PARTS))?;
     let mut story = Story { parts };
-    story.tell_all(alloc, course)?;
+    story.tell_all(alloc, course, recorded)?;
     let mut text = Vec::new(alloc);
     write_parts(&story.parts, &mut text)?;
     out.extend_from_slice(&text)

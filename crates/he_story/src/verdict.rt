@@ -3,7 +3,7 @@
 ghost use Rattle.std.specs.Prelude.{◌≡◌, ◌++◌, OnOk};
 ghost use Rattle.std.specs.List.{flat_map, list_any};
 ghost use Rattle.he_story.specs.Lines.{told};
-ghost use Rattle.he_story.specs.Story.{between_facts, had_failed, has_waited, is_wait, lost_facts, more_facts, stood_facts, verdict_facts, wait_facts};
+ghost use Rattle.he_story.specs.Story.{between_facts, had_failed, has_waited, is_wait, lost_facts, more_facts, stood_facts, stood_said, verdict_facts, wait_facts};
 
 use crate::said::Said;
 use crate::story::Story;
@@ -11,6 +11,7 @@ use he_addr::{Family, Ip, Memory};
 use he_course::{Course, Event, EventKind};
 use he_plan::{Line, Mark};
 use he_print::Part;
+use he_record::Record;
 use std::alloc::Allocator;
 
 /// The most attempts that are named as reasons.
@@ -47,6 +48,18 @@ fn had_failed(tick: u64, mark: Mark) -> bool
     }
 }
 
+fn stood_said<C: Allocator>(recorded: &Record<'_, C>, tick: u64, line: Line) -> Said
+    ensures { result ≡ stood_said recorded.now tick line }
+{
+    if had_failed(tick, line.mark) {
+        Said::HadFailed
+    } else if recorded.is_untried(line.ip) {
+        Said::NotTried
+    } else {
+        Said::GaveNoAnswer
+    }
+}
+
 fn comma(is_first: bool) -> &'static [u8] {
     if is_first { b"" } else { b"," }
 }
@@ -63,22 +76,30 @@ impl<A: Allocator> Story<A> {
     }
 
     // An attempt before the winner's, which started at the tick.
-    fn tell_stood(&mut self, comma: &'static [u8], tick: u64, line: Line) -> Result<(), Memory>
-        ensures { OnOk result (told self.new ≡ told self.old ++ stood_facts tick line) }
+    fn tell_stood<C: Allocator>(
+        &mut self,
+        recorded: &Record<'_, C>,
+        comma: &'static [u8],
+        tick: u64,
+        line: Line,
+    ) -> Result<(), Memory>
+        ensures { OnOk result (told self.new ≡ told self.old ++ stood_facts recorded.now tick line) }
     {
-        let parts = [Part::Words(comma), Part::Ip(line.ip)];
-        if had_failed(tick, line.mark) {
-            self.tell(Said::HadFailed, &parts)
-        } else {
-            self.tell(Said::GaveNoAnswer, &parts)
-        }
+        let said = stood_said(recorded, tick, line);
+        self.tell(said, &[Part::Words(comma), Part::Ip(line.ip)])
     }
 
-    fn tell_named(&mut self, waited: bool, tick: u64, lines: &[Line]) -> Result<(), Memory>
-        ensures { OnOk result (told self.new ≡ told self.old ++ flat_map (stood_facts tick) lines.now) }
+    fn tell_first<C: Allocator>(
+        &mut self,
+        recorded: &Record<'_, C>,
+        waited: bool,
+        tick: u64,
+        lines: &[Line],
+    ) -> Result<(), Memory>
+        ensures { OnOk result (told self.new ≡ told self.old ++ flat_map (stood_facts recorded.now tick) lines.now) }
     {
         for (place, line) in lines.iter().enumerate() {
-            self.tell_stood(comma(place == 0 && !waited), tick, *line)?;
+            self.tell_stood(recorded, comma(place == 0 && !waited), tick, *line)?;
         }
         Ok(())
     }
@@ -93,29 +114,41 @@ impl<A: Allocator> Story<A> {
     }
 
     // The attempts before the winner's, which started at the tick.
-    fn tell_between(&mut self, waited: bool, tick: u64, lines: &[Line]) -> Result<(), Memory>
-        ensures { OnOk result (told self.new ≡ told self.old ++ between_facts tick lines.now) }
+    fn tell_between<C: Allocator>(
+        &mut self,
+        recorded: &Record<'_, C>,
+        waited: bool,
+        tick: u64,
+        lines: &[Line],
+    ) -> Result<(), Memory>
+        ensures { OnOk result (told self.new ≡ told self.old ++ between_facts recorded.now tick lines.now) }
     {
-        self.tell_named(waited, tick, &lines[..MAX_NAMED.min(lines.len())])?;
+        let named = &lines[..MAX_NAMED.min(lines.len())];
+        self.tell_first(recorded, waited, tick, named)?;
         self.tell_more(lines.len().saturating_sub(MAX_NAMED))
     }
 
-    fn tell_lost<B: Allocator>(
+    fn tell_lost<B: Allocator, C: Allocator>(
         &mut self,
         course: &Course<B>,
+        recorded: &Record<'_, C>,
         winner: Line,
         lost: u64,
     ) -> Result<(), Memory>
-        ensures { OnOk result (told self.new ≡ told self.old ++ lost_facts course.now winner lost) }
+        ensures { OnOk result (told self.new ≡ told self.old ++ lost_facts recorded.now course.now winner lost) }
     {
         self.tell(Said::Lost, &[Part::Number(lost)])?;
         let waited = has_waited(&course.events, winner.ip);
         self.tell_wait(waited)?;
-        self.tell_between(waited, winner.tick, course.before_winner())
+        self.tell_between(recorded, waited, winner.tick, course.before_winner())
     }
 
-    pub(crate) fn tell_verdict<B: Allocator>(&mut self, course: &Course<B>) -> Result<(), Memory>
-        ensures { OnOk result (told self.new ≡ told self.old ++ verdict_facts course.now) }
+    pub(crate) fn tell_verdict<B: Allocator, C: Allocator>(
+        &mut self,
+        course: &Course<B>,
+        recorded: &Record<'_, C>,
+    ) -> Result<(), Memory>
+        ensures { OnOk result (told self.new ≡ told self.old ++ verdict_facts recorded.now course.now) }
     {
         let Some(winner) = course.ended.winner else {
             return Ok(());
@@ -126,6 +159,6 @@ impl<A: Allocator> Story<A> {
         if lost == 0 {
             return self.tell(Said::NothingLost, &[]);
         }
-        self.tell_lost(course, winner, lost)
+        self.tell_lost(course, recorded, winner, lost)
     }
 }

@@ -3,6 +3,7 @@
 use crate::said::Said;
 use he_addr::Family;
 use he_course::Turn;
+use he_record::{AttemptReason, LookupReason, ServerReason};
 use he_select::DestinationRule;
 
 /// Words, in pieces: a part of the statement comes between each two pieces, in order.
@@ -10,7 +11,13 @@ pub(crate) type Pieces = &'static [&'static [u8]];
 
 pub(crate) fn words_of(said: Said) -> Pieces {
     match said {
-        Said::Race => &[b"", b"race ", b", line ", b": "],
+        Said::Target | Said::Moment => &[],
+        Said::For => &[b"", b"for ", b""],
+        Said::ClientConnected => &[b"the client connected after ", b" ms"],
+        Said::ClientGaveUp => &[b"the client gave up after ", b" ms"],
+        Said::ClientFailed => &[b"the client failed after ", b" ms"],
+        Said::ByRules => &[b"; by RFC 8305: "],
+        Said::Race => &[b"", b"race ", b", line ", b"", b": "],
         Said::Connected => &[b"connected to ", b" after ", b" ms"],
         Said::NothingLeft => &[
             b"not connected: nothing is left to try after ",
@@ -24,6 +31,7 @@ pub(crate) fn words_of(said: Said) -> Pieces {
         Said::WaitForAaaa => &[b" the wait for the AAAA answer"],
         Said::HadFailed => &[b"", b" ", b" failed"],
         Said::GaveNoAnswer => &[b"", b" ", b" gave no answer"],
+        Said::NotTried => &[b"", b" ", b" was not tried"],
         Said::More => &[b" and ", b" more"],
         Said::NoAddress => &[b"\nno address to try"],
         Said::Preferred => &[b"\npreferred, once every answer is known:"],
@@ -42,11 +50,13 @@ pub(crate) fn words_of(said: Said) -> Pieces {
             ]
         }
         Said::Course => &[b"\ncourse:"],
+        Said::CourseByRules => &[b"\ncourse by RFC 8305:"],
         Said::At => &[b"\n", b" ms  "],
         Said::Paused => &[b"pause: the client sees and starts nothing until ", b" ms"],
         Said::Late => &[b" (", b" ms late)"],
         Said::Answered(_) => &[b"", b" answer"],
         Said::ToTry => &[b": ", b" ", b" to try"],
+        Said::Lookup(_, reason) => lookup_words(reason),
         Said::StillMissing(_) => &[b"; the ", b" answer is not there yet"],
         Said::Waits => &[
             b"wait for the AAAA answer until ",
@@ -55,8 +65,10 @@ pub(crate) fn words_of(said: Said) -> Pieces {
         Said::DelayOver => &[b"the wait is over, without the AAAA answer"],
         Said::Starts => &[b"attempt ", b" to ", b": "],
         Said::Failed => &[b"attempt ", b" failed after ", b" ms"],
+        Said::Because(reason) => because_words(reason),
         Said::Won => &[b"attempt ", b" connected after ", b" ms"],
         Said::Cancelled => &[b"attempt ", b" cancelled after ", b" ms"],
+        Said::OutcomeUnknown => &[b"; no client tried it: its outcome is unknown"],
         Said::Exhausted => &[b"nothing is left to try"],
         Said::Limit => &[b"the limit: the race is given up"],
         Said::AaaaThere => &[b"the AAAA answer is there"],
@@ -77,6 +89,7 @@ pub(crate) fn words_of(said: Said) -> Pieces {
         Said::Turn(_) => &[b"; number ", b" of ", b" known, ", b""],
         Said::NoAnswer(_) => &[b"\nno ", b" answer came"],
         Said::AfterEnd(_) => &[b"\nthe ", b" answer came at ", b" ms, after the end"],
+        Said::Why(reason) => why_words(reason),
         Said::Untried(_) => &[b"\nno address of the ", b" answer was tried"],
         Said::Passed(_) => {
             &[
@@ -85,8 +98,57 @@ pub(crate) fn words_of(said: Said) -> Pieces {
                 b" answer and the first attempt at one of its addresses",
             ]
         }
+        Said::Server(reason) => server_words(reason),
+        Said::NobodyTried => &[b"\nno client tried ", b": its outcome is unknown"],
         Said::WithFloor => &[b"\nwith `set floor ", b"`: "],
         Said::End => &[b"\n"],
+    }
+}
+
+// After the name of the family.
+fn lookup_words(reason: LookupReason) -> Pieces {
+    match reason {
+        LookupReason::NoSuchName => &[b"", b": no such name"],
+        LookupReason::NoAddress => &[b"", b": no address"],
+        LookupReason::NoAnswer => &[b"", b": no answer"],
+        LookupReason::Refused => &[b"", b": refused"],
+        LookupReason::Failed => &[b"", b": the name servers failed"],
+        LookupReason::Malformed => &[b"", b": a malformed answer"],
+        LookupReason::NotAsked => &[b"", b": not asked"],
+    }
+}
+
+// After a sentence on the answer.
+fn why_words(reason: LookupReason) -> Pieces {
+    match reason {
+        LookupReason::NoSuchName => &[b": no such name"],
+        LookupReason::NoAddress => &[b": no address"],
+        LookupReason::NoAnswer => &[b": no answer"],
+        LookupReason::Refused => &[b": refused"],
+        LookupReason::Failed => &[b": the name servers failed"],
+        LookupReason::Malformed => &[b": a malformed answer"],
+        LookupReason::NotAsked => &[b": not asked"],
+    }
+}
+
+fn because_words(reason: AttemptReason) -> Pieces {
+    match reason {
+        AttemptReason::Refused => &[b": refused"],
+        AttemptReason::Unreachable => &[b": unreachable"],
+        AttemptReason::TimedOut => &[b": timed out"],
+        AttemptReason::Reset => &[b": reset"],
+        AttemptReason::Forbidden => &[b": forbidden"],
+        AttemptReason::NoSource => &[b": no source address"],
+        AttemptReason::Other => &[b": for another reason"],
+    }
+}
+
+fn server_words(reason: ServerReason) -> Pieces {
+    match reason {
+        ServerReason::Silent => &[b"\nname server ", b": no answer in ", b" ms"],
+        ServerReason::Refused => &[b"\nname server ", b": refused after ", b" ms"],
+        ServerReason::Failed => &[b"\nname server ", b": failed after ", b" ms"],
+        ServerReason::Unreachable => &[b"\nname server ", b": unreachable after ", b" ms"],
     }
 }
 

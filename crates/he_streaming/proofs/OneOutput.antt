@@ -7,6 +7,7 @@ use Rattle.he_inputs.specs.declared.input_fault.InputFault.{InputFault}
 use Rattle.he_inputs.specs.Inputs.{HasRaces}
 use Rattle.he_inputs.specs.Recorded.{IsRecordedText}
 use Rattle.he_json.specs.Documents.{Spot}
+use Rattle.he_record.specs.Said.{Said}
 use Rattle.he_write.specs.Written.{transcript_text}
 use Rattle.he_streaming.specs.declared.race_texts.Content.{Content}
 use Rattle.he_streaming.specs.declared.race_texts.Content.TheVariants as contents
@@ -18,13 +19,13 @@ module _
     (one_transcript : (race : Race) (x y : Report) → IsTranscript race x → IsTranscript race y → x ≡ y)
     (one_race_first : (front rest other_front other_rest : List ℕ) (race other : Race) → IsRecordedText front race → IsRecordedText other_front other → front ++ rest ≡ other_front ++ other_rest → (front ≡ other_front) × (race ≡ other))
   where
-    one_text : (content : Content) → is_exact content ≡ true → (spot : Spot) (race : Race) (text other : List ℕ) → IsTextOf content spot text race → IsTextOf content spot other race → text ≡ other
-    one_text contents.Transcript exact spot race text other (report, is, written) (other_report, other_is, other_written) =
+    one_text : (content : Content) → is_exact content ≡ true → (spot : Spot) (said other_said : List Said) (race : Race) (text other : List ℕ) → IsTextOf content spot text said race → IsTextOf content spot other other_said race → text ≡ other
+    one_text contents.Transcript exact spot said other_said race text other (report, is, written) (other_report, other_is, other_written) =
         written ∙ ap transcript_text (one_transcript race report other_report is other_is) ∙ sym other_written
-    one_text contents.Order exact spot race text other is other_is = is ∙ sym other_is
-    one_text contents.TranscriptJson exact spot race text other is other_is = absurd (true≢false (sym exact))
-    one_text contents.OrderJson exact spot race text other is other_is = absurd (true≢false (sym exact))
-    one_text (contents.Course printer) exact spot race text other is other_is = absurd (true≢false (sym exact))
+    one_text contents.Order exact spot said other_said race text other is other_is = is ∙ sym other_is
+    one_text contents.TranscriptJson exact spot said other_said race text other is other_is = absurd (true≢false (sym exact))
+    one_text contents.OrderJson exact spot said other_said race text other is other_is = absurd (true≢false (sym exact))
+    one_text (contents.Course printer) exact spot said other_said race text other is other_is = absurd (true≢false (sym exact))
 
     pub one_output : (content : Content) (changes : ChangeValues) (file : Option (List ℕ)) (input : List ℕ) (is_broken : Bool) (text other : List ℕ) (fault other_fault : Option InputFault)
         → (output : IsOutput (IsTextWith content changes file) input is_broken text fault) → (same : IsOutput (IsTextWith content changes file) input is_broken other other_fault)
@@ -34,6 +35,6 @@ module _
         let Told : List Race → Type 0 = λ races. AreTold (IsTextWith content changes file) 1 1 races x.has.before text in (
           same.0,
           same.1,
-          λ exact. one_told (IsTextWith content changes file) (λ number line race. one_text content exact (record { file = file; number = number; line = line }) (changed changes race)) one_race_first 1 1 y.races
+          λ exact. one_told (IsTextWith content changes file) (λ number line said other_said race. one_text content exact (record { file = file; number = number; line = line }) said other_said (changed changes race)) one_race_first 1 1 y.races
               x.has.before x.has.rest y.has.before y.has.rest text other (sym x.has.parts ∙ y.has.parts) (subst Told same.0 x.told) y.told,
         )

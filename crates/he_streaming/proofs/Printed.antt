@@ -11,6 +11,7 @@ use Rattle.he_draw.specs.Picture.{picture_facts}
 use Rattle.he_draw.specs.Rows.{rows_of}
 use Rattle.he_draw.specs.Svg.{svg_facts}
 use Rattle.he_json.specs.Documents.{Spot}
+use Rattle.he_record.specs.Said.{Said}
 use Rattle.he_streaming.specs.Output.{IsOfCourse, IsPrinted}
 use Rattle.he_streaming.specs.Rounds.{WritesText}
 use Rattle.he_streaming.specs.declared.race_texts.Printer.{Printer}
@@ -67,24 +68,28 @@ is_course race number line course is = record {
   events = is.events;
 }
 
-is_printed : {A : Type 0} (printer : Printer) (file : Option (List ℕ)) (course : Course A) (text : List ℕ) → IsPrinted printer file course text → IsPrinted printer file (bare course) text
+is_printed : {A : Type 0} (printer : Printer) (file : Option (List ℕ)) (said : List Said) (course : Course A) (text : List ℕ) → IsPrinted printer file said course text → IsPrinted printer file said (bare course) text
 unfolding bare bare_items picture_facts svg_facts section_facts rows_of
-is_printed printers.Story file course text is = is
-is_printed printers.Json file course text is = is
-is_printed (printers.Picture look width) file course text is = is
-is_printed printers.Image file course text is = is
-is_printed (printers.Section place) file course text is = record {
-  picture = is.picture;
+is_printed printers.Story file said course text is = is
+is_printed printers.Json file said course text is = is
+is_printed (printers.Picture look width) file said course text is = is
+is_printed printers.Image file said course text is = is
+is_printed (printers.Section place) file said course text is = record {
+  links = is.links;
+  heading = is.heading;
+  rows = is.rows;
   story = is.story;
   last = is.last;
+  opened = is.opened;
+  headed = is.headed;
   drawn = is.drawn;
   told = is.told;
   parts = is.parts;
 }
 
-pub of_course : {A F E : Type 0} (result : Result F E) (printer : Printer) (spot : Spot) (race : Race) (course : Course A) (old new : List ℕ)
-    → IsCourse race spot.number spot.line course → OnOk result (WritesText (IsPrinted printer spot.file course) old new)
-    → OnOk result (WritesText (λ told. IsOfCourse printer spot told race) old new)
-of_course (Ok done) printer spot race course old new is told =
-    record { told = told.told; is_told = (bare course, is_course race spot.number spot.line course is, is_printed printer spot.file course told.told told.is_told); appended = told.appended }
-of_course (Err fault) printer spot race course old new is told = tt
+pub of_course : {A F E : Type 0} (result : Result F E) (printer : Printer) (spot : Spot) (said : List Said) (race : Race) (course : Course A) (old new : List ℕ)
+    → IsCourse race spot.number spot.line course → OnOk result (WritesText (IsPrinted printer spot.file said course) old new)
+    → OnOk result (WritesText (λ told. IsOfCourse printer spot told said race) old new)
+of_course (Ok done) printer spot said race course old new is told =
+    record { told = told.told; is_told = (bare course, is_course race spot.number spot.line course is, is_printed printer spot.file said course told.told told.is_told); appended = told.appended }
+of_course (Err fault) printer spot said race course old new is told = tt

@@ -2,6 +2,7 @@
 use Rattle.std.proofs.Common.{ℕ, ◌≡◌, ◌+◌, ◌++◌, ◌∙◌, List, [], ◌∷◌, length, sym, ap, subst, arith, append_assoc}
 use Rattle.std.proofs.lemmas.List.{append_cancel_left}
 use Rattle.he_timeline.specs.Race.{Race}
+use Rattle.he_record.specs.Said.{Said}
 use Rattle.he_inputs.specs.Inputs.{AreRaceTexts, line_count}
 use Rattle.he_inputs.specs.Recorded.{IsRecordedText}
 use Rattle.he_inputs.proofs.RaceReadingLaws.{line_count-append}
@@ -57,12 +58,12 @@ told_anywhere IsText anywhere number line other_number other_line (race ∷ race
   told,
   more,
   written,
-  anywhere number line other_number other_line told race is_told,
+  anywhere number line other_number other_line told is.0 race is_told,
   told_anywhere IsText anywhere (number + 1) (line + line_count own) (other_number + 1) (other_line + line_count own) races behind more later,
 )
 
 -- an input that begins with the races has one text of them, where each has one
-pub one_told : (IsText : TextRelation) → ((number line : ℕ) (race : Race) (text other : List ℕ) → IsText number line text race → IsText number line other race → text ≡ other)
+pub one_told : (IsText : TextRelation) → ((number line : ℕ) (said other_said : List Said) (race : Race) (text other : List ℕ) → IsText number line text said race → IsText number line other other_said race → text ≡ other)
     → ((front rest other_front other_rest : List ℕ) (race other : Race) → IsRecordedText front race → IsRecordedText other_front other → front ++ rest ≡ other_front ++ other_rest → (front ≡ other_front) × (race ≡ other))
     → (number line : ℕ) (races : List Race) (bytes rest other_bytes other_rest text other : List ℕ) → bytes ++ rest ≡ other_bytes ++ other_rest
     → AreTold IsText number line races bytes text → AreTold IsText number line races other_bytes other → text ≡ other
@@ -76,4 +77,4 @@ one_told IsText one first number line (race ∷ races) bytes rest other_bytes ot
     let Next : List ℕ → Type 0 = λ o. AreTold IsText (number + 1) (line + line_count o) races other_behind other_more in
     let later_is : more ≡ other_more =
     one_told IsText one first (number + 1) (line + line_count own) races behind rest other_behind other_rest more other_more left later (subst Next (sym own_is) other_later) in
-    written ∙ ap (λ (t : List ℕ). t ++ more) (one number line race told other_told is_told other_is_told) ∙ ap (λ (m : List ℕ). other_told ++ m) later_is ∙ sym other_written
+    written ∙ ap (λ (t : List ℕ). t ++ more) (one number line is.0 other_is.0 race told other_told is_told other_is_told) ∙ ap (λ (m : List ℕ). other_told ++ m) later_is ∙ sym other_written

@@ -5,11 +5,13 @@ use Rattle.std.proofs.lemmas.List.{append-nil}
 use Rattle.std.proofs.lemmas.List.Sums.{count_by-le-length}
 use Rattle.std.proofs.Math.Seq.{take-add}
 use Rattle.he_timeline.specs.Race.{Race}
+use Rattle.he_record.specs.Said.{Said}
 use Rattle.he_inputs.specs.declared.race_reader.Ending.{Ending}
 use Rattle.he_inputs.specs.declared.race_reader.RaceReader.{RaceReader}
 use Rattle.he_inputs.specs.Inputs.{line_count}
 use Rattle.he_words.specs.Ranges.{most_races}
 use Rattle.he_inputs.specs.RaceReading.{IsWithin, PassesRace}
+use Rattle.he_inputs.specs.Recorded.{IsRecordedAs}
 use Rattle.he_inputs.proofs.RaceReadingLaws.{line_count-append}
 use Rattle.he_streaming.specs.declared.rounds.RoundEnd.{RoundEnd}
 use Rattle.he_streaming.specs.Output.{AreTold, TextRelation}
@@ -38,10 +40,10 @@ none_told IsText bytes reader text front few none =
     }
 
 -- one race more
-pub one_more_told : (IsText : TextRelation) (bytes from text new : List ℕ) (begun reader next : RaceReader) (race : Race)
-    → TellsOn IsText bytes begun from text reader → PassesRace bytes reader next race → next.races ≤ most_races → WritesText (λ told. IsText (reader.races + 1) (reader.lines + 1) told race) text new
-    → TellsOn IsText bytes begun from new next
-one_more_told IsText bytes from text new begun reader next race on passes few written = λ races lines before.
+pub one_more_told : (IsText : TextRelation) (bytes from text new : List ℕ) (begun reader next : RaceReader) (said : List Said) (race : Race)
+    → TellsOn IsText bytes begun from text reader → PassesRace bytes reader next race → IsRecordedAs (slice_range bytes reader.end next.end) said race → next.races ≤ most_races
+    → WritesText (λ told. IsText (reader.races + 1) (reader.lines + 1) told said race) text new → TellsOn IsText bytes begun from new next
+one_more_told IsText bytes from text new begun reader next said race on passes recorded few written = λ races lines before.
     let told = on races lines before in
     let front = take reader.end bytes in
     let own = slice_range bytes reader.end next.end in
@@ -55,7 +57,7 @@ one_more_told IsText bytes from text new begun reader next race on passes few wr
     let Bytes : List ℕ → Type 0 = λ b. AreTold IsText (races + 1) (lines + 1) (told.races ++ race ∷ []) b new in
     let Text : List ℕ → Type 0 = λ t. AreTold IsText (races + 1) (lines + 1) (told.races ++ race ∷ []) (front ++ own) t in
     let last : AreTold IsText (reader.races + 1) (reader.lines + 1) (race ∷ []) own written.told =
-    (own, [], sym (append-nil own), passes.read, written.told, [], sym (append-nil written.told), written.is_told, (refl, refl)) in
+    (own, [], sym (append-nil own), (said, recorded), written.told, [], sym (append-nil written.told), written.is_told, (refl, refl)) in
     let placed = told_at IsText (race ∷ []) own written.told _ _ (races + 1 + length told.races) (lines + 1 + line_count front) (omega arith) (omega arith) last in
     record {
       races = told.races ++ race ∷ [];

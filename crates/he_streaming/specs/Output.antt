@@ -6,6 +6,7 @@ use Rattle.he_plan.specs.Transcript.{IsTranscript, Report}
 use Rattle.he_inputs.specs.declared.input_fault.InputFault.{InputFault}
 use Rattle.he_inputs.specs.Inputs.{HasRaces, line_count}
 use Rattle.he_inputs.specs.Recorded.{IsRecordedText}
+use Rattle.he_record.specs.Said.{Said}
 use Rattle.he_write.specs.Orders.{order_text}
 use Rattle.he_write.specs.Written.{transcript_text}
 use Rattle.he_course.specs.Addresses.{all_attributes_of}
@@ -38,29 +39,32 @@ IsTranscriptObject spot text race = (report : Report) × IsTranscript race repor
 abbrev pub IsOrderObject : Spot → List ℕ → Race → Type 0
 IsOrderObject spot text race = IsOrderJson spot (all_attributes_of race) text
 
--- the text of a printer for a course, whose timeline comes from a file of this name, if it has one
-abbrev pub IsPrinted : {A : Type 0} → Printer → Option (List ℕ) → Course A → List ℕ → Type 0
-IsPrinted printers.Story file course text = States (story_facts course) text
-IsPrinted printers.Json file course text =
-    IsExplanationJson (record { file = file; number = course.number; line = course.line }) course.addresses.items
+-- the text of a printer for a course and the record of its race, whose timeline comes from a file of this name, if it
+-- has one
+abbrev pub IsPrinted : {A : Type 0} → Printer → Option (List ℕ) → List Said → Course A → List ℕ → Type 0
+IsPrinted printers.Story file said course text = States (story_facts said course) text
+IsPrinted printers.Json file said course text =
+    IsExplanationJson (record { file = file; number = course.number; line = course.line }) said course.addresses.items
     course.events.items text
-IsPrinted (printers.Picture look width) file course text =
-    (columns : ℕ) × (LEAST_COLUMNS ≤ columns) × States (picture_facts columns course) text
-IsPrinted printers.Image file course text = States (svg_facts course) text
-IsPrinted (printers.Section place) file course text = IsSection course place text
+IsPrinted (printers.Picture look width) file said course text =
+    (columns : ℕ) × (LEAST_COLUMNS ≤ columns) × States (picture_facts columns said course) text
+IsPrinted printers.Image file said course text = States (svg_facts said course) text
+IsPrinted (printers.Section place) file said course text = IsSection said course place text
 
--- the text of the printer for the race's course
-abbrev pub IsOfCourse : Printer → Spot → List ℕ → Race → Type 0
-IsOfCourse printer spot text race =
-    (course : Course (Unit {0})) × IsCourse race spot.number spot.line course × IsPrinted printer spot.file course text
+-- the text of the printer for the race's record and course
+abbrev pub IsOfCourse : Printer → Spot → List ℕ → List Said → Race → Type 0
+IsOfCourse printer spot text said race =
+    (course : Course (Unit {0})) × IsCourse race spot.number spot.line course
+    × IsPrinted printer spot.file said course text
 
--- the text of this kind for the race at this spot
-abbrev pub IsTextOf : Content → Spot → List ℕ → Race → Type 0
-IsTextOf contents.Transcript spot text race = IsTranscriptText text race
-IsTextOf contents.TranscriptJson spot text race = IsTranscriptObject spot text race
-IsTextOf contents.Order spot text race = IsOrderText text race
-IsTextOf contents.OrderJson spot text race = IsOrderObject spot text race
-IsTextOf (contents.Course printer) spot text race = IsOfCourse printer spot text race
+-- the text of this kind for the race at this spot, with this record; transcripts and orders are those of the race,
+-- whatever its record
+abbrev pub IsTextOf : Content → Spot → List ℕ → List Said → Race → Type 0
+IsTextOf contents.Transcript spot text said race = IsTranscriptText text race
+IsTextOf contents.TranscriptJson spot text said race = IsTranscriptObject spot text race
+IsTextOf contents.Order spot text said race = IsOrderText text race
+IsTextOf contents.OrderJson spot text said race = IsOrderObject spot text race
+IsTextOf (contents.Course printer) spot text said race = IsOfCourse printer spot text said race
 
 -- whether texts of this kind contain the race's place in the input
 abbrev pub has_place : Content → Bool
@@ -74,23 +78,23 @@ is_exact contents.Transcript = true
 is_exact contents.Order = true
 is_exact _ = false
 
--- the text of this kind for the race of this number in the file, which begins on this line, with these changes of its
--- settings
-abbrev pub IsTextWith : Content → ChangeValues → Option (List ℕ) → ℕ → ℕ → List ℕ → Race → Type 0
-IsTextWith content changes file number line text race =
-    IsTextOf content (record { file = file; number = number; line = line }) text (changed changes race)
+-- the text of this kind for the race of this number in the file, which begins on this line, with its record and with
+-- these changes of its settings
+abbrev pub IsTextWith : Content → ChangeValues → Option (List ℕ) → ℕ → ℕ → List ℕ → List Said → Race → Type 0
+IsTextWith content changes file number line text said race =
+    IsTextOf content (record { file = file; number = number; line = line }) text said (changed changes race)
 
--- whether a text is one of a race, by the race's number and its line
+-- whether a text is one of a race, by the race's number and its line, and by its record
 abbrev pub TextRelation : Type 1
-TextRelation = ℕ → ℕ → List ℕ → Race → Type 0
+TextRelation = ℕ → ℕ → List ℕ → List Said → Race → Type 0
 
 -- the bytes consist of a timeline text of each race, the first with this number and on this line; the text consists
--- of a text for each race, by its number and its line
+-- of a text for each race, by its number and its line, and by the record that its timeline text begins with
 abbrev pub AreTold : TextRelation → ℕ → ℕ → List Race → List ℕ → List ℕ → Type 0
 AreTold IsText number line [] bytes text = (bytes ≡ []) × (text ≡ [])
 AreTold IsText number line (race ∷ races) bytes text =
-    (own : List ℕ) × (behind : List ℕ) × (bytes ≡ own ++ behind) × IsRecordedText own race
-    × (told : List ℕ) × (more : List ℕ) × (text ≡ told ++ more) × IsText number line told race
+    (own : List ℕ) × (behind : List ℕ) × (bytes ≡ own ++ behind) × (is : IsRecordedText own race)
+    × (told : List ℕ) × (more : List ℕ) × (text ≡ told ++ more) × IsText number line told is.0 race
     × AreTold IsText (number + 1) (line + line_count own) races behind more
 
 -- the text that is written for an input, a text for each of its races up to the first fault, and the fault of the

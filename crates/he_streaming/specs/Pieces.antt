@@ -9,6 +9,7 @@ use Rattle.he_board.specs.Passes.{IsPassOf, jobs_of, notes}
 use Rattle.he_board.specs.Workers.{IsTried}
 use Rattle.memchr.specs.Find.{FindsNeedle}
 use Rattle.he_timeline.specs.Race.{Race}
+use Rattle.he_record.specs.Said.{Said}
 use Rattle.he_inputs.specs.declared.race_reader.Ending.TheVariants as endings
 use Rattle.he_inputs.specs.declared.race_reader.RaceReader.{RaceReader}
 use Rattle.he_words.specs.Ranges.{most_races}
@@ -22,8 +23,8 @@ use Rattle.he_streaming.specs.Rounds.{HasTold, IsAsked, Reaches}
 -- the text of a race does not depend on the race's place in the input
 abbrev pub IsAnywhere : TextRelation → Type 0
 IsAnywhere IsText =
-    (number line other_number other_line : ℕ) (text : List ℕ) (race : Race) → IsText number line text race
-    → IsText other_number other_line text race
+    (number line other_number other_line : ℕ) (text : List ℕ) (said : List Said) (race : Race)
+    → IsText number line text said race → IsText other_number other_line text said race
 
 -- the text is that of the races at the front of the bytes from this place on
 pub record IsPiece (IsText : TextRelation) (bytes : List ℕ) (from : ℕ) (text : List ℕ)

@@ -16,12 +16,13 @@ use Rattle.he_inputs.specs.RaceReading.{EndsAt, MayFollow}
 use Rattle.he_inputs.specs.declared.stream_fault.StreamFault.{StreamFault}
 use Rattle.he_inputs.specs.declared.stream_fault.StreamFault.TheVariants as faults
 use Rattle.he_json.specs.Documents.{name_of}
+use Rattle.he_record.specs.Said.{Said}
 use Rattle.he_streaming.specs.declared.race_texts.TextRequest.{TextRequest}
 use Rattle.he_streaming.specs.declared.rounds.RoundEnd.{RoundEnd}
 use Rattle.he_streaming.specs.Output.{AreTold, IsTextWith, TextRelation}
 
 -- the text that is asked for of the race
-abbrev pub IsAsked : TextRequest → ℕ → ℕ → List ℕ → Race → Type 0
+abbrev pub IsAsked : TextRequest → ℕ → ℕ → List ℕ → List Said → Race → Type 0
 IsAsked asked = IsTextWith asked.content asked.changes (name_of asked.file)
 
 -- such a text was appended

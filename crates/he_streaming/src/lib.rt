@@ -35,5 +35,5 @@ mod rounds;
 mod sharing;
 mod streaming;
 
-pub use race_texts::{Content, Printer, TextRequest};
+pub use race_texts::{Content, Printer, RacePlace, TextRequest};
 pub use replaying::replay;

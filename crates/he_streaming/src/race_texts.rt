@@ -11,6 +11,7 @@ use he_course::Course;
 use he_draw::{Look, write_picture, write_section, write_svg};
 use he_json::{Place, write_explanation_json, write_order_json, write_transcript_json};
 use he_plan::{Transcript, sorted_attributes, transcript_of};
+use he_record::Record;
 use he_story::write_story;
 use he_timeline::{Changes, Timeline};
 use he_write::{write_order, write_transcript};
@@ -31,7 +32,8 @@ pub enum Content {
     Course(Printer),
 }
 
-/// A printer of the course of a race. Each prints it with its number in the input and the line at which it begins.
+/// A printer of the course of a race. Each prints it with its number in the input and the line at which it begins, and
+/// with what its record says.
 #[derive(Clone, Copy, Debug, PartialEq, Eq)]
 pub enum Printer {
     /// A story, for a person to read ([`write_story`]).
@@ -53,6 +55,15 @@ impl Content {
     {
         !matches!(self, Content::Transcript | Content::Order)
     }
+}
+
+/// The place of a race in its input.
+#[derive(Clone, Copy)]
+pub struct RacePlace {
+    /// Its number, counted from 1.
+    pub number: usize,
+    /// The line at which it begins, counted from 1.
+    pub line: u64,
 }
 
 /// The text that is asked for of each race of an input.
@@ -84,8 +95,8 @@ impl TextRequest<'static> {
 }
 
 impl TextRequest<'_> {
-    /// Appends the text that is asked for of the race, which has this number in the input and begins at this line,
-    /// both counted from 1. Temporary memory comes from `alloc`.
+    /// Appends the text that is asked for of the race, which has this record and this place in the input. Transcripts
+    /// and orders don't depend on the record. Temporary memory comes from `alloc`.
     ///
     /// # Errors
     ///
@@ -94,36 +105,78 @@ impl TextRequest<'_> {
         &self,
         alloc: A,
         race: Timeline<A>,
-        number: usize,
-        line: u64,
+        recorded: &Record<'_, A>,
+        at: RacePlace,
         text: &mut Vec<u8, T>,
     ) -> Result<(), Memory>
-        ensures { OnOk result (WritesText (λ told. IsAsked self.now number line told race) text.old.items
-            text.new.items) }
+        ensures { OnOk result (WritesText (λ told. IsAsked self.now at.number at.line told recorded.now race)
+            text.old.items text.new.items) }
     {
         let timeline = race.with_changes(self.changes);
         let place = Place {
             file: self.file,
-            number,
-            line,
+            number: at.number,
+            line: at.line,
         };
-        append(self.content, alloc, &timeline, place, text)
+        self.content.append(alloc, &timeline, recorded, place, text)
     }
 }
 
-fn append<A: Allocator + Copy, T: Allocator + Copy>(
-    content: Content,
-    alloc: A,
-    timeline: &Timeline<A>,
-    place: Place<'_>,
-    text: &mut Vec<u8, T>,
-) -> Result<(), Memory>
-    ensures { OnOk result (WritesText (λ told. IsTextOf content (spot_of place.entry) told timeline.now) text.old.items
-        text.new.items) }
-{
-    match content {
-        Content::Transcript => append_transcript(alloc, timeline, text),
-        _ => append_own(content, alloc, timeline, place, text),
+impl Content {
+    fn append<A: Allocator + Copy, T: Allocator + Copy>(
+        self,
+        alloc: A,
+        timeline: &Timeline<A>,
+        recorded: &Record<'_, A>,
+        place: Place<'_>,
+        text: &mut Vec<u8, T>,
+    ) -> Result<(), Memory>
+        ensures { OnOk result (WritesText (λ told. IsTextOf self (spot_of place.entry) told recorded.now timeline.now)
+            text.old.items text.new.items) }
+    {
+        match self {
+            Content::Transcript => append_transcript(alloc, timeline, text),
+            _ => self.append_own(alloc, timeline, recorded, place, text),
+        }
+    }
+
+    // Appends a text that is made in the arena first.
+    fn append_own<A: Allocator + Copy, T: Allocator + Copy>(
+        self,
+        alloc: A,
+        timeline: &Timeline<A>,
+        recorded: &Record<'_, A>,
+        place: Place<'_>,
+        text: &mut Vec<u8, T>,
+    ) -> Result<(), Memory>
+        ensures { OnOk result (WritesText (λ told. IsTextOf self (spot_of place.entry) told recorded.now timeline.now)
+            text.old.items text.new.items) }
+    {
+        let mut own = Vec::with_capacity(alloc, TEXT_ROOM)?;
+        self.write(alloc, timeline, recorded, place, &mut own)?;
+        text.extend_from_slice(&own)
+    }
+
+    fn write<A: Allocator + Copy>(
+        self,
+        alloc: A,
+        timeline: &Timeline<A>,
+        recorded: &Record<'_, A>,
+        place: Place<'_>,
+        text: &mut Vec<u8, A>,
+    ) -> Result<(), Memory>
+        ensures { OnOk result (WritesText (λ told. IsTextOf self (spot_of place.entry) told recorded.now timeline.now)
+            text.old.items text.new.items) }
+    {
+        match self {
+            Content::Transcript => write_transcript(&transcript_of(alloc, timeline)?, text),
+            Content::TranscriptJson => write_transcript_object(alloc, timeline, place, text),
+            Content::Order => write_order(alloc, timeline, text),
+            Content::OrderJson => write_order_object(alloc, timeline, place, text),
+            Content::Course(printer) => {
+                printer.write_course(alloc, timeline, recorded, place, text)
+            }
+        }
     }
 }
 
@@ -145,41 +198,6 @@ fn append_text<A: Allocator, T: Allocator + Copy>(
     ensures { OnOk result (text.new.items ≡ text.old.items ++ transcript_text transcript.now) }
 {
     write_transcript(transcript, text)
-}
-
-// Appends a text that is made in the arena first.
-fn append_own<A: Allocator + Copy, T: Allocator + Copy>(
-    content: Content,
-    alloc: A,
-    timeline: &Timeline<A>,
-    place: Place<'_>,
-    text: &mut Vec<u8, T>,
-) -> Result<(), Memory>
-    ensures { OnOk result (WritesText (λ told. IsTextOf content (spot_of place.entry) told timeline.now) text.old.items
-        text.new.items) }
-{
-    let mut own = Vec::with_capacity(alloc, TEXT_ROOM)?;
-    write(content, alloc, timeline, place, &mut own)?;
-    text.extend_from_slice(&own)
-}
-
-fn write<A: Allocator + Copy>(
-    content: Content,
-    alloc: A,
-    timeline: &Timeline<A>,
-    place: Place<'_>,
-    text: &mut Vec<u8, A>,
-) -> Result<(), Memory>
-    ensures { OnOk result (WritesText (λ told. IsTextOf content (spot_of place.entry) told timeline.now) text.old.items
-        text.new.items) }
-{
-    match content {
-        Content::Transcript => write_transcript(&transcript_of(alloc, timeline)?, text),
-        Content::TranscriptJson => write_transcript_object(alloc, timeline, place, text),
-        Content::Order => write_order(alloc, timeline, text),
-        Content::OrderJson => write_order_object(alloc, timeline, place, text),
-        Content::Course(printer) => write_course(printer, alloc, timeline, place, text),
-    }
 }
 
 fn write_transcript_object<A: Allocator + Copy>(
@@ -208,37 +226,40 @@ fn write_order_object<A: Allocator + Copy>(
     write_order_json(alloc, place, &sorted, text)
 }
 
-fn write_course<A: Allocator + Copy>(
-    printer: Printer,
-    alloc: A,
-    timeline: &Timeline<A>,
-    place: Place<'_>,
-    text: &mut Vec<u8, A>,
-) -> Result<(), Memory>
-    ensures { OnOk result (WritesText (λ told. IsOfCourse printer (spot_of place.entry) told timeline.now)
-        text.old.items text.new.items) }
-{
-    let course = Course::of(alloc, timeline, place.number, place.line)?;
-    printer.write(alloc, &course, place.file, text)
-}
-
 impl Printer {
+    // Writes the course of the race.
+    fn write_course<A: Allocator + Copy>(
+        self,
+        alloc: A,
+        timeline: &Timeline<A>,
+        recorded: &Record<'_, A>,
+        place: Place<'_>,
+        text: &mut Vec<u8, A>,
+    ) -> Result<(), Memory>
+        ensures { OnOk result (WritesText (λ told. IsOfCourse self (spot_of place.entry) told recorded.now
+            timeline.now) text.old.items text.new.items) }
+    {
+        let course = Course::of(alloc, timeline, place.number, place.line)?;
+        self.write(alloc, &course, recorded, place.file, text)
+    }
+
     fn write<A: Allocator + Copy>(
         self,
         alloc: A,
         course: &Course<A>,
+        recorded: &Record<'_, A>,
         file: Option<&str>,
         text: &mut Vec<u8, A>,
     ) -> Result<(), Memory>
-        ensures { OnOk result (WritesText (IsPrinted self (name_of file.entry) course.now) text.old.items
-            text.new.items) }
+        ensures { OnOk result (WritesText (IsPrinted self (name_of file.entry) recorded.now course.now)
+            text.old.items text.new.items) }
     {
         match self {
-            Printer::Story => write_story(alloc, course, text),
-            Printer::Json => write_explanation_json(alloc, course, file, text),
-            Printer::Picture { look, width } => write_picture(course, look, width, text),
-            Printer::Image => write_svg(course, text),
-            Printer::Section { text: place } => write_section(course, place, text),
+            Printer::Story => write_story(alloc, course, recorded, text),
+            Printer::Json => write_explanation_json(alloc, course, recorded, file, text),
+            Printer::Picture { look, width } => write_picture(course, recorded, look, width, text),
+            Printer::Image => write_svg(course, recorded, text),
+            Printer::Section { text: place } => write_section(course, recorded, place, text),
         }
     }
 }

@@ -6,7 +6,7 @@ ghost use Rattle.he_inputs.specs.RaceReading.{IsWithin};
 ghost use Rattle.he_streaming.specs.Rounds.{HasTold, IsAsked, PutsRound, PutsTold, Reaches, Tells};
 
 use crate::limits::{ARENA_BYTES, MOST_RACES};
-use crate::race_texts::TextRequest;
+use crate::race_texts::{RacePlace, TextRequest};
 use bumpalo::Bump;
 use he_addr::Memory;
 use he_inputs::{Ending, HeldInput, InputFault, RaceReader, RaceReaderFault, StreamFault};
@@ -141,8 +141,12 @@ pub(crate) fn tell_races<A: Allocator + Copy>(
     while part.goes_on(reader) {
         let number = reader.races + 1;
         let line = reader.lines + 1;
-        match reader.next(&arena, bytes, part.ending) {
-            Ok(Some(race)) => asked.write(&arena, race, number, line, text)?,
+        match reader.next_recorded(&arena, bytes, part.ending) {
+            Ok(Some(found)) => {
+                let (recorded, race) = found;
+                let at = RacePlace { number, line };
+                asked.write(&arena, race, &recorded, at, text)?;
+            }
             Ok(None) => break,
             Err(RaceReaderFault::Input(fault)) => {
                 return Ok(RoundEnd {

@@ -5,6 +5,7 @@ use crate::explanations::RACES;
 use he_addr::Memory;
 use he_course::Course;
 use he_json::write_explanation_json;
+use he_record::Record;
 use he_text::{TextKind, read_race};
 use he_timeline::Timeline;
 use refusing::{Refusing, refused_in_turn};
@@ -23,7 +24,7 @@ fn explained<'h>(
 ) -> Result<Vec<u8, &'h Refusing>, Memory> {
     let course = Course::of(heap, race, 1, 1)?;
     let mut out = Vec::new(heap);
-    write_explanation_json(heap, &course, None, &mut out)?;
+    write_explanation_json(heap, &course, &Record::none(heap), None, &mut out)?;
     Ok(out)
 }
 

@@ -11,8 +11,8 @@ use Rattle.he_streaming.proofs.replaying.replay.Goals.{then-has_place, else-has_
 
 -- a text that has not the race's place stands anywhere
 anywhere : (content : Content) (changes : ChangeValues) (file : Option (List ℕ)) → has_place content ≡ false → IsAnywhere (IsTextWith content changes file)
-anywhere contents.Transcript changes file placeless = λ number line other_number other_line text race is. is
-anywhere contents.Order changes file placeless = λ number line other_number other_line text race is. is
+anywhere contents.Transcript changes file placeless = λ number line other_number other_line text said race is. is
+anywhere contents.Order changes file placeless = λ number line other_number other_line text said race is. is
 anywhere contents.TranscriptJson changes file placeless = absurd (true≢false placeless)
 anywhere contents.OrderJson changes file placeless = absurd (true≢false placeless)
 anywhere (contents.Course printer) changes file placeless = absurd (true≢false placeless)

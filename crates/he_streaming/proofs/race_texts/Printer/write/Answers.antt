@@ -14,7 +14,7 @@ returns-in-Json g c = rw c.in-Json.is (written _ _ _ _ c.write_explanation_json.
 pub returns-in-Picture : goal.returns-in-Picture
 returns-in-Picture g c =
     rw c.in-Picture.is
-    (written_by _ (λ columns. LEAST_COLUMNS ≤ columns) (λ columns. States (picture_facts columns c.args.course.now)) _ _ c.write_picture.ensures.ok)
+    (written_by _ (λ columns. LEAST_COLUMNS ≤ columns) (λ columns. States (picture_facts columns c.args.recorded.now c.args.course.now)) _ _ c.write_picture.ensures.ok)
 
 pub returns-in-Image : goal.returns-in-Image
 returns-in-Image g c = rw c.in-Image.is (written _ _ _ _ c.write_svg.ensures.ok)
