@@ -44,8 +44,8 @@ some_as (Some x) P Q each is = each x is
 
 -- one race more after the others, with its warnings after theirs
 warned_on : (lines : ℕ) (races : List Race) (text : List ℕ) (warnings : List Warning) → AreWarned lines races text warnings
-    → (race : Race) (last : List ℕ) → IsRecordedText last race → (line : ℕ) → line ≡ lines + line_count text + 1
-    → AreWarned lines (races ++ race ∷ []) (text ++ last) (warnings ++ warnings_of line race)
+    → (race : Race) (last : List ℕ) → (is : IsRecordedText last race) → (line : ℕ) → line ≡ lines + line_count text + 1
+    → AreWarned lines (races ++ race ∷ []) (text ++ last) (warnings ++ warnings_of line is.0 race)
 warned_on lines [] text warnings (none, nothing) race last is line at =
     let here : line ≡ lines + 1 = let no_line : line_count text ≡ 0 = ap line_count none in omega arith in (
       last,
@@ -53,7 +53,7 @@ warned_on lines [] text warnings (none, nothing) race last is line at =
       [],
       ap (λ (t : List ℕ). t ++ last) none ∙ sym (append-nil last),
       is,
-      ap (λ (w : List Warning). w ++ warnings_of line race) nothing ∙ ap (λ (l : ℕ). warnings_of l race) here ∙ sym (append-nil (warnings_of (lines + 1) race)),
+      ap (λ (w : List Warning). w ++ warnings_of line is.0 race) nothing ∙ ap (λ (l : ℕ). warnings_of l is.0 race) here ∙ sym (append-nil (warnings_of (lines + 1) is.0 race)),
       (refl, refl),
     )
 warned_on lines (one ∷ races) text warnings (first, more, later, split, read, warned, rest) race last is line at =
@@ -61,10 +61,10 @@ warned_on lines (one ∷ races) text warnings (first, more, later, split, read, 
     let behind : line ≡ lines + line_count first + line_count more + 1 = omega arith in (
       first,
       more ++ last,
-      later ++ warnings_of line race,
+      later ++ warnings_of line is.0 race,
       ap (λ (t : List ℕ). t ++ last) split ∙ append_assoc first more last,
       read,
-      ap (λ (w : List Warning). w ++ warnings_of line race) warned ∙ append_assoc (warnings_of (lines + 1) one) later (warnings_of line race),
+      ap (λ (w : List Warning). w ++ warnings_of line is.0 race) warned ∙ append_assoc (warnings_of (lines + 1) read.0 one) later (warnings_of line is.0 race),
       warned_on (lines + line_count first) races more later rest race last is line behind,
     )
 
@@ -280,7 +280,7 @@ module _ {A : Type 0} (ending : Ending) (before bytes : List ℕ) (old new : Cou
 
     -- a race was passed
     module _ (race : Race) (free : IsOpen old) (reads : old.is_seeking ≡ false) (passes : PassesRace bytes old.reader new.reader race)
-        (warned : old.told.first ≡ None → new.warnings.items ≡ old.warnings.items ++ warnings_of (old.reader.lines + 1) race)
+        (warned : old.told.first ≡ None → new.warnings.items ≡ old.warnings.items ++ warnings_of (old.reader.lines + 1) passes.read.0 race)
       where
         abbrev own : List ℕ
         own = slice_range bytes old.reader.end new.reader.end

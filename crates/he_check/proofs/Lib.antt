@@ -5,6 +5,7 @@ mod Hints
 mod Holding
 mod NextParts
 mod PutObjects
+mod Recorded
 mod RecordLines
 mod Stepping
 mod WholeLines

@@ -9,7 +9,6 @@ use Rattle.he_inputs.specs.declared.input_fault.InputFault.TheVariants.{Text, Re
 use Rattle.he_inputs.specs.declared.race_reader.Ending.{Ending}
 use Rattle.he_inputs.specs.declared.race_reader.RaceReader.{RaceReader}
 use Rattle.he_inputs.specs.declared.race_reader.RaceReaderFault.TheVariants as readers
-use Rattle.he_words.specs.Ranges.{most_races}
 use Rattle.he_words.specs.declared.fault.TextFault.{TextFault}
 use Rattle.he_check.specs.AllFaults.{BeginsPart, IsNextPart}
 use Rattle.he_check.specs.Slips.{warnings_of}
@@ -82,8 +81,8 @@ module _ {A : Type 0} (ending : Ending) (bytes : List ℕ) (old new : Counted A)
     found all seeking is = subst (λ (s : Bool). old.told.count ≤ old.reader.lines + (if s then 1 else 0)) is (may.sound.count all)
 
     -- a race was passed
-    pub race_stepped : (race : Race) → old.is_seeking ≡ false → IsWithin bytes new.reader → PassesRace bytes old.reader new.reader race
-        → (old.told.first ≡ None → new.warnings.items ≡ old.warnings.items ++ warnings_of (old.reader.lines + 1) race) → HasStepped ending bytes old (record old { reader = new.reader; warnings = new.warnings }) true
+    pub race_stepped : (race : Race) → old.is_seeking ≡ false → IsWithin bytes new.reader → (passes : PassesRace bytes old.reader new.reader race)
+        → (old.told.first ≡ None → new.warnings.items ≡ old.warnings.items ++ warnings_of (old.reader.lines + 1) passes.read.0 race) → HasStepped ending bytes old (record old { reader = new.reader; warnings = new.warnings }) true
     race_stepped race reads within passes warned = record {
       gone = record {
         may = record {

@@ -5,7 +5,7 @@ use Rattle.he_print.specs.Escaping.{string_text}
 use Rattle.he_check.specs.Sentences.{sentence_of}
 use Rattle.he_check.specs.declared.input.Checked.{Checked}
 use Rattle.he_check.specs.declared.slips.Slip.{Slip}
-use Rattle.he_check.specs.declared.slips.Slip.TheVariants.{NoRace, NoSource, IdleFloor, NoRoute, NoAnswer, LateAnswer, UnusableAnswer, NoSourceOf, LateOutcome}
+use Rattle.he_check.specs.declared.slips.Slip.TheVariants.{NoRace, NoSource, IdleFloor, NoRoute, NoAnswer, LateAnswer, UnusableAnswer, NoSourceOf, LateOutcome, Unanswered}
 use Rattle.he_check.specs.declared.slips.Warning.{Warning}
 
 -- the name of a file; null if the input has none
@@ -38,6 +38,7 @@ slip_word (LateAnswer family) = codes "late answer"
 slip_word (UnusableAnswer family) = codes "unusable answer"
 slip_word (NoSourceOf family) = codes "no source of the family"
 slip_word (LateOutcome family) = codes "late outcome"
+slip_word Unanswered = codes "unanswered address"
 
 abbrev pub warning_entry : Warning → List ℕ
 warning_entry warning = entry_text warning.line (slip_word warning.slip) (sentence_of warning.slip)

@@ -5,7 +5,7 @@ use Rattle.he_addr.specs.declared.ip.Family.TheVariants as families
 use Rattle.he_check.specs.declared.meant.Meant.{Meant}
 use Rattle.he_check.specs.declared.meant.Meant.TheVariants.{Comment, Tab, Capitals, Zone, Brackets, Comma, Name, DefaultRoute, IpOutput, Device, Unit, Sign, Packed, Wide, Capture, Json}
 use Rattle.he_check.specs.declared.slips.Slip.{Slip}
-use Rattle.he_check.specs.declared.slips.Slip.TheVariants.{NoRace, NoSource, IdleFloor, NoRoute, NoAnswer, LateAnswer, UnusableAnswer, NoSourceOf, LateOutcome}
+use Rattle.he_check.specs.declared.slips.Slip.TheVariants.{NoRace, NoSource, IdleFloor, NoRoute, NoAnswer, LateAnswer, UnusableAnswer, NoSourceOf, LateOutcome, Unanswered}
 use Rattle.he_check.specs.declared.slips.Warning.{Warning}
 
 abbrev pub sentence_of : Slip → List ℕ
@@ -28,6 +28,8 @@ sentence_of (NoSourceOf families.V6) = codes "the host of this race has no IPv6 
 sentence_of (NoSourceOf families.V4) = codes "the host of this race has no IPv4 source, so it reaches no address of the a line: write its IPv4 addresses, or `a TICK none`"
 sentence_of (LateOutcome families.V6) = codes "an outcome of an IPv6 address of this race comes after its limit and is never seen: set a higher limit, or a shorter time"
 sentence_of (LateOutcome families.V4) = codes "an outcome of an IPv4 address of this race comes after its limit and is never seen: set a higher limit, or a shorter time"
+sentence_of Unanswered =
+    codes "no answer of this race has the address of this line, so the line says nothing: write it as in the answer"
 
 -- he: line N: warning: SENTENCE
 abbrev pub warning_text : Warning → List ℕ

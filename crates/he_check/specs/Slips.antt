@@ -1,5 +1,5 @@
--- Entries of a race that are allowed, but surely not meant, and the warnings of an input about them.
-use Rattle.std.specs.Prelude.{ℕ, ◌≡◌, ◌+◌, ◌-◌, ◌==◌, ◌++◌, ◌&&◌, Bool, false, not, List, [], ◌∷◌, length, map, nat_lt, if◌then◌else◌, Option, Some, None}
+-- Entries of a race and its record that are allowed, but surely not meant, and the warnings of an input about them.
+use Rattle.std.specs.Prelude.{ℕ, ◌≡◌, ◌+◌, ◌-◌, ◌==◌, ◌++◌, ◌&&◌, ◌||◌, Bool, false, not, List, [], ◌∷◌, length, map, nat_lt, if◌then◌else◌, Option, Some, None}
 use Rattle.std.specs.List.{list_any}
 use Rattle.std.specs.Option.{option_map_or}
 use Rattle.he_addr.specs.Ip.{is_of, is_usable}
@@ -7,17 +7,18 @@ use Rattle.he_addr.specs.Prefix.{PrefixBits, is_inside_mapped}
 use Rattle.he_addr.specs.declared.ip.Family.{Family}
 use Rattle.he_addr.specs.declared.ip.Family.TheVariants as families
 use Rattle.he_addr.specs.declared.ip.Ip.{Ip}
-use Rattle.he_timeline.specs.Race.{Race, Reply}
+use Rattle.he_timeline.specs.Race.{Race, Reply, addresses_of, has_ip}
 use Rattle.he_timeline.specs.Settings.{SettingValues}
 use Rattle.he_timeline.specs.Timeline.{duration_of}
 use Rattle.he_timeline.specs.declared.outcome.Outcome.{Outcome}
 use Rattle.he_select.specs.Hosts.{HostLists}
 use Rattle.he_select.specs.declared.host.Route.{Route}
 use Rattle.he_select.specs.declared.host.Source.{Source}
+use Rattle.he_record.specs.Said.{Said, AttemptSaid, UntriedSaid}
 use Rattle.he_inputs.specs.Inputs.{line_count}
 use Rattle.he_inputs.specs.Recorded.{IsRecordedText}
 use Rattle.he_check.specs.declared.slips.Slip.{Slip}
-use Rattle.he_check.specs.declared.slips.Slip.TheVariants.{NoRace, NoSource, IdleFloor, NoRoute, NoAnswer, LateAnswer, UnusableAnswer, NoSourceOf, LateOutcome}
+use Rattle.he_check.specs.declared.slips.Slip.TheVariants.{NoRace, NoSource, IdleFloor, NoRoute, NoAnswer, LateAnswer, UnusableAnswer, NoSourceOf, LateOutcome, Unanswered}
 use Rattle.he_check.specs.declared.slips.Warning.{Warning}
 
 abbrev pub slip_if : Bool → Slip → List Slip
@@ -83,19 +84,35 @@ slips_of race =
     ++ (slip_if (lacks_route race.host families.V4) (NoRoute families.V4)
     ++ (answer_slips race families.V6 race.aaaa ++ answer_slips race families.V4 race.a))))
 
--- a warning has the first line of its race
 abbrev pub warning_at : ℕ → Slip → Warning
 warning_at line slip = record { line = line; slip = slip }
 
-abbrev pub warnings_of : ℕ → Race → List Warning
-warnings_of line race = map (warning_at line) (slips_of race)
+abbrev pub is_answered : Race → Ip → Bool
+is_answered race ip = has_ip ip (addresses_of race.aaaa) || has_ip ip (addresses_of race.a)
+
+-- the record line is about an address that is in no answer of the race
+abbrev pub is_unanswered : Race → Said → Bool
+is_unanswered race (AttemptSaid ip reason) = not (is_answered race ip)
+is_unanswered race (UntriedSaid ip) = not (is_answered race ip)
+is_unanswered race said = false
+
+-- a warning for each such line of a record that begins on this line
+abbrev pub record_warnings : ℕ → Race → List Said → List Warning
+record_warnings line race [] = []
+record_warnings line race (said ∷ more) =
+    map (warning_at line) (slip_if (is_unanswered race said) Unanswered) ++ record_warnings (line + 1) race more
+
+-- a warning of a slip of the race has the first line of the race's text, which begins with its record
+abbrev pub warnings_of : ℕ → List Said → Race → List Warning
+warnings_of line said race = map (warning_at line) (slips_of race) ++ record_warnings line race said
 
 -- the text, after `lines` lines, consists of a text of each race in order, and these are their warnings
 abbrev pub AreWarned : ℕ → List Race → List ℕ → List Warning → Type 0
 AreWarned lines [] text warnings = (text ≡ []) × (warnings ≡ [])
 AreWarned lines (race ∷ races) text warnings =
     (first : List ℕ) × (more : List ℕ) × (later : List Warning)
-    × (text ≡ first ++ more) × IsRecordedText first race × (warnings ≡ warnings_of (lines + 1) race ++ later)
+    × (text ≡ first ++ more) × (is : IsRecordedText first race)
+    × (warnings ≡ warnings_of (lines + 1) is.0 race ++ later)
     × AreWarned (lines + line_count first) races more later
 
 -- the warnings of an input's races, or the one for an input without races

@@ -1,5 +1,5 @@
 // The progress of a check: race by race, and after a faulty race from the next part on.
-ghost use Rattle.std.specs.Prelude.{◌≡◌, ◌++◌, ◌^◌, ◌≤◌, ◌+◌, length, false, true, IfOk, IsSome, OnOk};
+ghost use Rattle.std.specs.Prelude.{◌≡◌, ◌++◌, ◌^◌, ◌<◌, ◌≤◌, ◌+◌, length, false, true, IfOk, IsSome, OnOk};
 ghost use Rattle.he_inputs.specs.RaceReading.{IsWithin};
 ghost use Rattle.he_inputs.specs.declared.race_reader.Ending.{Ending};
 ghost use Rattle.he_check.specs.Slips.{warnings_of};
@@ -13,6 +13,7 @@ use crate::slips::{Slip, Warning, add_if, add_warnings};
 use he_addr::Memory;
 use he_inputs::laws::first_recorded_faults;
 use he_inputs::{Ending, InputFault, RaceReader, RaceReaderFault, StreamFault};
+use he_record::Record;
 use he_timeline::Timeline;
 use he_words::LINE_END;
 use memchr::memchr;
@@ -80,10 +81,11 @@ impl<A: Allocator + Copy> Counted<A> {
     {
         first_recorded_faults();
         let line = self.reader.lines + 1;
-        match self.reader.next(alloc, bytes, ending) {
-            Ok(Some(race)) => {
-                let added = warn(self.told.first.is_some(), &race, line, &mut self.warnings);
-                drop(race);
+        match self.reader.next_recorded(alloc, bytes, ending) {
+            Ok(Some(found)) => {
+                let has_fault = self.told.first.is_some();
+                let added = warn(has_fault, &found.0, &found.1, line, &mut self.warnings);
+                drop(found);
                 added?;
                 Ok(true)
             }
@@ -166,17 +168,20 @@ impl<A: Allocator + Copy> Counted<A> {
     }
 }
 
-// Appends the warnings of a race that begins on this line, unless a race before it has a fault.
-fn warn<A: Allocator, B: Allocator>(
+// Appends the warnings of a race and its record, which begin on this line, unless a race before it has a fault.
+fn warn<A: Allocator, B: Allocator, C: Allocator>(
     has_fault: bool,
+    told: &Record<'_, C>,
     race: &Timeline<B>,
     line: u64,
     warnings: &mut Vec<Warning, A>,
 ) -> Result<(), Memory>
-    ensures { OnOk result (has_fault ≡ false → warnings.new.items ≡ warnings.old.items ++ warnings_of line race.now) }
+    requires { line + length told.now < 2 ^ 64 }
+    ensures { OnOk result (has_fault ≡ false
+        → warnings.new.items ≡ warnings.old.items ++ warnings_of line told.now race.now) }
 {
     if has_fault {
         return Ok(());
     }
-    add_warnings(race, line, warnings)
+    add_warnings(told, race, line, warnings)
 }

@@ -9,7 +9,7 @@
 //!
 //! Proved: a check reports the input's first fault, by kind and line (`HasRaces` of he_inputs, `specs/Inputs`). If
 //! there is none, it reports the number of its races and lines (`specs/Checked`), and exactly the slips of its races
-//! as warnings, each with the race's first line (`specs/Slips`) and its sentence (`specs/Sentences`). A replay reads
+//! and their records as warnings, each with its line (`specs/Slips`) and its sentence (`specs/Sentences`). A replay reads
 //! its input by the same definition, so both report one fault. Over streams, whatever they do (`specs/Stream`): the
 //! whole input is read; the numbers are written and flushed if there is no fault, and otherwise nothing is written;
 //! after a write or flush that failed, a first part is written. The explanation is appended to the vector, and a

@@ -94,6 +94,7 @@ fn slip_word(slip: Slip) -> &'static [u8]
         Slip::UnusableAnswer(_) => b"unusable answer",
         Slip::NoSourceOf(_) => b"no source of the family",
         Slip::LateOutcome(_) => b"late outcome",
+        Slip::Unanswered => b"unanswered address",
     }
 }
 

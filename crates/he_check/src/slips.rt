@@ -1,12 +1,14 @@
-//! Entries of a race that are allowed, but surely not meant.
-ghost use Rattle.std.specs.Prelude.{◌≡◌, ◌++◌, map, OnOk};
+//! Entries of a race and its record that are allowed, but surely not meant.
+ghost use Rattle.std.specs.Prelude.{◌≡◌, ◌+◌, ◌<◌, ◌^◌, ◌++◌, length, map, OnOk};
 ghost use Rattle.std.specs.List.{list_any};
 ghost use Rattle.he_addr.specs.Ip.{is_of, is_usable};
-ghost use Rattle.he_timeline.specs.Race.{reply_of};
-ghost use Rattle.he_check.specs.Slips.{answer_slips, are_unusable, has_route, has_source, is_floor_idle, is_longer, lacks_route, serves, slip_if, warning_at, warnings_of};
+ghost use Rattle.he_timeline.specs.Race.{has_ip, reply_of};
+ghost use Rattle.he_record.specs.Left.{said_of};
+ghost use Rattle.he_check.specs.Slips.{answer_slips, are_unusable, has_route, has_source, is_answered, is_floor_idle, is_longer, is_unanswered, lacks_route, record_warnings, serves, slip_if, slips_of, warning_at, warnings_of};
 ghost use Rattle.he_check.specs.declared.slips.Slip.TheVariants.{NoRoute};
 
 use he_addr::{Family, Ip, Memory, Prefix};
+use he_record::{Record, RecordLine};
 use he_select::{Host, Route, Source};
 use he_timeline::{Outcome, Settings, Timeline};
 use std::alloc::Allocator;
@@ -34,24 +36,40 @@ pub enum Slip {
     /// An outcome of the family comes after the limit even if its attempt starts with the answer, so it is never
     /// seen.
     LateOutcome(Family),
+    /// The address of a record line `attempt` or `untried` is in no answer of the race, so the line says nothing.
+    Unanswered,
 }
 
-/// A slip of a race of an input.
+/// A slip of a race of an input, or of its record.
 #[derive(Clone, Copy, Debug, PartialEq, Eq)]
 pub struct Warning {
-    /// The first line of the race, counted over the whole input from 1; 1 if the input has no race.
+    /// The line of an unanswered address; otherwise the first line of the race, record lines included. Lines are
+    /// counted over the whole input from 1; 1 if the input has no race.
     pub line: u64,
     /// The slip.
     pub slip: Slip,
 }
 
-// Appends a warning for each slip of a race that begins on this line.
-pub(crate) fn add_warnings<A: Allocator, B: Allocator>(
+// Appends a warning for each slip of a race and its record, which begin on this line.
+pub(crate) fn add_warnings<A: Allocator, B: Allocator, C: Allocator>(
+    told: &Record<'_, C>,
     race: &Timeline<B>,
     line: u64,
     warnings: &mut Vec<Warning, A>,
 ) -> Result<(), Memory>
-    ensures { OnOk result (warnings.new.items ≡ warnings.old.items ++ warnings_of line race.now) }
+    requires { line + length told.now < 2 ^ 64 }
+    ensures { OnOk result (warnings.new.items ≡ warnings.old.items ++ warnings_of line told.now race.now) }
+{
+    add_slips(race, line, warnings)?;
+    add_of_record(told.lines(), race, line, warnings)
+}
+
+fn add_slips<A: Allocator, B: Allocator>(
+    race: &Timeline<B>,
+    line: u64,
+    warnings: &mut Vec<Warning, A>,
+) -> Result<(), Memory>
+    ensures { OnOk result (warnings.new.items ≡ warnings.old.items ++ map (warning_at line) (slips_of race.now)) }
 {
     let has_no_source = race.host().sources().is_empty();
     add_if(has_no_source, line, Slip::NoSource, warnings)?;
@@ -120,6 +138,52 @@ pub(crate) fn add_if<A: Allocator>(
         warnings.push(Warning { line, slip })?;
     }
     Ok(())
+}
+
+// Appends a warning for each record line with an address that is in no answer. The first line has this number.
+fn add_of_record<A: Allocator, B: Allocator>(
+    lines: &[RecordLine<'_>],
+    race: &Timeline<B>,
+    first: u64,
+    warnings: &mut Vec<Warning, A>,
+) -> Result<(), Memory>
+    requires { first + length lines.now < 2 ^ 64 }
+    ensures { OnOk result (warnings.new.items
+        ≡ warnings.old.items ++ record_warnings first race.now (map said_of lines.now)) }
+{
+    let mut number = first;
+    for told in lines {
+        add_if(
+            is_unanswered(race, told),
+            number,
+            Slip::Unanswered,
+            warnings,
+        )?;
+        number += 1;
+    }
+    Ok(())
+}
+
+fn is_unanswered<B: Allocator>(race: &Timeline<B>, told: &RecordLine<'_>) -> bool
+    ensures { result ≡ is_unanswered race.now (said_of told.now) }
+{
+    match told {
+        RecordLine::Attempt(ip, _) => !is_answered(race, *ip),
+        RecordLine::Untried(ip) => !is_answered(race, *ip),
+        _ => false,
+    }
+}
+
+fn is_answered<B: Allocator>(race: &Timeline<B>, ip: Ip) -> bool
+    ensures { result ≡ is_answered race.now ip }
+{
+    has_ip(race.answered(Family::V6), ip) || has_ip(race.answered(Family::V4), ip)
+}
+
+fn has_ip(ips: &[Ip], ip: Ip) -> bool
+    ensures { result ≡ has_ip ip ips.now }
+{
+    ips.iter().any(|other| *other == ip)
 }
 
 fn is_floor_idle(settings: Settings) -> bool

@@ -69,5 +69,7 @@ pub(crate) fn sentence(slip: Slip) -> &'static [u8]
             b"an outcome of an IPv6 address of this race comes after its limit and is never seen: set a higher limit, or a shorter time",
         Slip::LateOutcome(Family::V4) =>
             b"an outcome of an IPv4 address of this race comes after its limit and is never seen: set a higher limit, or a shorter time",
+        Slip::Unanswered =>
+            b"no answer of this race has the address of this line, so the line says nothing: write it as in the answer",
     }
 }

@@ -1,13 +1,11 @@
 -- Record lines are nothing to a race: without them a right input has the same races, and a text that has none means
 -- what it meant before there were any.
-use Rattle.std.proofs.Common.{◌≡◌, ℕ, ◌+◌, ◌<◌, ◌≤◌, Bool, true, false, cond, not, List, [], ◌∷◌, ◌++◌, length, Option, Some, None, refl, sym, ◌∙◌, ap, subst, inl, inr, arith, append_assoc, length-append}
+use Rattle.std.proofs.Common.{◌≡◌, ℕ, ◌+◌, ◌<◌, Bool, true, false, cond, not, List, [], ◌∷◌, ◌++◌, length, Option, Some, None, refl, sym, ◌∙◌, ap, subst, inl, inr, arith, append_assoc, length-append}
 use Rattle.std.specs.Prelude.{◌↔◌, codes, option_map}
 use Rattle.std.specs.List.{AllByRecursion, AllZip, filter, join_with_byte}
 use Rattle.std.proofs.lemmas.List.{append-nil}
 use Rattle.std.proofs.lemmas.List.Elements.{filter-append}
 use Rattle.std.proofs.lemmas.List.Splits.{join_with_byte-slice_split}
-use Rattle.he_addr.specs.declared.ip.Family.{Family}
-use Rattle.he_addr.specs.declared.ip.Family.TheVariants as families
 use Rattle.he_timeline.specs.Race.{Race}
 use Rattle.he_words.specs.declared.fault.TextKind.{TextKind}
 use Rattle.he_words.specs.declared.words.Version.{Version}
@@ -15,7 +13,7 @@ use Rattle.he_words.specs.declared.words.Version.TheVariants.{One, Two}
 use Rattle.he_words.specs.declared.words.Word.{Word}
 use Rattle.he_words.specs.declared.words.Word.TheVariants as words
 use Rattle.he_words.specs.Words.{header_of, spelling_of}
-use Rattle.he_reading.specs.FaultSearch.{fault_in, fault_of}
+use Rattle.he_reading.specs.FaultSearch.{fault_of}
 use Rattle.he_reading.specs.Parts.{lines_of, tokens_of}
 use Rattle.he_reading.specs.Said.{Setting, PolicyRow, HostSource, HostRoute, Answer, RoundTrip, UsedBefore, OutcomeOf, Paused, Ended}
 use Rattle.he_reading.specs.Said as races
@@ -23,14 +21,12 @@ use Rattle.he_reading.specs.Text.{IsRaceText}
 use Rattle.he_reading.specs.Text as reading
 use Rattle.he_record.specs.Forms.{is_record_line}
 use Rattle.he_record.specs.Fronts.{goes_on}
-use Rattle.he_record.specs.FrontSearch.{front_of}
 use Rattle.he_record.specs.Said as records
 use Rattle.he_record.specs.Text.{IsRecordText, Says}
 use Rattle.he_record.proofs.FitLaws.{fit_none}
-use Rattle.he_record.proofs.FrontLaws.{as_many, stops}
+use Rattle.he_record.proofs.FrontLaws.{stops}
 use Rattle.he_record.proofs.LineSays.{line_begins}
-use Rattle.he_record.proofs.Stands.{behind_lines, some_parts}
-use Rattle.he_inputs.specs.declared.input_fault.InputFault.{InputFault}
+use Rattle.he_record.proofs.Stands.{behind_lines}
 use Rattle.he_inputs.specs.Inputs.{AreRaceTexts, HasRaces, IsFaultBehind, line_count}
 use Rattle.he_inputs.specs.Plain.{HasNoRecord, is_kept, without_records}
 use Rattle.he_inputs.specs.Recorded.{IsRecordedAs, IsRecordedText, fault_after, lines_on, recorded_fault}

@@ -28,7 +28,7 @@ use Rattle.he_inputs.specs.declared.race_reader.RaceReader.{RaceReader}
 use Rattle.he_inputs.specs.declared.race_reader.RaceReaderFault.{RaceReaderFault}
 use Rattle.he_inputs.specs.declared.race_reader.RaceReaderFault.TheVariants as faults
 use Rattle.he_reading.proofs.FaultTexts.{race_at}
-use Rattle.he_record.specs.FrontSearch.{FailsFront, ReadsFront, front_of}
+use Rattle.he_record.specs.FrontSearch.{FailsFront, ReadsFront}
 use Rattle.he_record.specs.declared.line.RecordLine.{RecordLine}
 use Rattle.he_record.specs.Left.{said_of}
 use Rattle.he_record.specs.Said.{Said}

@@ -1,7 +1,6 @@
 -- A stream after one race more, and where it ends.
 use Rattle.std.proofs.Common.{ℕ, ◌≡◌, ◌≢◌, ◌+◌, ◌-◌, ◌<◌, ◌≤◌, ◌++◌, ◌∙◌, Bool, true, false, List, [], ◌∷◌, length, drop, eqb, Option, Some, None, Result, Ok, Err, ap, append_assoc, sym, subst, refl, arith, inl, inr, length-append, take-append-drop}
 use Rattle.std.specs.List.{slice_range}
-use Rattle.std.specs.Prelude.{IfErr, IfOk}
 use Rattle.std.proofs.lemmas.List.{append-nil, drop-drop}
 use Rattle.std.proofs.lemmas.List.Sums.{count_by-le-length}
 use Rattle.he_timeline.specs.Race.{Race}
@@ -18,12 +17,12 @@ use Rattle.he_inputs.specs.declared.race_reader.Ending.TheVariants as endings
 use Rattle.he_inputs.specs.declared.race_reader.RaceReader.{RaceReader}
 use Rattle.he_inputs.specs.declared.race_reader.RaceReaderFault.{RaceReaderFault}
 use Rattle.he_inputs.specs.declared.race_reader.RaceReaderFault.TheVariants as readers
-use Rattle.he_inputs.specs.HeldInputs.{GivesBy, HeldBytes, TakesMore}
+use Rattle.he_inputs.specs.HeldInputs.{GivesBy, HeldBytes}
 use Rattle.he_inputs.specs.Inputs.{IsFaultBehind, line_count}
-use Rattle.he_inputs.specs.RaceReading.{EndsAt, IsNextOf, IsReaderFault, IsWithin, MayFollow, PassesRace}
+use Rattle.he_inputs.specs.RaceReading.{EndsAt, IsWithin, MayFollow, PassesRace}
 use Rattle.he_inputs.specs.RaceStreams.{EndsRaces, HandsNext, HasHanded, StopsRaces, StreamState, at_start}
 use Rattle.he_inputs.specs.RaceStreamSteps.{GoesOn, IsStream, PassesHeld, PassesText, left_by, state_of}
-use Rattle.he_inputs.proofs.HeldInputLaws.{gives_nothing, gives_so_far, held_given}
+use Rattle.he_inputs.proofs.HeldInputLaws.{gives_nothing, gives_so_far}
 use Rattle.he_inputs.proofs.RaceReadingLaws.{AreTexts-snoc, line_count-append}
 
 -- an input that did not break off has no such fault
@@ -44,17 +43,16 @@ module _ (held : HeldBytes) (old new : RaceReader) (race : Race) (passes : Passe
     parts : drop old.end held.bytes ≡ slice_range held.bytes old.end new.end ++ drop new.end held.bytes
     parts = parts_of held.bytes old.end new.end (let past = passes.past in omega arith)
 
-    pub stream_on : IsStream held old → IsWithin held.bytes new → IsStream held new
-    stream_on is within =
+    pub stream_on : (start : ℕ) → IsStream held start old → IsWithin held.bytes new → IsStream held old.end new
+    stream_on start is within =
         let size = is.size in
         let lines = passes.lined in
         let few = count_by-le-length (λ b. eqb b 10) (slice_range held.bytes old.end new.end) in
         let longer : length (drop old.end held.bytes) ≡ length (slice_range held.bytes old.end new.end) + length (drop new.end held.bytes) = ap length parts ∙ length-append (slice_range held.bytes old.end new.end) (drop new.end held.bytes) in
-        record { within = within; few = is.few; size = omega arith }
+        record { begun = let past = passes.past in omega arith; within = within; few = is.few; size = omega arith }
 
-    pub passes_text : (ending : Ending) → PassesText (state_of held old ending) (state_of held new ending) race
-    passes_text ending = record {
-      text = slice_range held.bytes old.end new.end;
+    pub passes_text : (start : ℕ) (ending : Ending) → PassesText (state_of held start old ending) (state_of held old.end new ending) race
+    passes_text start ending = record {
       is = passes.read;
       parts = parts;
       races = passes.counted;
@@ -62,14 +60,6 @@ module _ (held : HeldBytes) (old new : RaceReader) (race : Race) (passes : Passe
       ending = refl;
       steps = refl;
     }
-
--- how a stream goes on by its reader
-pub passes_held : (held : HeldBytes) (old new : RaceReader) (ending : Ending) (result : Result (Option Race) RaceReaderFault) → IfOk result (IsNextOf held.bytes ending old new) → IfErr result (λ _. new ≡ old)
-    → IfErr result (IsReaderFault held.bytes ending old) → PassesHeld (state_of held old ending) (state_of held new ending) result
-passes_held held old new ending (Ok (Some race)) found same fault = passes_text held old new race found ending
-passes_held held old new ending (Ok None) found same fault = (ap (λ (r : RaceReader). state_of held r ending) found.0, inr found.1)
-passes_held held old new ending (Err (readers.Input wrong)) found same fault = (ap (λ (r : RaceReader). state_of held r ending) same, fault)
-passes_held held old new ending (Err readers.Memory) found same fault = ap (λ (r : RaceReader). state_of held r ending) same
 
 -- no race is found
 pub none_of : (found : Option Race) → ((race : Race) → found ≡ Some race → ⊥) → found ≡ None
@@ -88,25 +78,6 @@ fewer_left old new endings.Whole less = omega arith
 fewer_left old new endings.Broken less = omega arith
 
 module _ {I : Type 0} (input : inputs.Ghosts I) where
-  -- a stream took more, into the place of the races that were passed
-  pub stream_takes : (before after : I) (held new : HeldBytes) (reader : RaceReader) (ending : Ending) → IsStream held reader
-      → TakesMore input before after (record { bytes = drop reader.end held.bytes; steps = held.steps }) new ending
-      → GoesOn input before after (state_of held reader endings.Open) (state_of new (record reader { end = 0 }) ending) × IsStream new (record reader { end = 0 })
-  stream_takes before after held new reader ending is taken =
-      let size = is.size in
-      let more = taken.size in
-      let few = taken.few is.few in
-      let races = is.within.few in
-      let longer : length new.bytes ≡ length (drop reader.end held.bytes) + length taken.more = ap length taken.grown ∙ length-append (drop reader.end held.bytes) taken.more in (
-        record {
-          races = refl;
-          lines = refl;
-          later = taken.later;
-          gives = λ first front given. held_given input first before after front (record { bytes = drop reader.end held.bytes; steps = held.steps }) new ending taken given;
-        },
-        record { within = record { place = omega arith; few = races; room = omega arith }; few = few; size = omega arith },
-      )
-
   -- nothing was taken
   pub nothing_on : (state : I) (stream : StreamState) → GoesOn input state state stream stream
   nothing_on state stream = record { races = refl; lines = refl; later = omega arith; gives = λ _ _ given. given }
@@ -134,15 +105,14 @@ module _ {I : Type 0} (input : inputs.Ghosts I) where
           let one = passes.races in
           let lines = passes.lines in
           let longer = length-append races (race ∷ []) in
-          let more = line_count-append front passes.text in
-          let parts : front ++ old.rest ≡ (front ++ passes.text) ++ new.rest = ap (λ (t : List ℕ). front ++ t) passes.parts ∙ sym (append_assoc front passes.text new.rest) in
+          let more = line_count-append front new.text in
+          let parts : front ++ old.rest ≡ (front ++ new.text) ++ new.rest = ap (λ (t : List ℕ). front ++ t) passes.parts ∙ sym (append_assoc front new.text new.rest) in
           let Gave : ℕ → Ending → List ℕ → Type 0 = GivesBy input first last in
           let Steps : ℕ → Type 0 = λ n. Gave n old.ending (front ++ old.rest) in
           let Ends : Ending → Type 0 = λ e. Gave new.steps e (front ++ old.rest) in (
-            passes.text,
             passes.is,
             record {
-              whole = AreTexts-snoc IsRecordedText races front has.whole race passes.text passes.is;
+              whole = AreTexts-snoc IsRecordedText races front has.whole race new.text passes.is;
               counted = omega arith;
               lined = omega arith;
               given = subst (Gave new.steps new.ending) parts (subst Ends (sym passes.ending) (subst Steps (sym passes.steps) has.given));

@@ -1,9 +1,7 @@
 -- The fault of a text that begins with record lines: what is known of those of races is known of it.
-use Rattle.std.proofs.Common.{◌≡◌, ℕ, ◌+◌, ◌<◌, ◌≤◌, Bool, true, false, cond, ltb, List, [], ◌∷◌, ◌++◌, length, Option, Some, None, Result, Ok, Err, refl, sym, ◌∙◌, ap, subst, inl, inr, arith, append_assoc, length-append}
+use Rattle.std.proofs.Common.{◌≡◌, ℕ, ◌+◌, ◌<◌, ◌≤◌, Bool, true, false, ltb, List, [], ◌∷◌, ◌++◌, length, Option, Some, None, Result, Ok, Err, refl, sym, ◌∙◌, ap, subst, inl, inr, arith, append_assoc, length-append}
 use Rattle.std.specs.Prelude.{◌⊎◌, ◌≢◌, option_map}
-use Rattle.std.specs.Option.{option_map_or}
 use Rattle.std.specs.List.{join_with_byte}
-use Rattle.std.specs.Str.{bytes_eq}
 use Rattle.std.proofs.lemmas.Bool.{ltb-true}
 use Rattle.std.proofs.lemmas.List.Splits.{join_with_byte-slice_split}
 use Rattle.std.proofs.lemmas.List.Sums.{sum_by-append}
@@ -11,11 +9,10 @@ use Rattle.std.proofs.lemmas.Slice.Eq.{bytes_eq-Decides}
 use Rattle.he_words.specs.declared.fault.TextKind.{TextKind}
 use Rattle.he_words.specs.declared.fault.TextKind.TheVariants as kinds
 use Rattle.he_words.specs.declared.limits.TheConstants.{MAX_LINE}
-use Rattle.he_words.specs.declared.words.Word.{Word}
 use Rattle.he_words.specs.Words.{word_in}
 use Rattle.he_reading.specs.Faults.{anyone, test, first_fault, too_long, unfinished, wrong_header, version_on}
 use Rattle.he_reading.specs.FaultSearch.{at_line_number, fault_from, fault_in, fault_of}
-use Rattle.he_reading.specs.Forms.{said_from, said_in, word_of, word_of_setting}
+use Rattle.he_reading.specs.Forms.{said_from, word_of, word_of_setting}
 use Rattle.he_reading.specs.Parts.{lines_of, tokens_of}
 use Rattle.he_reading.proofs.PartLaws.{parts_counted}
 use Rattle.he_record.specs.Forms.{is_record_line}
@@ -27,13 +24,11 @@ use Rattle.he_record.proofs.Closed.{IsOwnKind, line_closed}
 use Rattle.he_record.proofs.FrontLaws.{all_pass, as_many, begins_found, fails_later, fault_is_first, first_is_fault, found_begins, found_longer}
 use Rattle.he_record.proofs.GoesOn.{bytes_decide}
 use Rattle.he_record.proofs.Stands.{fault_stands, first_line_decides, glued, lines_glued, record_passes, some_glued, some_parts, unfinished_last}
-use Rattle.he_inputs.specs.Beginnings.{EndsBehind, FaultChanges, FaultStands, IsGroupFaultAtEnd, MayChange, awaited}
-use Rattle.he_inputs.specs.FirstFault.{IsFirstFault}
+use Rattle.he_inputs.specs.Beginnings.{FaultChanges, FaultStands, IsGroupFaultAtEnd, MayChange, awaited}
 use Rattle.he_inputs.specs.Inputs.{line_count}
 use Rattle.he_inputs.specs.Recorded.{IsFirstRecordedFault, fault_after, lines_on, recorded_fault}
 use Rattle.he_inputs.proofs.Beginnings.{NotBefore, RaceFaultStands, by_kind, from_here, here_or_behind, not_earlier, number_is, stands, weaker}
 use Rattle.he_inputs.proofs.FirstFaults.{first_fault_in, in_first_fault}
-use Rattle.he_inputs.proofs.GroupFaults.{awaited_is}
 use Rattle.he_inputs.proofs.Mending.{RaceFaultChanges, group_changes, last_in}
 use Rattle.he_inputs.proofs.RecordedTexts.{IsCut, cut_more, cut_record, past_record}
 

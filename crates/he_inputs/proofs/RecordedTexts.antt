@@ -1,8 +1,8 @@
 -- Races with their record lines: a text that begins with one begins with no other, and is cut after its record.
-use Rattle.std.proofs.Common.{◌≡◌, ℕ, ◌+◌, ◌<◌, ◌≤◌, Bool, true, false, eqb, List, [], ◌∷◌, ◌++◌, length, Option, Some, None, Result, Ok, Err, refl, sym, ◌∙◌, ap, subst, arith, append_assoc, length-append}
+use Rattle.std.proofs.Common.{◌≡◌, ℕ, ◌+◌, ◌<◌, false, List, [], ◌∷◌, ◌++◌, length, Option, Some, None, Result, Ok, Err, refl, sym, ◌∙◌, ap, subst, arith, append_assoc, drop, length-append}
 use Rattle.std.specs.Prelude.{◌↔◌, option_map}
 use Rattle.std.specs.List.{AllByRecursion, join_with_byte}
-use Rattle.std.proofs.lemmas.List.{append_cancel_left, append_cancel_right}
+use Rattle.std.proofs.lemmas.List.{append-nil, append_cancel_right}
 use Rattle.std.proofs.lemmas.List.Splits.{join_with_byte-slice_split}
 use Rattle.he_timeline.specs.Race.{Race}
 use Rattle.he_words.specs.declared.fault.TextKind.{TextKind}
@@ -10,12 +10,12 @@ use Rattle.he_reading.specs.FaultSearch.{fault_in, fault_of}
 use Rattle.he_reading.specs.Parts.{lines_of}
 use Rattle.he_reading.specs.Text.{BeginsWithRace, IsRaceText}
 use Rattle.he_reading.proofs.PartLaws.{Lacks, front_lacks, join_behind, joined_parts, lacks_more, parts_counted, parts_lack}
-use Rattle.he_record.specs.FrontSearch.{Front, front_from, front_of}
+use Rattle.he_record.specs.FrontSearch.{Front, ReadsFront, front_of}
 use Rattle.he_record.specs.Fronts.{BeginsWithRecord, goes_on}
 use Rattle.he_record.specs.Said.{Said}
 use Rattle.he_record.specs.Text.{IsRecordText}
 use Rattle.he_record.proofs.FrontLaws.{as_many, found_begins, stops}
-use Rattle.he_record.proofs.Stands.{behind_lines, race_is_no_record, record_passes, some_parts}
+use Rattle.he_record.proofs.Stands.{race_is_no_record, record_passes, some_parts}
 use Rattle.he_inputs.specs.Inputs.{line_count}
 use Rattle.he_inputs.specs.Recorded.{BeginsRecorded, IsRecordedAs, IsRecordedText, fault_after, lines_on, recorded_fault}
 
@@ -89,6 +89,19 @@ race_front text more said race is =
     ap front_of (race_parts text more said race is)
     ∙ record_passes is.front (is.rest ++ more) said is.told
     ∙ stops (length said + 1) said (lines_of (is.rest ++ more)) (race_is_no_record is.rest more race is.is)
+
+-- the search finds the record of a race's text
+pub recorded_found : (text : List ℕ) (said : List Said) (race : Race) → (is : IsRecordedAs text said race) → front_of text ≡ Ok (record { said = said; left = lines_of is.rest })
+recorded_found text said race is =
+    ap front_of is.parts
+    ∙ record_passes is.front is.rest said is.told
+    ∙ stops (length said + 1) said (lines_of is.rest) (ap (λ (t : List ℕ). goes_on (lines_of t)) (sym (append-nil is.rest)) ∙ race_is_no_record is.rest [] race is.is)
+
+-- what was read of a race's text is its record
+pub read_is_said : (text : List ℕ) (told : List Said) (end : ℕ) → ReadsFront text told end → (said : List Said) (race : Race) → IsRecordedAs text said race → told ≡ said
+read_is_said text told end reads said race is =
+    let same : record { said = told; left = lines_of (drop end text) } ≡ record { said = said; left = lines_of is.rest } = cc (reads, recorded_found text said race is) in
+    ap (λ (f : Front). f.said) same
 
 lines_alike : (text other : List ℕ) → lines_of text ≡ lines_of other → text ≡ other
 lines_alike text other same = sym (join_with_byte-slice_split 10 text) ∙ ap (join_with_byte 10) same ∙ join_with_byte-slice_split 10 other

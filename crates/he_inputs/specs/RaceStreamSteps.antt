@@ -1,5 +1,5 @@
 -- Mirrors the code: how a stream reads the bytes it holds, and takes more.
-use Rattle.std.specs.Prelude.{ℕ, ◌≡◌, ◌≤◌, ◌⊎◌, ◌+◌, ◌-◌, ◌*◌, ◌++◌, Bool, List, length, drop, Option, Some, None, Result, Ok, Err}
+use Rattle.std.specs.Prelude.{ℕ, ◌≡◌, ◌≤◌, ◌⊎◌, ◌+◌, ◌-◌, ◌*◌, ◌++◌, Bool, List, length, drop, slice_range, Option, Some, None, Result, Ok, Err}
 use Rattle.he_timeline.specs.Race.{Race}
 use Rattle.he_stream.specs.declared.stream.InputStream as inputs
 use Rattle.he_stream.specs.Limits.{most_reads, read_size}
@@ -15,9 +15,10 @@ use Rattle.he_inputs.specs.RaceReading.{EndsAt, IsWithin, MayFollow}
 use Rattle.he_inputs.specs.RaceStreams.{StreamState}
 use Rattle.he_inputs.specs.Recorded.{IsRecordedText}
 
--- the state of a stream with these held bytes and this reader
-abbrev pub state_of : HeldBytes → RaceReader → Ending → StreamState
-state_of held reader ending = record {
+-- the state of a stream with these held bytes and this reader; the last race begins at `start`
+abbrev pub state_of : HeldBytes → ℕ → RaceReader → Ending → StreamState
+state_of held start reader ending = record {
+  text = slice_range held.bytes start reader.end;
   rest = drop reader.end held.bytes;
   races = reader.races;
   lines = reader.lines;
@@ -26,7 +27,8 @@ state_of held reader ending = record {
 }
 
 -- the bounds of a stream
-pub record IsStream (held : HeldBytes) (reader : RaceReader) : Type 0 where
+pub record IsStream (held : HeldBytes) (start : ℕ) (reader : RaceReader) : Type 0 where
+  pub begun : start ≤ reader.end
   pub within : IsWithin held.bytes reader
   pub few : held.steps ≤ most_reads
   pub size : reader.lines + length (drop reader.end held.bytes) ≤ read_size * held.steps
@@ -49,11 +51,10 @@ left_of stream = left_by stream.ending (most_reads - stream.steps)
 
 -- the first of the held bytes were passed, as the text of this race
 pub record PassesText (old new : StreamState) (race : Race) : Type 0 where
-  pub text : List ℕ
-  pub is : IsRecordedText text race
-  pub parts : old.rest ≡ text ++ new.rest
+  pub is : IsRecordedText new.text race
+  pub parts : old.rest ≡ new.text ++ new.rest
   pub races : new.races ≡ old.races + 1
-  pub lines : new.lines ≡ old.lines + line_count text
+  pub lines : new.lines ≡ old.lines + line_count new.text
   pub ending : new.ending ≡ old.ending
   pub steps : new.steps ≡ old.steps
 

@@ -13,9 +13,10 @@ use Rattle.he_inputs.specs.HeldInputs.{GivesBy}
 use Rattle.he_inputs.specs.Inputs.{AreRaceTexts, HasRaces, line_count}
 use Rattle.he_inputs.specs.Recorded.{IsRecordedText}
 
--- the state of a stream: the bytes held after the races returned, the number of these races and of their lines, the
--- ending of the input so far, and the number of steps
+-- the state of a stream: the bytes of the last race returned, unless they were dropped; the bytes held after it; the
+-- number of the races returned and of their lines, the ending of the input so far, and the number of steps
 pub record StreamState : Type 0 where
+  pub text : List ℕ
   pub rest : List ℕ
   pub races : ℕ
   pub lines : ℕ
@@ -24,7 +25,7 @@ pub record StreamState : Type 0 where
 
 -- nothing was taken yet
 abbrev pub at_start : StreamState
-at_start = record { rest = []; races = 0; lines = 0; ending = endings.Open; steps = 0 }
+at_start = record { text = []; rest = []; races = 0; lines = 0; ending = endings.Open; steps = 0 }
 
 -- the input gave, since its first state, the texts of these races and then the bytes held
 pub record HasHanded {I : Type 0} (input : inputs.Ghosts I) (first last : I) (stream : StreamState)
@@ -54,8 +55,7 @@ pub record StopsRaces (Taken : List ℕ → Type 0) (races : List Race) (front :
 abbrev pub HandsNext : {I : Type 0} → inputs.Ghosts I → I → I → StreamState → List Race → List ℕ
     → Result (Option Race) RaceReaderFault → Type 0
 HandsNext input first last stream races front (Ok (Some race)) =
-    (text : List ℕ) × IsRecordedText text race
-    × HasHanded input first last stream (races ++ race ∷ []) (front ++ text)
+    IsRecordedText stream.text race × HasHanded input first last stream (races ++ race ∷ []) (front ++ stream.text)
 HandsNext input first last stream races front (Ok None) =
     EndsRaces (Gives input.remaining input.takes first last) races front None
 HandsNext input first last stream races front (Err (readers.Input (faults.Text fault))) =

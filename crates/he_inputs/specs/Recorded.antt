@@ -1,5 +1,5 @@
 -- Texts of races with the record lines right before them, and the fault of a text.
-use Rattle.std.specs.Prelude.{ℕ, ◌≡◌, ◌⊎◌, ◌+◌, ◌++◌, List, length, Option, Some, None, option_map, Result, Ok, Err}
+use Rattle.std.specs.Prelude.{ℕ, ◌≡◌, ◌⊎◌, ◌+◌, ◌++◌, List, length, Option, Some, option_map, Result, Ok, Err}
 use Rattle.he_timeline.specs.Race.{Race}
 use Rattle.he_words.specs.declared.fault.TextKind.{TextKind}
 use Rattle.he_reading.specs.FaultSearch.{fault_in}

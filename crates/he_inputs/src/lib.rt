@@ -5,7 +5,7 @@
 //! [`take_one_race`] takes one step by step. [`StreamFault`] is the error of work on a stream of timelines.
 //!
 //! A race may have record lines right before it (`he_record`). They don't change the race: readers pass them with it,
-//! and [`RaceReader::next_recorded`] returns their contents.
+//! and [`RaceReader::next_recorded`] returns their contents; [`record_of`] reads them of [`RaceStream::text`].
 //!
 //! Proved: the reader returns the races and the first fault of the input (`specs/Inputs`, `specs/Recorded`). Of bytes
 //! that may go on, it returns the races and the fault that every input has that begins with them
@@ -31,4 +31,5 @@ pub use input_fault::InputFault;
 pub use inputs::{NotOneRace, read_one_race, take_one_race};
 pub use race_reader::{Ending, RaceReader, RaceReaderFault};
 pub use race_stream::RaceStream;
+pub use recorded::record_of;
 pub use stream_fault::StreamFault;

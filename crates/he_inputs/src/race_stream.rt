@@ -25,6 +25,8 @@ pub struct RaceStream<A: Allocator> {
     held: HeldInput<A>,
     // Whether more bytes may follow those held.
     ending: Ending,
+    // The offset in the bytes held at which the last race returned begins, with its record lines.
+    start: usize,
     // The position after the last race returned.
     reader: RaceReader,
     // The number of bytes after that position at the last try, which found no whole race; 0 after a race.
@@ -37,9 +39,9 @@ impl<A: Allocator> Model for RaceStream<A> {
 
     ghost Value = { StreamState };
 
-    ghost view = { λ s. state_of s.held s.reader s.ending };
+    ghost view = { λ s. state_of s.held s.start s.reader s.ending };
 
-    ghost invariant = { λ s. IsStream s.held s.reader };
+    ghost invariant = { λ s. IsStream s.held s.start s.reader };
 }
 
 impl<A: Allocator> RaceStream<A> {
@@ -50,6 +52,7 @@ impl<A: Allocator> RaceStream<A> {
         RaceStream {
             held: HeldInput::new(alloc),
             ending: Ending::Open,
+            start: 0,
             reader: RaceReader::START,
             tried: 0,
         }
@@ -61,6 +64,7 @@ impl<A: Allocator> RaceStream<A> {
     {
         self.held.restart();
         self.ending = Ending::Open;
+        self.start = 0;
         self.reader = RaceReader::START;
         self.tried = 0;
     }
@@ -78,6 +82,14 @@ impl<A: Allocator> RaceStream<A> {
         ensures few { result ≤ 2 ^ 54 }
     {
         self.reader.lines
+    }
+
+    /// The bytes of the last race returned, with its record lines. They are kept until the next call of
+    /// [`next`](RaceStream::next) or `restart`; without a race they may be empty.
+    pub fn text(&self) -> &[u8]
+        ensures { result.now ≡ self.now.text }
+    {
+        &self.held.bytes()[self.start..self.reader.end]
     }
 
     /// Returns the next race, allocated in the arena, and takes as much of the input as this needs. None if the input
@@ -127,12 +139,14 @@ impl<A: Allocator> RaceStream<A> {
         ensures few { (self.old.races ≤ most_races) × (self.new.races ≤ most_races) }
     {
         let bytes = self.held.bytes();
-        let rest = bytes.len() - self.reader.end;
+        let start = self.reader.end;
+        let rest = bytes.len() - start;
         if self.ending.is_open() && rest / 2 < self.tried {
             return Ok(None);
         }
         match self.reader.next(arena, bytes, self.ending)? {
             Some(race) => {
+                self.start = start;
                 self.tried = 0;
                 Ok(Some(race))
             }
@@ -151,6 +165,7 @@ impl<A: Allocator> RaceStream<A> {
             × (self.new.steps ≤ most_reads)) }
     {
         self.held.forget(self.reader.end);
+        self.start = 0;
         self.reader.end = 0;
         self.ending = self.held.take(input, STEP_ROOM)?;
         Ok(())

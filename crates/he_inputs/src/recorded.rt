@@ -1,9 +1,13 @@
 // Reading a race with its record lines.
 
-ghost use Rattle.std.specs.Prelude.{◌≤◌, ◌^◌, length, IfErr, IfOk};
+ghost use Rattle.std.specs.Prelude.{◌≡◌, ◌≤◌, ◌^◌, List, length, IfErr, IfOk};
+ghost use Rattle.he_timeline.specs.Race.{Race};
+ghost use Rattle.he_record.specs.Said.{Said};
 ghost use Rattle.he_reading.specs.Text.{IsLineOf};
 ghost use Rattle.he_inputs.specs.RaceReadingSteps.{FailsRecorded, ReadsRecorded};
+ghost use Rattle.he_inputs.specs.Recorded.{IsRecordedAs};
 
+use he_addr::Memory;
 use he_reading::read_first;
 use he_record::{Record, read_record};
 use he_timeline::Timeline;
@@ -50,5 +54,21 @@ pub(crate) fn read_recorded<'t, A: Allocator + Copy>(
             line: before + fault.line,
             kind: fault.kind,
         }),
+    }
+}
+
+/// The record lines of a race's text, of which [`RaceStream::text`](crate::RaceStream::text) returns one. The host of
+/// a line `record to` is borrowed from the text.
+///
+/// # Errors
+///
+/// `Memory` if an allocation failed; also for a text that isn't that of a race.
+pub fn record_of<A: Allocator>(alloc: A, text: &[u8]) -> Result<Record<'_, A>, Memory>
+    ensures { (said : List Said) (race : Race) → IsRecordedAs text.now said race
+        → IfOk result (λ found. found ≡ said) }
+{
+    match read_record(alloc, text) {
+        Ok((found, _len)) => Ok(found),
+        Err(_fault) => Err(Memory),
     }
 }

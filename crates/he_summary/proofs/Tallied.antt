@@ -1,9 +1,12 @@
 -- The tallies with one attempt more.
 use Rattle.std.proofs.Common.{ℕ, ◌≡◌, ◌+◌, ◌<◌, ◌&&◌, ◌++◌, Bool, true, false, cond, List, [], ◌∷◌, length, map, take, get_or, Option, Some, None, refl, sym, ◌∙◌, ap, subst, add-zero, append_assoc, arith}
-use Rattle.std.specs.List.{IsDistinct, count_by}
+use Rattle.std.specs.List.{IsDistinct, count_by, flat_map}
+use Rattle.std.proofs.lemmas.Grind.{flat_map-append}
+use Rattle.he_record.specs.Left.{said_of}
+use Rattle.he_record.specs.declared.line.RecordLine.{RecordLine}
 use Rattle.std.specs.Map.{keys_of, lookup}
 use Rattle.std.specs.Option.{unwrap_or}
-use Rattle.std.proofs.lemmas.List.{map-append, take_more}
+use Rattle.std.proofs.lemmas.List.{append-nil, map-append, take_more}
 use Rattle.std.proofs.lemmas.List.Sums.{sum_by_push}
 use Rattle.he_addr.specs.Ip.{same_ip}
 use Rattle.he_addr.specs.contracts.ip.IpPartialEq.TheImpl.{eq-value}
@@ -13,8 +16,9 @@ use Rattle.he_plan.proofs.Distinct.{same_ip-is}
 use Rattle.he_timeline.proofs.Ranges.{same_ip-sym}
 use Rattle.he_timeline.specs.Race.{Race}
 use Rattle.he_plan.specs.declared.transcript.Line.{Line}
+use Rattle.he_record.specs.Said.{Said}
 use Rattle.he_summary.specs.Kept.{is_loss, loss_of}
-use Rattle.he_summary.specs.Tries.{AreTallies, Try, saturated, tally_at, tally_of, tried, try_of}
+use Rattle.he_summary.specs.Tries.{AreTallies, Try, saturated, server_tries, tally_at, tally_of, tried, try_of}
 use Rattle.he_summary.specs.declared.kept.Loss.{Loss}
 use Rattle.he_summary.specs.declared.kept.Loss.TheVariants as losses
 use Rattle.he_summary.specs.declared.tallies.Tally.{Tally}
@@ -83,10 +87,25 @@ inserted kept old new ip loss tally one same had with_one once found tries are =
 }
 
 -- the attempts of one line more
-pub tries_on : (race : Race) (lines : List Line) (i : ℕ) (d : Line) (tries : List Try) (loss : Option Loss) → i < length lines → loss ≡ loss_of race (get_or lines i d)
-    → (tries ++ map (try_of race) (take i lines)) ++ record { ip = (get_or lines i d).ip; loss = loss } ∷ [] ≡ tries ++ map (try_of race) (take (i + 1) lines)
-tries_on race lines i d tries loss lt is =
+pub tries_on : (said : List Said) (race : Race) (lines : List Line) (i : ℕ) (d : Line) (tries : List Try) (loss : Option Loss) → i < length lines → loss ≡ loss_of said race (get_or lines i d)
+    → (tries ++ map (try_of said race) (take i lines)) ++ record { ip = (get_or lines i d).ip; loss = loss } ∷ [] ≡ tries ++ map (try_of said race) (take (i + 1) lines)
+tries_on said race lines i d tries loss lt is =
     append_assoc tries _ _
     ∙ ap (λ (t : List Try). tries ++ t)
-    ((λ j. map (try_of race) (take i lines) ++ record { ip = (get_or lines i d).ip; loss = is j } ∷ [])
-    ∙ sym (map-append (try_of race) (take i lines) (get_or lines i d ∷ [])) ∙ ap (map (try_of race)) (sym (take_more lines i d lt)))
+    ((λ j. map (try_of said race) (take i lines) ++ record { ip = (get_or lines i d).ip; loss = is j } ∷ [])
+    ∙ sym (map-append (try_of said race) (take i lines) (get_or lines i d ∷ [])) ∙ ap (map (try_of said race)) (sym (take_more lines i d lt)))
+
+-- the name servers of one line more
+pub servers_on : (lines : List RecordLine) (i : ℕ) (d : RecordLine) (tries : List Try) → i < length lines
+    → (tries ++ flat_map server_tries (map said_of (take i lines))) ++ server_tries (said_of (get_or lines i d)) ≡ tries ++ flat_map server_tries (map said_of (take (i + 1) lines))
+servers_on lines i d tries lt =
+    append_assoc tries (flat_map server_tries (map said_of (take i lines))) (server_tries (said_of (get_or lines i d)))
+    ∙ ap (λ (t : List Try). tries ++ t)
+    (ap (λ (t : List Try). flat_map server_tries (map said_of (take i lines)) ++ t) (sym (append-nil (server_tries (said_of (get_or lines i d)))))
+    ∙ sym (flat_map-append server_tries (map said_of (take i lines)) (said_of (get_or lines i d) ∷ []))
+    ∙ ap (flat_map server_tries) (sym (map-append said_of (take i lines) (get_or lines i d ∷ [])))
+    ∙ ap (λ (l : List RecordLine). flat_map server_tries (map said_of l)) (sym (take_more lines i d lt)))
+
+-- no name server more
+pub none_more : (tallies : List (Ip × Tally)) (tries more : List Try) → more ≡ [] → AreTallies tries tallies → AreTallies (tries ++ more) tallies
+none_more tallies tries more none are = subst (λ (t : List Try). AreTallies t tallies) (sym (ap (λ (m : List Try). tries ++ m) none ∙ append-nil tries)) are

@@ -16,26 +16,31 @@ use Rattle.he_inputs.specs.declared.race_reader.RaceReaderFault.TheVariants as r
 use Rattle.he_inputs.specs.Recorded.{IsRecordedText}
 use Rattle.he_inputs.proofs.RaceReadingLaws.{line_count-append}
 use Rattle.he_inputs.proofs.RaceStreamLaws.{none_handed}
+use Rattle.he_record.specs.Said.{Said}
 use Rattle.he_summary.specs.Kept.{Run, kept_of}
 use Rattle.he_summary.specs.Steps.{AddsNext, AddsRace, AddsRuns, HasRead}
-use Rattle.he_summary.specs.Summed.{AddsAll, AreRows, AreRuns, HasAdded, HasSummed, IsRow, Sums, all_tries}
-use Rattle.he_summary.specs.Tries.{AreTallies, Try, tries_of}
+use Rattle.he_summary.specs.Summed.{AddsAll, AreRows, AreRuns, HasAdded, HasSummed, IsRow, Sums, all_servers, all_tries}
+use Rattle.he_summary.specs.Tries.{AreTallies, Try, servers_of, tries_of}
 use Rattle.he_summary.specs.declared.kept.Kept.{Kept}
 use Rattle.he_summary.specs.declared.kept.Place.{Place}
 
 -- one row more after the others
-pub rows_on : (race : Race) (place : Place) (row : ℕ) (settings : List ChangeValues) (runs : List Run) (changes : ChangeValues) (run : Run) → AreRows race place row settings runs
-    → IsRow race place (row + length settings) changes run → AreRows race place row (settings ++ changes ∷ []) (runs ++ run ∷ [])
-rows_on race place row [] runs changes run none is =
-    subst (λ (rest : List Run). AreRows race place row (changes ∷ []) (rest ++ run ∷ [])) (sym none) (record { row_is = let at = is.row_is in omega arith; place_is = is.place_is; race_is = is.race_is; transcript = is.transcript }, refl)
-rows_on race place row (one ∷ settings) [] changes run none is = absurd none
-rows_on race place row (one ∷ settings) (first ∷ runs) changes run are is =
-    (are.0, rows_on race place (row + 1) settings runs changes run are.1 (record { row_is = let at = is.row_is in omega arith; place_is = is.place_is; race_is = is.race_is; transcript = is.transcript }))
+pub rows_on : (said : List Said) (race : Race) (place : Place) (row : ℕ) (settings : List ChangeValues) (runs : List Run) (changes : ChangeValues) (run : Run) → AreRows said race place row settings runs
+    → IsRow said race place (row + length settings) changes run → AreRows said race place row (settings ++ changes ∷ []) (runs ++ run ∷ [])
+rows_on said race place row [] runs changes run none is =
+    subst (λ (rest : List Run). AreRows said race place row (changes ∷ []) (rest ++ run ∷ [])) (sym none)
+    (record { row_is = let at = is.row_is in omega arith; place_is = is.place_is; said_is = is.said_is; race_is = is.race_is; transcript = is.transcript }, refl)
+rows_on said race place row (one ∷ settings) [] changes run none is = absurd none
+rows_on said race place row (one ∷ settings) (first ∷ runs) changes run are is = (
+  are.0,
+  rows_on said race place (row + 1) settings runs changes run are.1
+      (record { row_is = let at = is.row_is in omega arith; place_is = is.place_is; said_is = is.said_is; race_is = is.race_is; transcript = is.transcript }),
+)
 
 -- the rows of one race more after those of the others
 pub runs_on : (settings : List ChangeValues) (file before lines : ℕ) (races : List Race) (text : List ℕ) (runs : List Run) → AreRuns settings file before lines races text runs
-    → (race : Race) (last : List ℕ) → IsRecordedText last race → (number line : ℕ) (rows : List Run) → number ≡ before + length races + 1 → line ≡ lines + line_count text + 1
-    → AreRows race (record { file = file; number = number; line = line }) 0 settings rows → AreRuns settings file before lines (races ++ race ∷ []) (text ++ last) (runs ++ rows)
+    → (race : Race) (last : List ℕ) → (is : IsRecordedText last race) → (number line : ℕ) (rows : List Run) → number ≡ before + length races + 1 → line ≡ lines + line_count text + 1
+    → AreRows is.0 race (record { file = file; number = number; line = line }) 0 settings rows → AreRuns settings file before lines (races ++ race ∷ []) (text ++ last) (runs ++ rows)
 runs_on settings file before lines [] text runs (none, nothing) race last is number line rows numbered lined are =
     let here : line ≡ lines + 1 = let no_line : line_count text ≡ 0 = ap line_count none in omega arith in
     let first : number ≡ before + 1 = omega arith in (
@@ -46,7 +51,7 @@ runs_on settings file before lines [] text runs (none, nothing) race last is num
       ap (λ (t : List ℕ). t ++ last) none ∙ sym (append-nil last),
       ap (λ (r : List Run). r ++ rows) nothing ∙ sym (append-nil rows),
       is,
-      subst (λ (p : Place). AreRows race p 0 settings rows) (λ i. record { file = file; number = first i; line = here i }) are,
+      subst (λ (p : Place). AreRows is.0 race p 0 settings rows) (λ i. record { file = file; number = first i; line = here i }) are,
       (refl, refl),
     )
 runs_on settings file before lines (one ∷ races) text runs (first, more, front, later, split, ones, read, at, rest) race last is number line rows numbered lined are =
@@ -66,13 +71,17 @@ runs_on settings file before lines (one ∷ races) text runs (first, more, front
 
 -- one run more
 pub summed_on : (old new : Sums) (run : Run) (kept : Kept) (before : List Run) → new.kept ≡ old.kept ++ kept ∷ [] → kept ≡ kept_of run
-    → ((tries : List Try) → AreTallies tries old.tallies → AreTallies (tries ++ tries_of run) new.tallies) → HasSummed old before → HasSummed new (before ++ run ∷ [])
-summed_on old new run kept before pushed is tallied had =
+    → ((tries : List Try) → AreTallies tries old.tallies → AreTallies (tries ++ tries_of run) new.tallies)
+    → ((tries : List Try) → AreTallies tries old.servers → AreTallies (tries ++ servers_of run) new.servers) → HasSummed old before → HasSummed new (before ++ run ∷ [])
+summed_on old new run kept before pushed is tallied served had =
+    let servers : all_servers (before ++ run ∷ []) ≡ all_servers before ++ servers_of run =
+    flat_map-append servers_of before (run ∷ []) ∙ ap (λ (t : List Try). all_servers before ++ t) (append-nil (servers_of run)) in
     let tries : all_tries (before ++ run ∷ []) ≡ all_tries before ++ tries_of run =
     flat_map-append tries_of before (run ∷ []) ∙ ap (λ (t : List Try). all_tries before ++ t) (append-nil (tries_of run)) in
     record {
       kept = pushed ∙ (λ i. had.kept i ++ is i ∷ []) ∙ sym (map-append kept_of before (run ∷ []));
       tallies = subst (λ (t : List Try). AreTallies t new.tallies) (sym tries) (tallied (all_tries before) had.tallies);
+      servers = subst (λ (t : List Try). AreTallies t new.servers) (sym servers) (served (all_servers before) had.servers);
     }
 
 pub nothing_added : (sums : Sums) → AddsRuns [] sums sums
@@ -92,19 +101,19 @@ module _ {I : Type 0} (file : ℕ) (input : inputs.Ghosts I) (first : I)
     module _ (before last : I) (stream next : StreamState) (start old : Sums) (read : HasRead file input first before stream start old)
       where
         -- one race more
-        unfoldable pub one_more : (race : Race) → HandsNext input first last next read.races read.front (Ok (Some race)) → (number line : ℕ) → number ≡ next.races → line ≡ stream.lines + 1
-            → (new : Sums) → AddsRace race (record { file = file; number = number; line = line }) old new → HasRead file input first last next start new
-        one_more race (text, is, handed) number line numbered lined new (rows, are, adds) =
+        unfoldable pub one_more : (race : Race) → (hands : HandsNext input first last next read.races read.front (Ok (Some race))) → (number line : ℕ) → number ≡ next.races → line ≡ stream.lines + 1
+            → (new : Sums) → AddsRace hands.0.0 race (record { file = file; number = number; line = line }) old new → HasRead file input first last next start new
+        one_more race (is, handed) number line numbered lined new (rows, are, adds) =
             let counted = handed.counted in
             let before_it = read.handed.lined in
             let longer = length-append read.races (race ∷ []) in
-            let rows_are = subst (λ (settings : List ChangeValues). AreRows race (record { file = file; number = number; line = line }) 0 settings rows) read.adds.settings are in
+            let rows_are = subst (λ (settings : List ChangeValues). AreRows is.0 race (record { file = file; number = number; line = line }) 0 settings rows) read.adds.settings are in
             record {
               races = read.races ++ race ∷ [];
-              front = read.front ++ text;
+              front = read.front ++ next.text;
               added = read.added ++ rows;
               handed = handed;
-              are = runs_on start.settings file 0 0 read.races read.front read.added read.are race text is number line rows (omega arith) (omega arith) rows_are;
+              are = runs_on start.settings file 0 0 read.races read.front read.added read.are race next.text is number line rows (omega arith) (omega arith) rows_are;
               adds = adds_on read.added rows start old new read.adds adds;
             }
 

@@ -1,5 +1,5 @@
 -- The statements of a summary: figures, each with its meaning, in order.
-use Rattle.std.specs.Prelude.{ℕ, zero, suc, ◌+◌, ◌*◌, ◌/◌, ◌%◌, ◌++◌, List, [], ◌∷◌, min, Option, Some, None}
+use Rattle.std.specs.Prelude.{ℕ, zero, suc, ◌+◌, ◌*◌, ◌/◌, ◌%◌, ◌==◌, ◌++◌, if◌then◌else◌, List, [], ◌∷◌, count_by, min, Option, Some, None}
 use Rattle.std.specs.List.{flat_map}
 use Rattle.std.specs.Option.{option_map_or}
 use Rattle.he_addr.specs.declared.ip.Family.TheVariants as families
@@ -11,6 +11,11 @@ use Rattle.he_summary.specs.declared.figures.Form.{Form}
 use Rattle.he_summary.specs.declared.figures.Form.TheVariants as forms
 use Rattle.he_summary.specs.declared.figures.Said.{Said}
 use Rattle.he_summary.specs.declared.figures.Said.TheVariants.{Races, Are, NoOne, Count, Total, Median, P90, P99, Greatest, Failed, Silent, Attempts}
+use Rattle.he_record.specs.declared.reasons.LookupReason.TheVariants as reasons
+use Rattle.he_summary.specs.declared.kept.Kept.{Kept}
+use Rattle.he_summary.specs.declared.totals.Kind.{Kind}
+use Rattle.he_summary.specs.declared.totals.Value.{Value}
+use Rattle.he_summary.specs.Totals.{is_kind}
 use Rattle.he_summary.specs.declared.kept.Loss.{Loss}
 use Rattle.he_summary.specs.declared.kept.Loss.TheVariants as losses
 use Rattle.he_summary.specs.declared.tallies.Tally.{Tally}
@@ -114,3 +119,47 @@ tally_facts form tallied =
 abbrev pub summary_facts : Form → Totals → List (Ip × Tally) → List (Fact Said)
 summary_facts forms.Metrics totals failing = metrics_facts totals
 summary_facts form totals failing = totals_facts form totals ++ flat_map (tally_facts form) failing
+
+-- the number of races of a kind, if there are any
+abbrev pub shown_count : Form → Kind → ℕ → List (Fact Said)
+shown_count form kind number = if number == 0 then [] else figure_facts form (told (Are kind) number 0)
+
+abbrev pub counted_facts : Form → List Kept → Kind → List (Fact Said)
+counted_facts form kept kind = shown_count form kind (count_by (is_kind kind) kept)
+
+abbrev pub spread_facts : Form → Value → Option Spread → List (Fact Said)
+spread_facts form value None = []
+spread_facts form value (Some spread) =
+    flat_map (figure_facts form)
+    (told (Median value) spread.median 0 ∷ told (P90 value) spread.p90 0 ∷ told (P99 value) spread.p99 0
+    ∷ told (Greatest value) spread.greatest 0 ∷ [])
+
+-- the recorded clients' own results
+abbrev pub client_kinds : List Kind
+client_kinds = kinds.Connected ∷ kinds.GaveUp ∷ kinds.Failed ∷ []
+
+-- the look-ups of both families by the reason that there is no address
+abbrev pub lookup_kinds : List Kind
+lookup_kinds =
+    kinds.Lookup families.V6 reasons.NoSuchName ∷ kinds.Lookup families.V6 reasons.NoAddress
+    ∷ kinds.Lookup families.V6 reasons.NoAnswer ∷ kinds.Lookup families.V6 reasons.Refused
+    ∷ kinds.Lookup families.V6 reasons.Failed ∷ kinds.Lookup families.V6 reasons.Malformed
+    ∷ kinds.Lookup families.V6 reasons.NotAsked ∷ kinds.Lookup families.V4 reasons.NoSuchName
+    ∷ kinds.Lookup families.V4 reasons.NoAddress ∷ kinds.Lookup families.V4 reasons.NoAnswer
+    ∷ kinds.Lookup families.V4 reasons.Refused ∷ kinds.Lookup families.V4 reasons.Failed
+    ∷ kinds.Lookup families.V4 reasons.Malformed ∷ kinds.Lookup families.V4 reasons.NotAsked ∷ []
+
+-- what the record lines say: the clients, their times to connect and those by the rules in the same races, the
+-- look-ups without an address, and the name servers that did not answer
+abbrev pub said_facts : Form → Totals → List Kept → List (Ip × Tally) → List (Fact Said)
+said_facts form totals kept servers =
+    flat_map (counted_facts form kept) client_kinds
+    ++ (spread_facts form values.Client totals.clients
+    ++ (spread_facts form values.ByRules totals.by_rules
+    ++ (flat_map (counted_facts form kept) lookup_kinds ++ flat_map (tally_facts form) servers)))
+
+-- nothing as metrics
+abbrev pub record_facts : Form → Totals → List Kept → List (Ip × Tally) → List (Fact Said)
+record_facts forms.Metrics totals kept servers = []
+record_facts forms.Text totals kept servers = said_facts forms.Text totals kept servers
+record_facts forms.Json totals kept servers = said_facts forms.Json totals kept servers

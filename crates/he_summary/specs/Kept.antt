@@ -10,6 +10,9 @@ use Rattle.he_course.specs.declared.floor.Ended.{Ended}
 use Rattle.he_timeline.specs.Seen.{seen}
 use Rattle.he_timeline.specs.Race.{Race, outcome_of, reply_of}
 use Rattle.he_timeline.specs.declared.outcome.Outcome.{Outcome}
+use Rattle.he_addr.specs.declared.ip.Family.TheVariants as families
+use Rattle.he_record.specs.Given.{end_given, is_untried_given, lookup_given}
+use Rattle.he_record.specs.Said.{Said}
 use Rattle.he_plan.specs.Transcript.{Report}
 use Rattle.he_plan.specs.declared.transcript.Line.{Line}
 use Rattle.he_plan.specs.declared.transcript.Mark.{Mark}
@@ -23,10 +26,11 @@ use Rattle.he_summary.specs.declared.kept.Loss.{Loss}
 use Rattle.he_summary.specs.declared.kept.Loss.TheVariants as losses
 use Rattle.he_summary.specs.declared.kept.Place.{Place}
 
--- a race with the settings of a row, and its transcript
+-- a race with the settings of a row, the contents of its record lines, and its transcript
 pub record Run : Type 0 where
   pub row : ℕ
   pub place : Place
+  pub said : List Said
   pub race : Race
   pub report : Report
 
@@ -46,8 +50,11 @@ loss_by delay start outcome (marks.Failed tick) = Some losses.Failed
 loss_by delay start outcome (marks.Cancelled tick) =
     if is_none outcome && nat_le (start + delay) tick then Some losses.Silent else None
 
-abbrev pub loss_of : Race → Line → Option Loss
-loss_of race line = loss_by race.settings.attempt line.tick (outcome_of race line.ip) line.mark
+-- the outcome of an untried address is not known, so an attempt to it is neither
+abbrev pub loss_of : List Said → Race → Line → Option Loss
+loss_of said race line =
+    if is_untried_given line.ip said then None
+    else loss_by race.settings.attempt line.tick (outcome_of race line.ip) line.mark
 
 abbrev pub is_loss : Loss → Option Loss → Bool
 is_loss losses.Failed (Some losses.Failed) = true
@@ -55,10 +62,10 @@ is_loss losses.Silent (Some losses.Silent) = true
 is_loss _ _ = false
 
 -- one of these attempts was silent; or one failed, and none was silent
-abbrev pub dead_before : Race → List Line → Option Loss
-dead_before race lines =
-    if list_any (λ line. is_loss losses.Silent (loss_of race line)) lines then Some losses.Silent
-    else if list_any (λ line. is_loss losses.Failed (loss_of race line)) lines then Some losses.Failed
+abbrev pub dead_before : List Said → Race → List Line → Option Loss
+dead_before said race lines =
+    if list_any (λ line. is_loss losses.Silent (loss_of said race line)) lines then Some losses.Silent
+    else if list_any (λ line. is_loss losses.Failed (loss_of said race line)) lines then Some losses.Failed
     else None
 
 -- the time from when the winner's answer was seen to the start of the winner's attempt
@@ -84,6 +91,9 @@ kept_of run =
       ending = ending_of (ended_of run.report);
       attempts = length run.report.lines;
       lost = time_before run.race (ended_of run.report).winner;
-      dead = dead_before run.race (lines_before run.report.lines (ended_of run.report).winner);
+      dead = dead_before run.said run.race (lines_before run.report.lines (ended_of run.report).winner);
       has_waited = has_waited run.race run.report;
+      client = end_given run.said;
+      aaaa = lookup_given families.V6 run.said;
+      a = lookup_given families.V4 run.said;
     }

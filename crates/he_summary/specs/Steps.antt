@@ -5,6 +5,7 @@ use Rattle.he_stream.specs.declared.stream.InputStream as inputs
 use Rattle.he_stream.specs.Input.{Gives, GivesSoFar}
 use Rattle.he_inputs.specs.RaceStreams.{HasHanded, StreamState}
 use Rattle.he_inputs.specs.declared.stream_fault.StreamFault.{StreamFault}
+use Rattle.he_record.specs.Said.{Said}
 use Rattle.he_summary.specs.Kept.{Run}
 use Rattle.he_summary.specs.Summed.{Adds, AreRows, AreRuns, HasSummed, Sums}
 use Rattle.he_summary.specs.declared.kept.Place.{Place}
@@ -14,9 +15,10 @@ pub record AddsRuns (runs : List Run) (old new : Sums) : Type 0 where
   pub settings : new.settings ≡ old.settings
   pub sums : (before : List Run) → HasSummed old before → HasSummed new (before ++ runs)
 
--- adds the race with the settings of each row
-abbrev pub AddsRace : Race → Place → Sums → Sums → Type 0
-AddsRace race place old new = (runs : List Run) × AreRows race place 0 old.settings runs × AddsRuns runs old new
+-- adds the race and its record with the settings of each row
+abbrev pub AddsRace : List Said → Race → Place → Sums → Sums → Type 0
+AddsRace said race place old new =
+    (runs : List Run) × AreRows said race place 0 old.settings runs × AddsRuns runs old new
 
 -- adds the races that a stream took out of an input
 pub record HasRead {I : Type 0} (file : ℕ) (input : inputs.Ghosts I) (first last : I) (stream : StreamState)

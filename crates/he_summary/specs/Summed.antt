@@ -5,6 +5,7 @@ use Rattle.he_addr.specs.declared.ip.Ip.{Ip}
 use Rattle.he_timeline.specs.Changes.{ChangeValues, changed}
 use Rattle.he_timeline.specs.Race.{Race}
 use Rattle.he_plan.specs.Transcript.{IsTranscript}
+use Rattle.he_record.specs.Said.{Said}
 use Rattle.he_inputs.specs.Inputs.{HasRaces, line_count}
 use Rattle.he_inputs.specs.declared.input_fault.InputFault.{InputFault}
 use Rattle.he_inputs.specs.declared.input_fault.InputFault.TheVariants as inputs
@@ -12,7 +13,7 @@ use Rattle.he_inputs.specs.declared.stream_fault.StreamFault.{StreamFault}
 use Rattle.he_inputs.specs.declared.stream_fault.StreamFault.TheVariants.{Text, Read, Write, Memory}
 use Rattle.he_inputs.specs.Recorded.{IsRecordedText}
 use Rattle.he_summary.specs.Kept.{Run, kept_of}
-use Rattle.he_summary.specs.Tries.{AreTallies, Try, tries_of}
+use Rattle.he_summary.specs.Tries.{AreTallies, Try, servers_of, tries_of}
 use Rattle.he_summary.specs.declared.kept.Kept.{Kept}
 use Rattle.he_summary.specs.declared.kept.Place.{Place}
 use Rattle.he_summary.specs.declared.tallies.Tally.{Tally}
@@ -22,37 +23,45 @@ pub record Sums : Type 0 where
   pub settings : List ChangeValues
   pub kept : List Kept
   pub tallies : List (Ip × Tally)
+  pub servers : List (Ip × Tally)
 
 -- all attempts of races
 abbrev pub all_tries : List Run → List Try
 all_tries runs = flat_map tries_of runs
 
+-- the name servers of races that did not answer, once for each record line
+abbrev pub all_servers : List Run → List Try
+all_servers runs = flat_map servers_of runs
+
 -- these races are summed
 pub record HasSummed (sums : Sums) (runs : List Run) : Type 0 where
   pub kept : sums.kept ≡ map kept_of runs
   pub tallies : AreTallies (all_tries runs) sums.tallies
+  pub servers : AreTallies (all_servers runs) sums.servers
 
--- a race with a row's changes of its settings, and its transcript
-pub record IsRow (race : Race) (place : Place) (row : ℕ) (changes : ChangeValues) (run : Run) : Type 0 where
+-- a race with a row's changes of its settings, its record, and its transcript
+pub record IsRow (said : List Said) (race : Race) (place : Place) (row : ℕ) (changes : ChangeValues)
+    (run : Run) : Type 0 where
   pub row_is : run.row ≡ row
   pub place_is : run.place ≡ place
+  pub said_is : run.said ≡ said
   pub race_is : run.race ≡ changed changes race
   pub transcript : IsTranscript run.race run.report
 
 -- one for each of these rows, from this one on
-abbrev pub AreRows : Race → Place → ℕ → List ChangeValues → List Run → Type 0
-AreRows race place row [] runs = runs ≡ []
-AreRows race place row (changes ∷ settings) [] = ⊥
-AreRows race place row (changes ∷ settings) (run ∷ runs) =
-    IsRow race place row changes run × AreRows race place (row + 1) settings runs
+abbrev pub AreRows : List Said → Race → Place → ℕ → List ChangeValues → List Run → Type 0
+AreRows said race place row [] runs = runs ≡ []
+AreRows said race place row (changes ∷ settings) [] = ⊥
+AreRows said race place row (changes ∷ settings) (run ∷ runs) =
+    IsRow said race place row changes run × AreRows said race place (row + 1) settings runs
 
 -- after this number of races and lines of a file, the text is a text of each race in order; the runs are their rows
 abbrev pub AreRuns : List ChangeValues → ℕ → ℕ → ℕ → List Race → List ℕ → List Run → Type 0
 AreRuns settings file before lines [] text runs = (text ≡ []) × (runs ≡ [])
 AreRuns settings file before lines (race ∷ races) text runs =
     (first more : List ℕ) × (rows later : List Run) × (text ≡ first ++ more) × (runs ≡ rows ++ later)
-    × IsRecordedText first race
-    × AreRows race (record { file = file; number = before + 1; line = lines + 1 }) 0 settings rows
+    × (is : IsRecordedText first race)
+    × AreRows is.0 race (record { file = file; number = before + 1; line = lines + 1 }) 0 settings rows
     × AreRuns settings file (before + 1) (lines + line_count first) races more later
 
 -- the races of the input up to its first fault are added to those summed before

@@ -1,6 +1,7 @@
--- The attempts of races by their addresses, and the number of failed and silent ones.
-use Rattle.std.specs.Prelude.{ℕ, ◌≡◌, ◌+◌, ◌-◌, ◌^◌, ◌&&◌, Bool, List, map, filter, min, take, count_by, nat_lt, IsPermutation, Option, Some, None}
-use Rattle.std.specs.List.{IsDistinct}
+-- The attempts of races by their addresses, and the number of failed and silent ones; and the name servers that did
+-- not answer.
+use Rattle.std.specs.Prelude.{ℕ, ◌≡◌, ◌+◌, ◌-◌, ◌^◌, ◌&&◌, Bool, List, [], ◌∷◌, map, filter, min, take, count_by, nat_lt, IsPermutation, Option, Some, None}
+use Rattle.std.specs.List.{IsDistinct, flat_map}
 use Rattle.std.specs.List.Sorted.{IsSortedByKey}
 use Rattle.std.specs.Map.{keys_of, lookup}
 use Rattle.std.specs.Option.{unwrap_or}
@@ -9,6 +10,9 @@ use Rattle.std.specs.declared.cmp.Ordering.{Ordering}
 use Rattle.he_addr.specs.Ip.{mapped_of, same_ip}
 use Rattle.he_addr.specs.declared.ip.Ip.{Ip}
 use Rattle.he_timeline.specs.Race.{Race}
+use Rattle.he_record.specs.Said.{Said, ServerSaid}
+use Rattle.he_record.specs.declared.reasons.ServerReason.{ServerReason}
+use Rattle.he_record.specs.declared.reasons.ServerReason.TheVariants as reasons
 use Rattle.he_plan.specs.declared.transcript.Line.{Line}
 use Rattle.he_summary.specs.Kept.{Run, is_loss, loss_of}
 use Rattle.he_summary.specs.declared.kept.Loss.{Loss}
@@ -20,11 +24,32 @@ pub record Try : Type 0 where
   pub ip : Ip
   pub loss : Option Loss
 
-abbrev pub try_of : Race → Line → Try
-try_of race line = record { ip = line.ip; loss = loss_of race line }
+abbrev pub try_of : List Said → Race → Line → Try
+try_of said race line = record { ip = line.ip; loss = loss_of said race line }
 
 abbrev pub tries_of : Run → List Try
-tries_of run = map (try_of run.race) run.report.lines
+tries_of run = map (try_of run.said run.race) run.report.lines
+
+-- a name server that was given up was silent, or it failed
+abbrev pub server_loss : ServerReason → Loss
+server_loss reasons.Silent = losses.Silent
+server_loss reasons.Refused = losses.Failed
+server_loss reasons.Failed = losses.Failed
+server_loss reasons.Unreachable = losses.Failed
+
+abbrev pub dead_server : Said → Option (Ip × Loss)
+dead_server (ServerSaid ip reason ticks) = Some (ip, server_loss reason)
+dead_server said = None
+
+abbrev pub try_at : Option (Ip × Loss) → List Try
+try_at None = []
+try_at (Some server) = record { ip = server.0; loss = Some server.1 } ∷ []
+
+abbrev pub server_tries : Said → List Try
+server_tries said = try_at (dead_server said)
+
+abbrev pub servers_of : Run → List Try
+servers_of run = flat_map server_tries run.said
 
 -- a number, up to the greatest that is counted
 abbrev pub saturated : ℕ → ℕ

@@ -8,9 +8,9 @@ use Rattle.he_addr.specs.declared.ip.Ip.{Ip}
 use Rattle.he_print.specs.Parts.{States}
 use Rattle.he_print.specs.declared.part.Fact.{Fact}
 use Rattle.he_print.specs.declared.part.Fact.TheVariants as facts
-use Rattle.he_summary.specs.Figures.{summary_facts}
+use Rattle.he_summary.specs.Figures.{record_facts, summary_facts}
 use Rattle.he_summary.specs.Kept.{Run, kept_of}
-use Rattle.he_summary.specs.Summed.{all_tries}
+use Rattle.he_summary.specs.Summed.{all_servers, all_tries}
 use Rattle.he_summary.specs.Totals.{AreTotals, is_kind, time_of}
 use Rattle.he_summary.specs.Tries.{AreFailing}
 use Rattle.he_summary.specs.declared.figures.Form.{Form}
@@ -79,6 +79,7 @@ TellsSlowest form (suc most) kept old new =
 -- the text on these races, with the `most` slowest ones
 abbrev pub IsWritten : Form → List Run → ℕ → List ℕ → List ℕ → Type 0
 IsWritten form runs most old new =
-    (totals : Totals) × (failing : List (Ip × Tally)) × (between : List ℕ)
+    (totals : Totals) × (failing servers : List (Ip × Tally)) × (between : List ℕ)
     × AreTotals (map kept_of runs) totals × AreFailing (all_tries runs) failing
-    × Tells (summary_facts form totals failing) old between × TellsSlowest form most (map kept_of runs) between new
+    × AreFailing (all_servers runs) servers
+    × Tells (summary_facts form totals failing ++ record_facts form totals (map kept_of runs) servers) old between × TellsSlowest form most (map kept_of runs) between new

@@ -6,7 +6,7 @@ ghost use Rattle.he_summary.specs.Summed.{Sums};
 
 use crate::kept::Place;
 use crate::races::Races;
-use he_inputs::{RaceStream, StreamFault};
+use he_inputs::{RaceStream, StreamFault, record_of};
 use he_stream::InputStream;
 use std::alloc::Allocator;
 use std::mem::drop;
@@ -33,7 +33,9 @@ pub(crate) fn add_next<A: Allocator + Copy, B: Allocator + Copy, I: InputStream>
         number: stream.races(),
         line,
     };
-    let added = races.add_race(arena, place, &race);
+    let told = record_of(arena, stream.text())?;
+    let added = races.add_race(arena, place, &told, &race);
+    drop(told);
     drop(race);
     match added {
         Ok(()) => Ok(true),

@@ -273,13 +273,13 @@ pub fn total_of(spread: Option<Spread>) -> u64
     }
 }
 
-fn told(said: Said, number: u64, of: u64) -> Figure
+pub(crate) fn told(said: Said, number: u64, of: u64) -> Figure
     ensures { result ≡ told said number of }
 {
     Figure { said, number, of }
 }
 
-fn push_figures<A: Allocator>(
+pub(crate) fn push_figures<A: Allocator>(
     form: Form,
     figures: &[Figure],
     text: &mut Vec<Part<Said>, A>,
@@ -293,7 +293,7 @@ fn push_figures<A: Allocator>(
     Ok(())
 }
 
-fn push_figure<A: Allocator>(
+pub(crate) fn push_figure<A: Allocator>(
     form: Form,
     figure: Figure,
     text: &mut Vec<Part<Said>, A>,

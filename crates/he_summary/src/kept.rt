@@ -3,9 +3,10 @@ ghost use Rattle.std.specs.Prelude.{◌≡◌};
 ghost use Rattle.std.specs.List.{list_any};
 ghost use Rattle.he_summary.specs.Kept.{dead_before, ending_of, has_waited, is_loss, kept_of, lines_before, loss_of, time_before};
 
-use he_addr::Ip;
+use he_addr::{Family, Ip};
 use he_course::{Ended, is_delay_over};
 use he_plan::{Line, Mark, Outcome3, Transcript};
+use he_record::{ClientEnd, LookupReason, Record};
 use he_timeline::Timeline;
 use std::alloc::Allocator;
 
@@ -34,7 +35,7 @@ pub enum Ending {
 pub enum Loss {
     Failed,
     /// At the end of the race it had been under way for the Connection Attempt Delay or longer, and its address has
-    /// no outcome.
+    /// no outcome, although a client tried it.
     Silent,
 }
 
@@ -53,17 +54,29 @@ pub struct Kept {
     pub dead: Option<Loss>,
     /// Whether the Resolution Delay ended before the first attempt, without an AAAA answer.
     pub has_waited: bool,
+    /// The recorded client's own result.
+    pub client: Option<ClientEnd>,
+    /// The reasons that the AAAA and the A look-up have no address.
+    pub aaaa: Option<LookupReason>,
+    pub a: Option<LookupReason>,
 }
 
 impl Kept {
-    // The record of the race at this place, with this transcript.
-    pub(crate) fn of<A: Allocator, B: Allocator>(
+    // The record of the race at this place, with these record lines and this transcript.
+    pub(crate) fn of<A: Allocator, B: Allocator, C: Allocator>(
         row: usize,
         place: Place,
+        told: &Record<'_, C>,
         race: &Timeline<A>,
         transcript: &Transcript<B>,
     ) -> Kept
-        ensures { result ≡ kept_of (record { row = row; place = place; race = race.now; report = transcript.now }) }
+        ensures { result ≡ kept_of (record {
+          row = row;
+          place = place;
+          said = told.now;
+          race = race.now;
+          report = transcript.now;
+        }) }
     {
         let ended = Ended::of(transcript);
         Kept {
@@ -72,8 +85,15 @@ impl Kept {
             ending: Ending::of(ended),
             attempts: ended.attempts,
             lost: time_before(race, ended.winner),
-            dead: dead_before(race, lines_before(transcript.attempts(), ended.winner)),
+            dead: dead_before(
+                told,
+                race,
+                lines_before(transcript.attempts(), ended.winner),
+            ),
             has_waited: has_waited(race, transcript),
+            client: told.end(),
+            aaaa: told.lookup(Family::V6),
+            a: told.lookup(Family::V4),
         }
     }
 }
@@ -91,22 +111,33 @@ impl Ending {
 }
 
 // `Silent` if one of the attempts was silent; else `Failed` if one failed.
-fn dead_before<A: Allocator>(race: &Timeline<A>, lines: &[Line]) -> Option<Loss>
-    ensures { result ≡ dead_before race.now lines.now }
+fn dead_before<A: Allocator, C: Allocator>(
+    told: &Record<'_, C>,
+    race: &Timeline<A>,
+    lines: &[Line],
+) -> Option<Loss>
+    ensures { result ≡ dead_before told.now race.now lines.now }
 {
-    if has_loss(race, lines, Loss::Silent) {
+    if has_loss(told, race, lines, Loss::Silent) {
         Some(Loss::Silent)
-    } else if has_loss(race, lines, Loss::Failed) {
+    } else if has_loss(told, race, lines, Loss::Failed) {
         Some(Loss::Failed)
     } else {
         None
     }
 }
 
-fn has_loss<A: Allocator>(race: &Timeline<A>, lines: &[Line], loss: Loss) -> bool
-    ensures { result ≡ list_any (λ line. is_loss loss (loss_of race.now line)) lines.now }
+fn has_loss<A: Allocator, C: Allocator>(
+    told: &Record<'_, C>,
+    race: &Timeline<A>,
+    lines: &[Line],
+    loss: Loss,
+) -> bool
+    ensures { result ≡ list_any (λ line. is_loss loss (loss_of told.now race.now line)) lines.now }
 {
-    lines.iter().any(|line| is_loss(loss, loss_of(race, line)))
+    lines
+        .iter()
+        .any(|line| is_loss(loss, loss_of(told, race, line)))
 }
 
 fn is_loss(loss: Loss, lost: Option<Loss>) -> bool
@@ -120,10 +151,17 @@ fn is_loss(loss: Loss, lost: Option<Loss>) -> bool
 }
 
 // Whether an attempt failed or was silent: at the end of the race it had been under way for the Connection Attempt
-// Delay or longer, and its address has no outcome.
-pub(crate) fn loss_of<A: Allocator>(race: &Timeline<A>, line: &Line) -> Option<Loss>
-    ensures { result ≡ loss_of race.now line.now }
+// Delay or longer, and its address has no outcome. An attempt to an untried address did neither.
+pub(crate) fn loss_of<A: Allocator, C: Allocator>(
+    told: &Record<'_, C>,
+    race: &Timeline<A>,
+    line: &Line,
+) -> Option<Loss>
+    ensures { result ≡ loss_of told.now race.now line.now }
 {
+    if told.is_untried(line.ip) {
+        return None;
+    }
     match line.mark {
         Mark::Won(_) => None,
         Mark::Failed(_) => Some(Loss::Failed),

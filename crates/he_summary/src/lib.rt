@@ -17,10 +17,22 @@
 //!   office.timeline:12 race 2: 2950 ms to 198.51.100.5, 500 ms lost
 //! ```
 //!
+//! If there are record lines (he_record), a text or object also has what they say, before the slowest races:
+//!
+//! ```text
+//! clients: 41 connected, 2 gave up
+//! the clients connected after: median 48 ms, 90 of 100 within 315 ms, 99 of 100 within 20001 ms, greatest 20001 ms
+//! by RFC 8305 it would have been: median 47 ms, 90 of 100 within 251 ms, 99 of 100 within 300 ms, greatest 300 ms
+//! look-ups without an address: 7 AAAA no answer, 1 A no such name
+//! name servers that did not answer:
+//!   0 failed, 7 silent of 7 attempts to 192.0.2.77
+//! ```
+//!
 //! Proved, whatever the inputs: the records are those of the transcripts of all races of the inputs with each row's
 //! settings, each input up to its first fault, which is the result (`specs/Kept`, `specs/Summed`). A percentile is
 //! the least number within which that percentage lies (`specs/Times`); each count is one over the records
-//! (`specs/Totals`). The addresses are the ten with the most failed or silent attempts (`specs/Tries`), the slowest
+//! (`specs/Totals`); no attempt to an untried address counts as failed or silent. The addresses are the ten with the
+//! most failed or silent attempts, the name servers the ten that most often did not answer (`specs/Tries`), the slowest
 //! races the first of the won ones by time (`specs/Written`). The text states these numbers, each with its meaning,
 //! in this order (`specs/Figures`). The words between are free.
 //!
@@ -31,6 +43,7 @@ mod adding;
 pub mod figures;
 pub mod kept;
 pub mod races;
+mod recorded;
 pub mod tallies;
 pub mod times;
 pub mod totals;

@@ -12,6 +12,7 @@ use bumpalo::Bump;
 use he_addr::{Ip, Memory};
 use he_inputs::{RaceStream, StreamFault};
 use he_plan::{Transcript, transcript_of};
+use he_record::Record;
 use he_stream::InputStream;
 use he_timeline::{Changes, Timeline};
 use std::alloc::Allocator;
@@ -22,13 +23,16 @@ use std::marker::Model;
 const ARENA_BYTES: usize = 65_536;
 
 /// The records of the races of inputs; each race runs with the settings of each row. There is a [`Kept`] for each
-/// race and row, and a tally for each address to which an attempt was made.
+/// race and row, a tally for each address to which an attempt was made, and one for each name server that did not
+/// answer.
 #[derive(Drop)]
 pub struct Races<A: Allocator> {
     pub(crate) alloc: A,
     settings: Vec<Changes, A>,
     kept: Vec<Kept, A>,
     tallies: Tallies<A>,
+    // The name servers that did not answer.
+    servers: Tallies<A>,
 }
 
 impl<A: Allocator> Model for Races<A> {
@@ -36,7 +40,12 @@ impl<A: Allocator> Model for Races<A> {
 
     ghost Value = { Sums };
 
-    ghost view = { λ s. record { settings = s.settings.items; kept = s.kept.items; tallies = s.tallies } };
+    ghost view = { λ s. record {
+      settings = s.settings.items;
+      kept = s.kept.items;
+      tallies = s.tallies;
+      servers = s.servers;
+    } };
 }
 
 impl<A: Allocator + Copy> Races<A> {
@@ -50,6 +59,7 @@ impl<A: Allocator + Copy> Races<A> {
             settings,
             kept: Vec::new(alloc),
             tallies: Tallies::none(alloc),
+            servers: Tallies::none(alloc),
         }
     }
 
@@ -85,23 +95,24 @@ impl<A: Allocator + Copy> Races<A> {
         Ok(())
     }
 
-    /// Adds a race, which runs with the settings of each row. The arena holds its transcripts.
+    /// Adds a race with its record lines, which runs with the settings of each row. The arena holds its transcripts.
     ///
     /// # Errors
     ///
     /// `Memory` if an allocation was refused. The contents are then unspecified.
-    pub fn add_race<B: Allocator + Copy, C: Allocator>(
+    pub fn add_race<B: Allocator + Copy, C: Allocator, D: Allocator>(
         &mut self,
         arena: B,
         place: Place,
+        told: &Record<'_, D>,
         race: &Timeline<C>,
     ) -> Result<(), Memory>
-        ensures { OnOk result (AddsRace race.now place self.old self.new) }
+        ensures { OnOk result (AddsRace told.now race.now place self.old self.new) }
     {
         for row in 0..self.settings.len() {
             let changed = race.copy(arena)?.with_changes(self.settings_of(row));
             let transcript = transcript_of(arena, &changed)?;
-            self.add_run(row, place, &changed, &transcript)?;
+            self.add_run(row, place, told, &changed, &transcript)?;
         }
         Ok(())
     }
@@ -114,18 +125,26 @@ impl<A: Allocator + Copy> Races<A> {
     }
 
     // Adds a race that runs with the settings of a row, by its transcript.
-    fn add_run<B: Allocator, C: Allocator>(
+    fn add_run<B: Allocator, C: Allocator, D: Allocator>(
         &mut self,
         row: usize,
         place: Place,
+        told: &Record<'_, D>,
         race: &Timeline<B>,
         transcript: &Transcript<C>,
     ) -> Result<(), Memory>
-        ensures { OnOk result (AddsRuns (record { row = row; place = place; race = race.now; report = transcript.now } ∷ [])
-            self.old self.new) }
+        ensures { OnOk result (AddsRuns (record {
+          row = row;
+          place = place;
+          said = told.now;
+          race = race.now;
+          report = transcript.now;
+        } ∷ []) self.old self.new) }
     {
-        self.kept.push(Kept::of(row, place, race, transcript))?;
-        self.tallies.add(race, transcript)
+        self.kept
+            .push(Kept::of(row, place, told, race, transcript))?;
+        self.servers.add_servers(told)?;
+        self.tallies.add(told, race, transcript)
     }
 
     /// The records, in the order in which the races were added, and for one race in the order of the rows.
@@ -133,6 +152,17 @@ impl<A: Allocator + Copy> Races<A> {
         ensures { result.now ≡ self.now.kept }
     {
         self.kept.as_slice()
+    }
+
+    /// The ten name servers that most often did not answer.
+    ///
+    /// # Errors
+    ///
+    /// `Memory` if an allocation was refused.
+    pub fn failing_servers(&self) -> Result<Vec<(Ip, Tally), A>, Memory>
+        ensures { IfOk result (λ told. AreRanked self.now.servers told.items) }
+    {
+        self.servers.ranked(self.alloc)
     }
 
     /// The ten addresses with the most failed or silent attempts.

@@ -1,11 +1,14 @@
 // The number of attempts to each address, and of the failed and the silent ones.
 ghost use Rattle.std.specs.Prelude.{◌≡◌, ◌++◌, [], ◌∷◌, List, map, IfOk, IsPermutation, OnOk, filter};
+ghost use Rattle.he_record.specs.Left.{said_of};
 ghost use Rattle.std.specs.List.Sorted.{IsSortedByKey};
-ghost use Rattle.he_summary.specs.Tries.{AreRanked, AreTallies, Try, has_lost, lost_of, most_first, rank_of, tally_at, tried, try_of};
+ghost use Rattle.std.specs.List.{flat_map};
+ghost use Rattle.he_summary.specs.Tries.{AreRanked, AreTallies, Try, dead_server, has_lost, lost_of, most_first, rank_of, server_loss, server_tries, tally_at, tried, try_of};
 
 use crate::kept::{Loss, loss_of};
 use he_addr::{Ip, Memory};
 use he_plan::Transcript;
+use he_record::{Record, RecordLine, ServerReason};
 use he_timeline::Timeline;
 use indexmap::IndexMap;
 use std::alloc::Allocator;
@@ -85,18 +88,40 @@ impl<A: Allocator + Copy> Tallies<A> {
     }
 
     // Counts the attempts of a race.
-    pub(crate) fn add<B: Allocator, C: Allocator>(
+    pub(crate) fn add<B: Allocator, C: Allocator, D: Allocator>(
         &mut self,
+        told: &Record<'_, D>,
         race: &Timeline<B>,
         transcript: &Transcript<C>,
     ) -> Result<(), Memory>
         ensures { (tries : List Try) → AreTallies tries self.old
-            → OnOk result (AreTallies (tries ++ map (try_of race.now) transcript.now.lines) self.new) }
+            → OnOk result (AreTallies (tries ++ map (try_of told.now race.now) transcript.now.lines) self.new) }
     {
         for line in transcript.attempts() {
-            self.add_try(line.ip, loss_of(race, line))?;
+            self.add_try(line.ip, loss_of(told, race, line))?;
         }
         Ok(())
+    }
+
+    // Counts the name servers of a race that did not answer.
+    pub(crate) fn add_servers<B: Allocator>(&mut self, told: &Record<'_, B>) -> Result<(), Memory>
+        ensures { (tries : List Try) → AreTallies tries self.old
+            → OnOk result (AreTallies (tries ++ flat_map server_tries told.now) self.new) }
+    {
+        for line in told.lines() {
+            self.add_server(line)?;
+        }
+        Ok(())
+    }
+
+    fn add_server(&mut self, line: &RecordLine<'_>) -> Result<(), Memory>
+        ensures { (tries : List Try) → AreTallies tries self.old
+            → OnOk result (AreTallies (tries ++ server_tries (said_of line.now)) self.new) }
+    {
+        let Some(server) = dead_server(line) else {
+            return Ok(());
+        };
+        self.add_try(server.0, Some(server.1))
     }
 
     fn add_try(&mut self, ip: Ip, loss: Option<Loss>) -> Result<(), Memory>
@@ -134,6 +159,27 @@ impl<A: Allocator + Copy> Tallies<A> {
             }
         }
         Ok(failing)
+    }
+}
+
+// The name server of a line, and how it did not answer.
+fn dead_server(line: &RecordLine<'_>) -> Option<(Ip, Loss)>
+    ensures { result ≡ dead_server (said_of line.now) }
+{
+    match line {
+        RecordLine::Server(ip, reason, _) => Some((*ip, server_loss(*reason))),
+        _ => None,
+    }
+}
+
+fn server_loss(reason: ServerReason) -> Loss
+    ensures { result ≡ server_loss reason }
+{
+    match reason {
+        ServerReason::Silent => Loss::Silent,
+        ServerReason::Refused => Loss::Failed,
+        ServerReason::Failed => Loss::Failed,
+        ServerReason::Unreachable => Loss::Failed,
     }
 }
 

@@ -2,11 +2,12 @@
 ghost use Rattle.std.specs.Prelude.{◌≡◌, count_by, IfOk};
 ghost use Rattle.std.specs.List.{filter_map};
 ghost use Rattle.he_summary.specs.Times.{IsSpread};
-ghost use Rattle.he_summary.specs.Totals.{AreTotals, counts_of, is_kind, value_of};
+ghost use Rattle.he_summary.specs.Totals.{AreTotals, client_is, connected_at, counts_of, has_reason, is_kind, lookup_of, reason_place, time_beside, time_of, value_of};
 
 use crate::kept::{Ending, Kept, Loss};
 use crate::times::{Spread, spread_of};
 use he_addr::{Family, Memory};
+use he_record::{ClientEnd, LookupReason};
 use std::alloc::Allocator;
 
 /// The number of races, and of those of each kind.
@@ -33,6 +34,10 @@ pub struct Totals {
     pub lost_to_silent: Option<Spread>,
     /// The number of attempts of each race.
     pub attempts: Option<Spread>,
+    /// The times after which recorded clients connected, by their own rules, in milliseconds.
+    pub clients: Option<Spread>,
+    /// The times to connect of those of these clients' races that were won.
+    pub by_rules: Option<Spread>,
 }
 
 /// A kind of races.
@@ -43,6 +48,12 @@ pub enum Kind {
     Exhausted,
     Limit,
     Waited,
+    /// The recorded client connected, gave up or failed.
+    Connected,
+    GaveUp,
+    Failed,
+    /// The look-up of the family has no address for this reason.
+    Lookup(Family, LookupReason),
 }
 
 /// A number that some races have.
@@ -53,6 +64,10 @@ pub enum Value {
     /// The milliseconds that the race lost to an address of this kind.
     LostTo(Loss),
     Attempts,
+    /// The time after which the recorded client connected, in milliseconds.
+    Client,
+    /// The time to connect, if the recorded client connected.
+    ByRules,
 }
 
 impl Totals {
@@ -70,6 +85,8 @@ impl Totals {
             lost_to_failed: spread(alloc, kept, Value::LostTo(Loss::Failed))?,
             lost_to_silent: spread(alloc, kept, Value::LostTo(Loss::Silent))?,
             attempts: spread(alloc, kept, Value::Attempts)?,
+            clients: spread(alloc, kept, Value::Client)?,
+            by_rules: spread(alloc, kept, Value::ByRules)?,
         })
     }
 }
@@ -88,7 +105,7 @@ fn counts_of(kept: &[Kept]) -> Counts
     }
 }
 
-fn count(kept: &[Kept], kind: Kind) -> u64
+pub(crate) fn count(kept: &[Kept], kind: Kind) -> u64
     ensures { result ≡ count_by (is_kind kind) kept.now }
 {
     kept.iter().filter(|race| is_kind(kind, race)).count() as u64
@@ -104,7 +121,55 @@ pub fn is_kind(kind: Kind, race: &Kept) -> bool
         (Kind::Exhausted, Ending::Exhausted(_)) => true,
         (Kind::Limit, Ending::Limit(_)) => true,
         (Kind::Waited, _) => race.has_waited,
+        (Kind::Connected, _) => client_is(kind, race.client),
+        (Kind::GaveUp, _) => client_is(kind, race.client),
+        (Kind::Failed, _) => client_is(kind, race.client),
+        (Kind::Lookup(family, reason), _) => has_reason(reason, lookup_of(family, race)),
         _ => false,
+    }
+}
+
+fn client_is(kind: Kind, client: Option<ClientEnd>) -> bool
+    ensures { result ≡ client_is kind client }
+{
+    match (kind, client) {
+        (Kind::Connected, Some(ClientEnd::Connected(_))) => true,
+        (Kind::GaveUp, Some(ClientEnd::GaveUp(_))) => true,
+        (Kind::Failed, Some(ClientEnd::Failed(_))) => true,
+        _ => false,
+    }
+}
+
+fn lookup_of(family: Family, race: &Kept) -> Option<LookupReason>
+    ensures { result ≡ lookup_of family race.now }
+{
+    match family {
+        Family::V6 => race.aaaa,
+        Family::V4 => race.a,
+    }
+}
+
+fn has_reason(reason: LookupReason, found: Option<LookupReason>) -> bool
+    ensures { result ≡ has_reason reason found }
+{
+    match found {
+        Some(other) => reason_place(other) == reason_place(reason),
+        None => false,
+    }
+}
+
+// The place of a reason in the report.
+fn reason_place(reason: LookupReason) -> u8
+    ensures { result ≡ reason_place reason }
+{
+    match reason {
+        LookupReason::NoSuchName => 0,
+        LookupReason::NoAddress => 1,
+        LookupReason::NoAnswer => 2,
+        LookupReason::Refused => 3,
+        LookupReason::Failed => 4,
+        LookupReason::Malformed => 5,
+        LookupReason::NotAsked => 6,
     }
 }
 
@@ -135,6 +200,37 @@ pub fn value_of(value: Value, race: &Kept) -> Option<u64>
         (Value::Time, Ending::Won(_, time), _, _) => Some(time),
         (Value::LostTo(loss), _, Some(time), Some(dead)) if time > 0 && dead == loss => Some(time),
         (Value::Attempts, _, _, _) => Some(race.attempts as u64),
+        (Value::Client, _, _, _) => connected_at(race.client),
+        (Value::ByRules, ending, _, _) => time_beside(race.client, time_of(ending)),
+        _ => None,
+    }
+}
+
+// The time after which the recorded client connected.
+fn connected_at(client: Option<ClientEnd>) -> Option<u64>
+    ensures { result ≡ connected_at client }
+{
+    match client {
+        Some(ClientEnd::Connected(ticks)) => Some(ticks),
+        _ => None,
+    }
+}
+
+// The time, if the recorded client connected.
+fn time_beside(client: Option<ClientEnd>, time: Option<u64>) -> Option<u64>
+    ensures { result ≡ time_beside client time }
+{
+    match client {
+        Some(ClientEnd::Connected(_)) => time,
+        _ => None,
+    }
+}
+
+fn time_of(ending: Ending) -> Option<u64>
+    ensures { result ≡ time_of ending }
+{
+    match ending {
+        Ending::Won(_, time) => Some(time),
         _ => None,
     }
 }

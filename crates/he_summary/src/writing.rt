@@ -13,6 +13,7 @@ ghost use Rattle.he_summary.specs.declared.totals.Kind.TheVariants.{Won};
 use crate::figures::{Form, Said, push_metrics, push_tally, push_totals};
 use crate::kept::{Ending, Kept, Place};
 use crate::races::Races;
+use crate::recorded::push_record;
 use crate::tallies::Tally;
 use crate::totals::{Kind, Totals, Value, is_kind, value_of};
 use he_addr::{Ip, Memory};
@@ -41,6 +42,8 @@ impl<A: Allocator + Copy> Races<A> {
         let failing = self.failing()?;
         let mut parts = Vec::new(self.alloc);
         push_summary(form, totals, failing.as_slice(), &mut parts)?;
+        let servers = self.failing_servers()?;
+        push_record(form, totals, self.kept(), servers.as_slice(), &mut parts)?;
         write_parts(parts.as_slice(), text)?;
         self.write_rest(form, slowest, names, text)
     }
@@ -123,10 +126,13 @@ fn slowest_of<A: Allocator>(alloc: A, kept: &[Kept], most: usize) -> Result<Vec<
 fn won_of<A: Allocator>(alloc: A, kept: &[Kept]) -> Result<Vec<Kept, A>, Memory>
     ensures { IfOk result (λ won. won.items ≡ filter (is_kind Won) kept.now) }
 {
-    kept.iter()
-        .copied()
-        .filter(|race| is_kind(Kind::Won, race))
-        .collect(alloc)
+    let mut won = Vec::new(alloc);
+    for race in kept {
+        if is_kind(Kind::Won, race) {
+            won.push(*race)?;
+        }
+    }
+    Ok(won)
 }
 
 fn sort_slowest<A: Allocator>(won: &mut Vec<Kept, A>)

@@ -49,23 +49,23 @@ module _ {I O : Type 0} (input : inputs.Ghosts I) (output : outputs.Ghosts O) (f
     module _ (last : I) (stream : StreamState) (after : O) (new : Sums) (left : List ℕ) (has : HasPut input output file IsText first last stream before after old new left)
       where
         -- one race more
-        pub race_put : (next : I) (state : StreamState) (race : Race) → HandsNext input first next state has.read.races has.read.front (Ok (Some race)) → (number line : ℕ) → number ≡ state.races → line ≡ stream.lines + 1
-            → (sums : Sums) → AddsRace race (record { file = file; number = number; line = line }) new sums → (text : List ℕ) → WritesText (λ told. IsText number line told race) left text
+        pub race_put : (next : I) (state : StreamState) (race : Race) → (hands : HandsNext input first next state has.read.races has.read.front (Ok (Some race))) → (number line : ℕ) → number ≡ state.races → line ≡ stream.lines + 1
+            → (sums : Sums) → AddsRace hands.0.0 race (record { file = file; number = number; line = line }) new sums → (text : List ℕ) → WritesText (λ told. IsText number line told hands.0.0 race) left text
             → HasPut input output file IsText first next state before after old sums text
         unfolding one_more
         race_put next state race hands number line numbered lined sums adds text written =
-            let counted = hands.2.counted in
+            let counted = hands.1.counted in
             let before_it = has.read.handed.lined in
             let longer = length-append has.read.races (race ∷ []) in
-            let one : AreTold IsText number line (race ∷ []) hands.0 written.told =
-            (hands.0, [], sym (append-nil hands.0), hands.1, written.told, [], sym (append-nil written.told), written.is_told, (refl, refl)) in
-            let placed = told_at IsText (race ∷ []) hands.0 written.told number line (1 + length has.read.races) (1 + line_count has.read.front) (omega arith) (omega arith) one in
+            let one : AreTold IsText number line (race ∷ []) state.text written.told =
+            (state.text, [], sym (append-nil state.text), hands.0, written.told, [], sym (append-nil written.told), written.is_told, (refl, refl)) in
+            let placed = told_at IsText (race ∷ []) state.text written.told number line (1 + length has.read.races) (1 + line_count has.read.front) (omega arith) (omega arith) one in
             let all : (has.text ++ left) ++ written.told ≡ has.text ++ text = append_assoc has.text left written.told ∙ ap (λ (t : List ℕ). has.text ++ t) (sym written.appended) in
             record {
               read = one_more file input first last next stream state old new has.read race hands number line numbered lined sums adds;
               text = has.text;
-              told = subst (AreTold IsText 1 1 (has.read.races ++ race ∷ []) (has.read.front ++ hands.0)) all
-                  (AreTold-append IsText 1 1 has.read.races has.read.front (has.text ++ left) has.told (race ∷ []) hands.0 written.told placed);
+              told = subst (AreTold IsText 1 1 (has.read.races ++ race ∷ []) (has.read.front ++ state.text)) all
+                  (AreTold-append IsText 1 1 has.read.races has.read.front (has.text ++ left) has.told (race ∷ []) state.text written.told placed);
               put = has.put;
             }
 

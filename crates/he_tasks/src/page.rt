@@ -9,9 +9,9 @@ use crate::session::{Session, put_all, put_text};
 use bumpalo::Bump;
 use he_addr::Memory;
 use he_draw::{Times, Totals, write_head, write_tail};
-use he_inputs::StreamFault;
+use he_inputs::{StreamFault, record_of};
 use he_stream::{InputStream, OutputStream};
-use he_streaming::{Content, Printer, TextRequest};
+use he_streaming::{Content, Printer, RacePlace, TextRequest};
 use he_summary::{Ending, Kept, Place, Races, Spread};
 use he_timeline::Changes;
 use std::alloc::Global;
@@ -87,8 +87,10 @@ fn put_parts<R, I: InputStream, O: OutputStream, F>(
         match session.stream.next(&arena, input) {
             Ok(Some(race)) => {
                 let number = session.stream.races();
-                races.add_race(&arena, Place { file, number, line }, &race)?;
-                asked.write(&arena, race, number, line, &mut text)?;
+                let recorded = record_of(&arena, session.stream.text())?;
+                races.add_race(&arena, Place { file, number, line }, &recorded, &race)?;
+                let at = RacePlace { number, line };
+                asked.write(&arena, race, &recorded, at, &mut text)?;
             }
             Ok(None) => return put_text(&text, &mut session.output),
             Err(fault) => {

@@ -1,4 +1,4 @@
-use Rattle.std.proofs.Common.{ℕ, ◌≡◌, ◌+◌, ◌-◌, ◌≤◌, List, drop, Some, None, true, false, not, arith, ap, sym, ◌∙◌, inl, inr, refl, subst}
+use Rattle.std.proofs.Common.{ℕ, ◌-◌, List, Some, None, arith, ap, sym, ◌∙◌, inl, inr, subst}
 use Rattle.std.proofs.lemmas.List.{take_rest}
 use Rattle.memchr.specs.Find.{IsFirstByte, is_byte}
 use Rattle.he_reading.specs.Parts.{lines_of}

@@ -18,7 +18,7 @@ pub loop-other-preserved : goal.loop-other-preserved
 loop-other-preserved g c = λ first race front has.
     let (others, texts, here) = c.loop-other.invariant first race front has in
     let next = c.in_ok-other.ensures.next first (race ∷ others) texts here in
-    let (text, is, more) = rw c.in-Some.is at next in (others ++ c.in-Some.other ∷ [], texts ++ text, more)
+    let (is, more) = rw c.in-Some.is at next in (others ++ c.in-Some.other ∷ [], texts ++ c.next.new.self.text, more)
 
 pub returns-then-races-eq1 : goal.returns-then-races-eq1
 returns-then-races-eq1 g c = λ first race front has.

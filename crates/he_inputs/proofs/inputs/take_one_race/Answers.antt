@@ -30,7 +30,7 @@ returns-in-Ok g c =
     let first = c.args.input.now in
     let start = subst (λ (s : StreamState). HasHanded input first first s [] []) (sym c.new-stream.ensures) (none_handed input first) in
     let next = c.in_ok-race.ensures.next first [] [] start in
-    let (text, is, more) = rw c.in-Some.is at next in c.in-Ok.ensures first c.in-Some.race text more
+    let (is, more) = rw c.in-Some.is at next in c.in-Ok.ensures first c.in-Some.race c.next.new.self.text more
 
 pub returns : goal.returns
 returns g c =
@@ -38,4 +38,4 @@ returns g c =
     let first = c.args.input.now in
     let start = subst (λ (s : StreamState). HasHanded input first first s [] []) (sym c.new-stream.ensures) (none_handed input first) in
     let next = c.in_ok-race.ensures.next first [] [] start in
-    let (text, is, more) = rw c.in-Some.is at next in c.in-Err.ensures first c.in-Some.race text more
+    let (is, more) = rw c.in-Some.is at next in c.in-Err.ensures first c.in-Some.race c.next.new.self.text more

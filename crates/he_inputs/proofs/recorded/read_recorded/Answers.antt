@@ -1,10 +1,10 @@
-use Rattle.std.proofs.Common.{ℕ, ◌≡◌, ◌+◌, ◌-◌, ◌≤◌, List, arith, drop, length, subst, take}
+use Rattle.std.proofs.Common.{ℕ, ◌+◌, ◌-◌, ◌≤◌, List, arith, drop, length, subst, take}
 use Rattle.std.proofs.lemmas.List.{take_rest}
 use Rattle.he_reading.specs.FaultSearch.{fault_of}
 use Rattle.he_reading.specs.Parts.{lines_of}
 use Rattle.he_reading.specs.Text.{IsLineOf, TellsFault}
 use Rattle.he_reading.proofs.FaultTexts.{tells_fault}
-use Rattle.he_inputs.proofs.RaceReadingLaws.{few_lines, line_on, line_small, lines_said, race_fails, record_fails, recorded_first}
+use Rattle.he_inputs.proofs.RaceReadingLaws.{few_lines, line_on, line_small, lines_said, race_fails, recorded_first}
 use Rattle.he_inputs.proofs.recorded.read_recorded.Goals as goal
 
 pub returns-in-Ok-read_first-clause-read : goal.returns-in-Ok-read_first-clause-read

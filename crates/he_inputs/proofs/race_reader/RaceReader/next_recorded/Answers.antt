@@ -1,4 +1,4 @@
-use Rattle.std.proofs.Common.{◌≡◌, ◌+◌, ◌-◌, ◌≤◌, arith, drop, length, refl, take, ap}
+use Rattle.std.proofs.Common.{◌+◌, ◌-◌, drop, length, refl, take, ap}
 use Rattle.std.proofs.lemmas.List.{take_rest}
 use Rattle.he_inputs.proofs.RaceReadingLaws.{fault_found, none_found, recorded_here}
 use Rattle.he_inputs.proofs.race_reader.RaceReader.next_recorded.Goals as goal

@@ -16,17 +16,18 @@ loop-row-preserved g c =
     let settings = c.args.self.now.settings in
     let same : length c.self.inside.settings.items ≡ length settings = ap (λ (s : Sums). length s.settings) c.self.view_is in
     let long : length (take c.loop-row.row settings) ≡ c.loop-row.row = length-take-le c.loop-row.row settings (omega arith) in
-    let run : Run = record { row = c.loop-row.row; place = c.args.place; race = c.with_changes-changed.result; report = c.in_ok-transcript.transcript } in
-    let is : IsRow c.args.race.now c.args.place (0 + length (take c.loop-row.row settings)) c.settings_of.result run = record {
+    let run : Run = record { row = c.loop-row.row; place = c.args.place; said = c.args.told.now; race = c.with_changes-changed.result; report = c.in_ok-transcript.transcript } in
+    let is : IsRow c.args.told.now c.args.race.now c.args.place (0 + length (take c.loop-row.row settings)) c.settings_of.result run = record {
       row_is = omega arith;
       place_is = refl;
+      said_is = refl;
       race_is = c.with_changes-changed.ensures ∙ ap (changed c.settings_of.result) c.in_ok-copy.ensures;
       transcript = c.in_ok-transcript.ensures;
     } in
     let longer : take (c.loop-row.row + 1) settings ≡ take c.loop-row.row settings ++ c.settings_of.result ∷ [] =
     rw add-one (taken_on settings c.loop-row.row c.settings_of.result (subst (λ (s : List ChangeValues). slice_get s c.loop-row.row ≡ Some c.settings_of.result) adds.settings c.settings_of.ensures)) in (
       runs ++ run ∷ [],
-      subst (λ (s : List ChangeValues). AreRows c.args.race.now c.args.place 0 s (runs ++ run ∷ [])) (sym longer) (rows_on c.args.race.now c.args.place 0 (take c.loop-row.row settings) runs c.settings_of.result run rows is),
+      subst (λ (s : List ChangeValues). AreRows c.args.told.now c.args.race.now c.args.place 0 s (runs ++ run ∷ [])) (sym longer) (rows_on c.args.told.now c.args.race.now c.args.place 0 (take c.loop-row.row settings) runs c.settings_of.result run rows is),
       adds_on runs (run ∷ []) c.args.self.now c.loop-row.self c.add_run.new.self adds c.in_ok-add_run.ensures,
     )
 
@@ -34,4 +35,4 @@ pub returns : goal.returns
 returns g c =
     let (runs, rows, adds) = c.loop-row.invariant in
     let same : length c.self.inside.settings.items ≡ length c.args.self.now.settings = ap (λ (s : Sums). length s.settings) c.self.view_is in
-    (runs, subst (λ (s : List ChangeValues). AreRows c.args.race.now c.args.place 0 s runs) (take_all c.loop-row.row c.args.self.now.settings (omega arith)) rows, adds)
+    (runs, subst (λ (s : List ChangeValues). AreRows c.args.told.now c.args.race.now c.args.place 0 s runs) (take_all c.loop-row.row c.args.self.now.settings (omega arith)) rows, adds)

@@ -2,19 +2,19 @@ use Rattle.std.proofs.Common.{◌++◌, List, sym, ap, subst}
 use Rattle.std.proofs.lemmas.Result.{on_ok_weaker}
 use Rattle.he_summary.specs.Kept.{Run}
 use Rattle.he_summary.specs.Summed.{HasSummed, Sums}
-use Rattle.he_summary.specs.Tries.{AreTallies, Try, tries_of}
+use Rattle.he_summary.specs.Tries.{AreTallies, Try, servers_of, tries_of}
 use Rattle.he_summary.proofs.Loops.{for_each}
 use Rattle.he_summary.proofs.Walked.{summed_on}
 use Rattle.he_summary.proofs.races.Races.add_run.Goals as goal
 
 pub returns : goal.returns
 returns g c =
-    let run : Run = record { row = c.args.row; place = c.args.place; race = c.args.race.now; report = c.args.transcript.now } in
-    let old : Sums = record { settings = c.self.inside.settings.items; kept = c.self.inside.kept.items; tallies = c.self.inside.tallies } in
-    let new : Sums = record { settings = c.self.inside.settings.items; kept = c.push.new.self.items; tallies = c.add.new.self } in
+    let run : Run = record { row = c.args.row; place = c.args.place; said = c.args.told.now; race = c.args.race.now; report = c.args.transcript.now } in
+    let old : Sums = record { settings = c.self.inside.settings.items; kept = c.self.inside.kept.items; tallies = c.self.inside.tallies; servers = c.self.inside.servers } in
+    let new : Sums = record { settings = c.self.inside.settings.items; kept = c.push.new.self.items; tallies = c.add.new.self; servers = c.add_servers.new.self } in
     on_ok_weaker c.add.result
     (λ tallied. record {
       settings = ap (λ (s : Sums). s.settings) c.self.view_is;
-      sums = λ before has. summed_on old new run c.of.result before c.in_ok-push.ensures.items c.of.ensures tallied (subst (λ (s : Sums). HasSummed s before) (sym c.self.view_is) has);
+      sums = λ before has. summed_on old new run c.of.result before c.in_ok-push.ensures.items c.of.ensures tallied c.in_ok-add_servers.ensures (subst (λ (s : Sums). HasSummed s before) (sym c.self.view_is) has);
     })
     (for_each (λ (t : List Try). AreTallies t c.self.inside.tallies) (λ (t : List Try). AreTallies (t ++ tries_of run) c.add.new.self) c.add.result c.add.ensures)

@@ -1,0 +1,50 @@
+www.example.com:443 for 198.51.100.9, 2026-11-28 10:54:05Z (race 1, line 1): the client connected after 20001 ms; by RFC 8305: connected to 198.51.100.82 after 362 ms; 320 ms lost: the wait for the AAAA answer, 198.51.100.80 failed, 198.51.100.81 was not tried
+preferred, once every answer is known:
+  1. 198.51.100.80 from 192.0.2.2
+  2. 198.51.100.81 from 192.0.2.2; listed later in its answer (RFC 6724 rule 10)
+  3. 198.51.100.82 from 192.0.2.2; listed later in its answer (RFC 6724 rule 10)
+course by RFC 8305:
+   12 ms  A answer: 3 addresses to try; the AAAA answer is not there yet
+   12 ms  wait for the AAAA answer until 62 ms (Resolution Delay)
+   62 ms  the wait is over, without the AAAA answer
+   62 ms  attempt 1 to 198.51.100.80: the wait for the AAAA answer is over; number 1 of 3 known, IPv4 first
+   66 ms  attempt 1 failed after 4 ms: refused
+   82 ms  attempt 2 to 198.51.100.81: all before have failed, and the floor of 20 ms after attempt 1 is over; number 2 of 3 known, IPv4 alone is left
+  300 ms  AAAA: no answer
+  332 ms  attempt 3 to 198.51.100.82: 250 ms after the start of attempt 2; number 3 of 3 known, IPv4 alone is left
+  362 ms  attempt 3 connected after 30 ms
+  362 ms  attempt 2 cancelled after 280 ms; no client tried it: its outcome is unknown
+50 ms passed between the A answer and the first attempt at one of its addresses
+name server 192.0.2.77: no answer in 251 ms
+no client tried 198.51.100.81: its outcome is unknown
+
+[2001:db8::80]:8443 (race 2, line 18): the client gave up after 1500 ms; by RFC 8305: not connected by the limit of 2000 ms, after 1 attempt
+preferred, once every answer is known:
+  1. 2001:db8::80 from 2001:db8::2
+course by RFC 8305:
+     0 ms  AAAA answer: 1 address to try; the A answer is not there yet
+     0 ms  attempt 1 to 2001:db8::80: the AAAA answer is there; the only address known
+  2000 ms  the limit: the race is given up
+  2000 ms  attempt 1 cancelled after 2000 ms
+no A answer came
+
+2024-02-29 23:59:59Z (race 3, line 26): the client failed after 3 ms; by RFC 8305: not connected: nothing is left to try after 3 ms and 1 attempt
+preferred, once every answer is known:
+  1. 2001:db8::80 from 2001:db8::2
+course by RFC 8305:
+  0 ms  AAAA answer: 1 address to try
+  0 ms  A answer: 0 addresses to try
+  0 ms  attempt 1 to 2001:db8::80: the AAAA answer is there; the only address known
+  3 ms  attempt 1 failed after 3 ms: unreachable
+  3 ms  nothing is left to try
+
+for 2001:db8::9 (race 4, line 36): not connected by the limit of 400 ms, after 1 attempt
+preferred, once every answer is known:
+  1. 2001:db8::80 from 2001:db8::2
+course:
+    0 ms  AAAA answer: 1 address to try
+    0 ms  A answer: 0 addresses to try
+    0 ms  attempt 1 to 2001:db8::80: the AAAA answer is there; the only address known
+  400 ms  the limit: the race is given up
+  400 ms  attempt 1 cancelled after 400 ms; no client tried it: its outcome is unknown
+no client tried 2001:db8::80: its outcome is unknown

@@ -1,0 +1,52 @@
+race 1, line 1: not connected: nothing is left to try after 25 ms and 0 attempts
+no address to try
+course:
+  20 ms  AAAA: no such name; the A answer is not there yet
+  25 ms  A: no such name
+  25 ms  nothing is left to try
+name server 192.0.2.1: refused after 1 ms
+name server 192.0.2.2: failed after 2 ms
+name server 192.0.2.3: unreachable after 3 ms
+name server 2001:db8::53: no answer in 5000 ms
+
+race 2, line 11: not connected by the limit of 2000 ms, after 0 attempts
+no address to try
+course:
+    20 ms  AAAA answer: 0 addresses to try; the A answer is not there yet
+  2000 ms  the limit: the race is given up
+no A answer came: not asked
+
+race 3, line 16: not connected: nothing is left to try after 22 ms and 0 attempts
+no address to try
+course:
+  22 ms  AAAA: no address (4 ms late)
+  22 ms  A: the name servers failed (4 ms late)
+  22 ms  nothing is left to try
+
+race 4, line 23: connected to 198.51.100.80 after 80 ms; 50 ms lost: the wait for the AAAA answer
+preferred, once every answer is known:
+  1. 198.51.100.80 from 192.0.2.2
+course:
+  20 ms  A answer: 1 address to try; the AAAA answer is not there yet
+  20 ms  wait for the AAAA answer until 70 ms (Resolution Delay)
+  70 ms  the wait is over, without the AAAA answer
+  70 ms  attempt 1 to 198.51.100.80: the wait for the AAAA answer is over; the only address known
+  80 ms  attempt 1 connected after 10 ms
+the AAAA answer came at 400 ms, after the end: a malformed answer
+50 ms passed between the A answer and the first attempt at one of its addresses
+
+race 5, line 31: connected to 2001:db8::80 after 30 ms; nothing lost
+preferred, once every answer is known:
+  1. 2001:db8::80 from 2001:db8::2
+course:
+   5 ms  A answer: 0 addresses to try; the AAAA answer is not there yet
+  20 ms  AAAA: refused: 1 address to try
+  20 ms  attempt 1 to 2001:db8::80: the AAAA answer is there; the only address known
+  30 ms  attempt 1 connected after 10 ms
+
+race 6, line 39: not connected by the limit of 5000 ms, after 0 attempts
+no address to try
+course:
+  5000 ms  the limit: the race is given up
+no AAAA answer came: no answer
+no A answer came: no answer
