@@ -5,6 +5,7 @@ needs: dnsmasq, to look names up there; strace and valgrind, to count calls and 
 connections under faults.
 """
 import contextlib
+import datetime
 import json
 import os
 import pathlib
@@ -17,8 +18,8 @@ import tempfile
 import time
 
 import support
-from support import (A, AAAA, DEAD_FOUR, DEAD_SIX, FOUR, OPTIONS, SERVFAIL, SIX, TIMEOUT, WIDE_FOUR, NotTried, Zone,
-                     answer_digest, digest_of, greet, must, needs, replayed, serving, silent, timed, unused_port)
+from support import (A, AAAA, DEAD_FOUR, DEAD_SIX, FOUR, OPTIONS, REFUSED, SERVFAIL, SIX, TIMEOUT, WIDE_FOUR, NotTried,
+                     Zone, answer_digest, digest_of, greet, must, needs, replayed, serving, silent, timed, unused_port)
 
 HE, IS_FULL = OPTIONS.program, OPTIONS.full
 NEAR, ON_LINK = "fe80::1e:1", "fe80::1e:2"  # link-local addresses of this machine, on the ends of its link
@@ -42,7 +43,7 @@ class Run(support.Run):
     def __init__(self, *words, given=b"", replays=True, bound=None):
         with tempfile.TemporaryDirectory() as folder:
             record = pathlib.Path(folder, "record")
-            began = time.monotonic()
+            self.began, began = time.time(), time.monotonic()
             done = support.run(HE, "connect", "--record", record, *words, input=given, timeout=TIMEOUT,
                                preexec_fn=bound)
             self.seconds = time.monotonic() - began
@@ -53,6 +54,20 @@ class Run(support.Run):
     def lines(self):
         """The sources and routes of its record."""
         return re.findall("(?m)^(?:source|route) .*$", self.record)
+
+    def must_say(self, *wanted, status=3):
+        """Its record lines are the time of tick 0 and these, each a pattern; the record passes `he check`, and replays
+        as the race without them does."""
+        first, *said = re.findall("(?m)^record (.*)$", self.record)
+        race = re.sub("(?m)^record .*\n", "", self.record)
+        began = re.fullmatch(r"at (\d{4}-\d\d-\d\dT\d\d:\d\d:\d\d\.\d{3})Z", first)
+        at = began and datetime.datetime.fromisoformat(f"{began[1]}+00:00").timestamp()
+        is_right = at and self.began - 0.01 <= at <= self.began + self.seconds and len(said) == len(wanted)
+        is_right = is_right and all(map(re.fullmatch, wanted, said)) and self.record.startswith("record at ")
+        checked = support.run(HE, "check", input=self.record)
+        is_right = is_right and checked.returncode == 0 and replayed(race) == replayed(self.record)
+        must(is_right and self.status == status, *self.words, f"status {self.status},", first, said, checked.stderr,
+             self.told)
 
     def must(self, is_right=True, status=0, told=None, **more):
         """Tells the run where something is wrong: what was looked at, its status, what it told (a pattern), or more of
@@ -136,7 +151,7 @@ def check_told():
 
 def check_link_local():
     """A link-local address is connected to over the interface that stands with it, by its name or its number, and from
-    the source that the kernel takes there; the record has the address alone and replays. An interface that does not
+    the source that the kernel takes there; the race has the address alone and replays. An interface that does not
     lead to it, one that is not there, and none are told."""
     add = "".join(f"ip address add {ip}/64 dev {link} nodad\n" for ip, link in ((NEAR, "here"), (ON_LINK, "there")))
     remove = add.replace(" add ", " del ").replace(" nodad", "")
@@ -144,7 +159,8 @@ def check_link_local():
         for zone in ["here", socket.if_nametoindex("here")]:
             run = Run(f"{ON_LINK}%{zone}", port)
             is_right = re.fullmatch(rf"source fe80::\S+/64 1 route {ON_LINK}/128 1", " ".join(run.lines()))
-            run.must(is_right and "%" not in run.record, output=b"hello\n", won=ON_LINK)
+            is_asked = f"record to {ON_LINK}%{zone} {port}\n" in run.record
+            run.must(is_right and is_asked and "%" not in race_of(run.record), output=b"hello\n", won=ON_LINK)
         start = f"he: no connection to {ON_LINK}%{{}} port {port}: 1 address tried: {ON_LINK} "
         end = r"(network unreachable|address not available) after \d+ ms\n"
         for host, status, told in [
@@ -248,16 +264,21 @@ ip route add prohibit 203.0.113.0/24
 def check_reasons():
     """Why an attempt failed is told in a word: what a router prohibits or cannot reach is no fault of this host."""
     with made(ROUTER, "ip netns del router; ip route del prohibit 203.0.113.0/24"):
-        for host, word in [
-            (FOUR, "refused"), ("198.51.100.7", "unreachable"), ("2001:db8:78::7", "network unreachable"),
-            ("2001:db8:77::7", "prohibited"), ("203.0.113.7", "prohibited"),
+        for host, word, said in [
+            (FOUR, "refused", "refused"), ("198.51.100.7", "unreachable", "unreachable"),
+            ("2001:db8:78::7", "network unreachable", "unreachable"), ("2001:db8:77::7", "prohibited", "forbidden"),
+            ("203.0.113.7", "prohibited", "forbidden"),
         ]:
-            run = Run(host, unused_port())
+            port = unused_port()
+            run = Run(host, port)
             run.must(re.search(rf": {re.escape(host)} {word} after \d+ ms\n", run.told), 3)
+            run.must_say(f"to {host} {port}", f"attempt {host} {said}")
             race = "race 2\n" + re.search(r"(?s)\n((?:source|aaaa) .*end\n)", run.record)[1]
             for words, told in [([], ""), (["-v"], f"he: attempt 1 at {host} failed: {word}\n")]:
                 live = support.run(HE, "live", "--port", "9", *words, input=race)
                 must(live.stderr == told, f"he live to {host}", *words, repr(live.stderr), repr(race))
+                lines = re.findall("(?m)^record (?!at ).*$", live.stdout)
+                must(lines == [f"record attempt {host} {said}"], f"he live to {host}", repr(live.stdout))
 
 
 POLICY_ROUTING = """
@@ -450,6 +471,61 @@ def check_failed_family():
         Run("-6", *lacking).must(status=3, told="he: four.zone has no IPv6 address\n")
 
 
+def check_said_of_names():
+    """Record lines say why a family has no address, and which name server gave no answer, after how long."""
+    port, ms = unused_port(), r"\d{1,3}"
+    refused = f"attempt {FOUR} refused"
+    with Zone(six_code=SERVFAIL) as fails, Zone(six_code=REFUSED) as refuses, Zone(FOUR) as four, Zone(SIX) as six:
+        for zone, host, wanted in [
+            (fails, "half.zone", ["lookup aaaa failed", f"server {FOUR} failed {ms}", refused]),
+            (refuses, "half.zone", ["lookup aaaa refused", f"server {FOUR} refused {ms}", refused]),
+            (four, "four.zone", ["lookup aaaa no-address", refused]),
+        ]:
+            Run("--resolver", zone.at, host, port).must_say(f"to {host} {port}", *wanted)
+        four_only = Run("-4", "--resolver", fails.at, "half.zone", port)
+        four_only.must_say(f"to half.zone {port}", "lookup aaaa not-asked", refused)
+        lacks = Run("--resolver", four.at, "lacks.zone", port, replays=False)
+        lacks.must_say(f"to lacks.zone {port}", "lookup aaaa no-such-name", "lookup a no-such-name", status=1)
+        Run("--resolver", six.at, "six.zone", port).must_say(
+            f"to six.zone {port}", "lookup a no-address", f"attempt {SIX} refused")
+    down = Run("--resolver", DOWN, "both.zone", port, replays=False)
+    nothing = [f"to both.zone {port}", "lookup aaaa no-answer", "lookup a no-answer"]
+    down.must_say(*nothing, f"server 127.0.0.99 unreachable {ms}", status=1)
+    with socket.socket(socket.AF_INET, socket.SOCK_DGRAM) as nobody:
+        nobody.bind(("127.0.0.98", 0))
+        at = f"127.0.0.98:{nobody.getsockname()[1]}"
+        dead = Run("--resolver", at, "both.zone", port, replays=False, bound=once)
+    dead.must_say(*nothing, r"server 127\.0\.0\.98 silent 1[0-3]\d\d", status=1)
+
+
+def once():
+    """A name server is asked once, for a second."""
+    os.environ["RES_OPTIONS"] = "timeout:1 attempts:1"
+
+
+FORBIDS = "reject with icmpv6 admin-prohibited"
+SYN_RETRIES = "/proc/sys/net/ipv4/tcp_syn_retries"
+
+
+def check_said_of_attempts():
+    """Record lines say why each attempt failed that did, and nothing of one that was cancelled or won."""
+    needs("nft")
+    forbids = FIREWALL + f"nft add rule inet he out ip6 daddr {DEAD_SIX} tcp dport 1-65535 {FORBIDS}\n"
+    with serving(greet) as port, made(forbids, "nft delete table inet he"):
+        Run(REJECTED, port).must_say(rf"to 10\.77\.0\.9 {port}", r"attempt 10\.77\.0\.9 refused")
+        Run("dead6.test", port).must_say(f"to dead6.test {port}", f"attempt {DEAD_SIX} forbidden", status=0)
+        Run("both.test", port).must_say(f"to both.test {port}", f"attempt {SIX} refused", status=0)
+    with serving(greet) as port:
+        Run("--timeout", 400, "dead.test", port).must_say(f"to dead.test {port}")
+        retries = pathlib.Path(SYN_RETRIES)
+        before = retries.read_text()
+        retries.write_text("1")
+        try:
+            Run(DEAD_FOUR, port).must_say(rf"to 127\.0\.0\.9 {port}", r"attempt 127\.0\.0\.9 timed-out")
+        finally:
+            retries.write_text(before)
+
+
 def check_dnsmasq():
     """Names of a name server: an alias, one of a single family, one that isn't there, and a server that is down."""
     records = [f"--host-record=both.zone,{FOUR},{SIX}", f"--host-record=six.zone,{SIX}", "--cname=alias.zone,both.zone"]
@@ -460,25 +536,30 @@ def check_dnsmasq():
             Run("--resolver", resolver, host, port, replays=False).must(status=1, told="he: [^\n]*\n")
 
 
+def race_of(record):
+    """The race of a record, without its record lines."""
+    return "".join(line for line in record.splitlines(True) if not line.startswith("record "))
+
+
 def check_explained():
-    """What --explain tells is the look-up, and what `he explain` says of the record; -v tells each attempt."""
+    """What --explain tells is the look-up, and what `he explain` says of the race; -v tells each attempt."""
     with serving(greet) as port:
         run, steps = Run("-z", "--explain", "both.test", port), Run("-z", "-v", "both.test", port)
     lines = run.told.splitlines()
     story = [line for line in lines if not line.startswith("he: ")]
     look_up = r"(?m)^he: \d+ ms: AAAA answer: 1 address, no name server asked$"
-    run.must(story == replayed(run.record, "explain").splitlines() and re.search(look_up, run.told))
+    run.must(story == replayed(race_of(run.record), "explain").splitlines() and re.search(look_up, run.told))
     steps.must(SIX in steps.told and FOUR in steps.told)
 
 
 def check_object():
-    """With -z and --json the output is the object that `he explain --json` makes of the record, won or not."""
+    """With -z and --json the output is the object that `he explain --json` makes of the race, won or not."""
     with serving(greet) as port:
         won = Run("-z", "--json", "both.test", port)
     lost = Run("-z", "--json", FOUR, unused_port())
     for run, status, end in ((won, 0, "won"), (lost, 3, "exhausted")):
         run.must(end in [event["event"] for event in json.loads(run.output)["events"]], status,
-                 output=replayed(run.record, "explain --json").encode())
+                 output=replayed(race_of(run.record), "explain --json").encode())
 
 
 def check_lines():
@@ -510,14 +591,14 @@ def check_record_file():
         record.chmod(0o600)
         failed = connect(record, "-z", "--host", "/no/such/file")
         must(failed.returncode == 1 and record.read_text() == "old\n", "after a fault:", failed, record.read_text())
-        must(connect(record, "-z").returncode == 0 and record.read_text().startswith("race 2\n"), record.read_text())
+        must(connect(record, "-z").returncode == 0 and record.read_text().startswith("record at "), record.read_text())
         must(os.listdir(folder) == ["record"], os.listdir(folder))
         output = connect("-", "-z").stdout
-        must(output.startswith(b"race 2\n") and connect("-").returncode == 2, "--record -:", output)
+        must(output.startswith(b"record at ") and connect("-").returncode == 2, "--record -:", output)
         os.mkfifo(pipe)
         with started("-z", "--record", pipe, FOUR, port) as running:
             text, status = pipe.read_bytes(), running.wait(TIMEOUT)
-        must(status == 0 and text.startswith(b"race 2\n"), "a pipe:", status, text)
+        must(status == 0 and text.startswith(b"record at "), "a pipe:", status, text)
 
 
 def check_full_disk():

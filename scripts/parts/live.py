@@ -45,7 +45,7 @@ class Run(support.Run):
         bound = support.limit("NOFILE", descriptors)
         done = support.run(HE, "live", "--port", port, *words, input=text, preexec_fn=bound)
         self.seconds = support.seconds_of_children() - before
-        transcript, *record = re.split("^(?=race [12]\n)", done.stdout, maxsplit=1, flags=re.M)
+        transcript, *record = re.split("^(?=record |race [12]\n)", done.stdout, maxsplit=1, flags=re.M)
         super().__init__(done, transcript, "".join(record))
         replayed = support.run(HE, "replay", input=self.record)
         self.replays = replayed.returncode == 0 and replayed.stdout == self.transcript

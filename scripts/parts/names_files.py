@@ -1,6 +1,7 @@
 """Has a built program find names by files of hosts and of resolver settings that are set in for it: whom it asks, for
 which names, in which order and how soon; beside the system's getaddrinfo.
 """
+import datetime
 import functools
 import itertools
 import os
@@ -331,6 +332,46 @@ def serve(row, kinds, options=""):
     servers = {f"127.{row}.0.{at}": kind for at, kind in enumerate(kinds.split(), 1)}
     SETTINGS.write_text("".join(f"nameserver {name}\n" for name in servers) + options)
     return [server_at(name, kind) for name, kind in servers.items() if kind != "down"]
+
+
+# The record lines of a look-up, without the first, by the kinds of its name servers: SERVER is the first one.
+SAID = {
+    "good": [], "slow": [], "denies": ["lookup aaaa no-such-name"], "denies-four": ["lookup a no-such-name"],
+    "dead good": [r"server SERVER silent [2-5]\d\d"], "down good": [r"server SERVER unreachable \d{1,3}"],
+    "servfail good": [r"server SERVER failed \d{1,3}"], "refused good": [r"server SERVER refused \d{1,3}"],
+    "garbage good": [r"server SERVER failed \d{1,3}"],
+    "half": ["lookup aaaa no-answer", r"server SERVER silent 1[0-3]\d\d"],
+}
+
+
+def check_record():
+    """The record lines of a look-up say when it began, why a family has no address, and which name server gave no
+    answer. They go before a race of `he host` and the answers, which is the race without them. A look-up that finds
+    nothing, and a file that can't be made, leave the old file."""
+    with tempfile.TemporaryDirectory() as folder:
+        path = pathlib.Path(folder, "record")
+        for row, (kinds, wanted) in enumerate(SAID.items(), 160):
+            serve(row, kinds, "options timeout:1 attempts:1\n")
+            began = time.time()
+            done = look_up("both.test", "--record", path)
+            text = path.read_text()
+            first, *said = re.findall("(?m)^record (.*)$", text)
+            at = datetime.datetime.fromisoformat(first.removeprefix("at ").removesuffix("Z") + "+00:00").timestamp()
+            lines = [line.replace("SERVER", re.escape(f"127.{row}.0.1")) for line in wanted]
+            is_right = len(said) == len(lines) and all(map(re.fullmatch, lines, said)) and first.startswith("at ")
+            tell(is_right and began - 0.01 <= at <= time.time(), f"record lines, {kinds}:", text, done.stdout)
+            race = f"race 1\n{run(OPTIONS.program, 'host').stdout}{done.stdout}end\n"
+            checked = run(OPTIONS.program, "check", input=text + race)
+            tell(checked.returncode == 0 and support.replayed(text + race) == support.replayed(race),
+                 f"a race with record lines, {kinds}:", checked.stderr, text + race)
+        path.write_text("old\n")
+        serve(190, "absent")
+        look_up("absent.x", "--record", path)
+        tell(path.read_text() == "old\n", "no address:", path.read_text())
+        missing = look_up("both.test", "--record", pathlib.Path(folder, "no", "record"))
+        tell(missing.returncode == 1 and missing.stdout == "" and "/no/record: No such file" in missing.stderr, missing)
+        refused = look_up("both.test", "--record", "-")
+        tell(refused.returncode == 2 and "standard output (`-`) has the answers" in refused.stderr, refused)
 
 
 def check_servers():

@@ -97,7 +97,7 @@ def bars(row, end):
 
 def section(file, number, race):
     end = race.report.result.tick
-    heading = f"{end} ms race {number}, line {race.line}: {plain_story.ending(race.report)}"
+    heading = f"{end} ms {plain_story.heading(number, race)}{plain_story.ending(race.report)}"
     anchor = f"race-{number}" + (f"-of-{file + 1}" if file else "")
     rows = [[row.label, row.words, bars(row, end)] for row in plain_drawn.rows(race)]
     # (a line end after the tag is none of the text)

@@ -41,6 +41,15 @@ def said_of(proxy, host, port):
     return facts(proxy.lines()[-1])
 
 
+def record_lines_of(proxy, said):
+    """The record lines of the session's race but for the time of tick 0; the record passes `he check`, and replays."""
+    record = (proxy.records / said["record"]).read_text()
+    first, *lines = re.findall("(?m)^record (.*)$", record)
+    checked = run(HE, "check", input=record)
+    must(first == f"at {said['start']}" and checked.returncode == 0 and support.replayed(record), record, checked.stderr)
+    return lines
+
+
 # The log
 
 
@@ -62,6 +71,9 @@ def check_given_up():
         must([address for _, address, _ in attempts] == found[3].split(","), transcript, found[3])
         must(len(attempts) == 2 and all(end == "cancelled" for *_, end in attempts), transcript)
         must(re.search(rf"limit.{found[2]}\b", record) and 500 <= int(found[2]) < 2000, record)
+        said = re.findall("(?m)^record (?!at )(.*)$", record)
+        must(said == [f"to dead.test {port}", f"from {FOUR}", f"gave-up {found[2]}"], record)
+        must(support.run(HE, "check", input=record).returncode == 0, record)
         must(all(int(end) <= int(found[2]) for end in re.findall(r"(?m)^pause \d+ (\d+)$", record)), record)
         own = f"{FOUR}:{proxy.port}"
         page = proxy.answer(f"GET / HTTP/1.1\r\nHost: {own}\r\n\r\n".encode())
@@ -105,6 +117,11 @@ FAULTS = [  # what is asked for, the reply of SOCKS, and the word for it
 ]
 
 
+# The record lines of these races, after those of the target and the client.
+WHY = {"refused.test": [f"attempt {FOUR} refused"], "dead.test": [], "203.0.113.9": ["attempt 203.0.113.9 unreachable"],
+       "itself": [f"attempt {FOUR} forbidden"]}
+
+
 @timed
 def check_faults():
     """The word for a race that was lost says why, and the reply of SOCKS goes with it."""
@@ -118,6 +135,9 @@ def check_faults():
             must(comes(lambda: len(proxy.lines()) > before, SOON), f"{host}: no line")
             said = facts(proxy.lines()[-1])
             must((found, said["fault"], said["end"]) == (code, word, "refused"), host, found, said)
+            if host in WHY:
+                wanted = [f"to {target} {port}", f"from {FOUR}", *WHY[host]]
+                must(record_lines_of(proxy, said) == wanted, host, record_lines_of(proxy, said))
 
 
 @timed
@@ -133,6 +153,11 @@ def check_name_faults():
         with Failing() as zone, Proxy("--resolver", zone.at) as proxy:
             said = said_of(proxy, "some.test.", 80)
             must(said.get("fault") == word, word, said)
+            why = word.removeprefix("dns-")
+            server = [rf"server 127\.0\.0\.1 {why} \d{{1,3}}"] if six_code in (2, 5) else []
+            wanted = ["to some\\.test\\. 80", f"from {FOUR}", f"lookup aaaa {why}", f"lookup a {why}", *server]
+            lines = record_lines_of(proxy, said)
+            must(len(lines) == len(wanted) and all(map(re.fullmatch, wanted, lines)), word, lines)
     with Proxy("--resolver", f"{FOUR}:{unused_port()}", "--timeout", 300) as proxy:
         said = said_of(proxy, "some.test.", 80)
         must(said.get("fault") in ("no-answer", "dns-failed"), said)

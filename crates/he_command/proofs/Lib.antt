@@ -1,3 +1,4 @@
+mod Ended
 mod Files
 mod Kept
 mod Service

@@ -17,7 +17,7 @@ pub record IsRaceObject (text object : List ℕ) : Type 0 where
   pub course : Course Global
   pub is_race : HasRaces text false (race ∷ []) None
   pub is_course : IsCourse race 1 1 course
-  pub is_object : IsExplanationJson (record { file = None; number = course.number; line = course.line })
+  pub is_object : IsExplanationJson (record { file = None; number = course.number; line = course.line }) []
       course.addresses.items course.events.items object
 
 -- the object is written to the output if there is one, otherwise nothing

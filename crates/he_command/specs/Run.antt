@@ -6,17 +6,14 @@ use Rattle.he_options.specs.declared.refusal.Refusal.{Refusal}
 use Rattle.he_options.specs.declared.refusal.Refusal.TheVariants as refusals
 use Rattle.he_request.specs.declared.request.Request.{Request}
 use Rattle.he_request.specs.declared.request.Request.TheVariants as requests
-use Rattle.he_resolver.specs.Told.{TellsNames}
-use Rattle.he_resolver.specs.declared.tell_fault.TellFault.{TellFault}
 use Rattle.he_stream.specs.declared.stream.InputStream as inputs
 use Rattle.he_stream.specs.declared.stream.OutputStream as outputs
-use Rattle.he_tasks.specs.Status.{status_of}
-use Rattle.he_tasks.specs.Streams.{Shows, TookAll, TookPart}
+use Rattle.he_tasks.specs.Streams.{Shows}
 use Rattle.he_tasks.specs.Whole.{DoesTexts}
 use Rattle.he_tasks.specs.declared.reports.TheConstants.{FAULT, USAGE}
 use Rattle.he_command.specs.Connection.{MakesConnection}
 use Rattle.he_command.specs.Live.{RunsLive}
-use Rattle.he_command.specs.Objects.{ShowsNames}
+use Rattle.he_command.specs.Names.{RunsNames}
 use Rattle.he_command.specs.Proxies.{status_of_proxy}
 
 -- the effects of a line without a command to run
@@ -24,15 +21,6 @@ abbrev pub Refuses : {O : Type 0} → outputs.Ghosts O → Refusal → O → O �
 Refuses output refusals.Memory before after status = (status ≡ FAULT) × (after ≡ before)
 Refuses output (refusals.Help text) before after status = Shows output before after status
 Refuses output refusal before after status = (status ≡ USAGE) × (after ≡ before)
-
--- the effects of `he names`. The status is FAULT also if one family's look-up failed and the other's addresses were
--- written. With JSON they are written as an object
-abbrev pub RunsNames : {O : Type 0} → outputs.Ghosts O → Bool → O → O → ℕ → Type 0
-RunsNames output true before after status = ShowsNames output before after status
-RunsNames output false before after status =
-    (result : Result (Unit {0}) TellFault)
-    × TellsNames (TookAll output before after) (TookPart output before after) (after ≡ before) result
-    × ((status ≡ status_of result) ⊎ (status ≡ FAULT))
 
 -- The effects of a line: its request was done, and the status reports how that ended; or there is no request, and
 -- nothing is read. file, page: the relations of files that are read, and of one that is written. environment: its
@@ -48,7 +36,7 @@ RunsLine input file page output environment (Ok (requests.Host options)) first l
 RunsLine input file page output environment (Ok (requests.Proxy proxy)) first last before after status =
     (last ≡ first) × (after ≡ before) × (status ≡ status_of_proxy proxy)
 RunsLine input file page output environment (Ok (requests.Names options)) first last before after status =
-    (last ≡ first) × RunsNames output options.is_json before after status
+    (last ≡ first) × RunsNames page output options before after status
 RunsLine input file page output environment (Ok (requests.Connect connection)) first last before after status =
     MakesConnection file page output environment connection before after status
 RunsLine input file page output environment (Err refusal) first last before after status =

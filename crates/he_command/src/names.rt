@@ -1,43 +1,127 @@
 //! `he names`.
-ghost use Rattle.std.specs.Prelude.{◌≡◌, ◌⊎◌};
+ghost use Rattle.std.specs.Prelude.{◌≡◌, ◌⊎◌, IfOk, OnOk};
+ghost use Rattle.he_command.specs.Files.{WasWritten};
+ghost use Rattle.he_command.specs.Names.{FindsNames, IsLookupText, KeepsLookup, RunsNames};
 ghost use Rattle.he_command.specs.Objects.{ShowsNames};
-ghost use Rattle.he_command.specs.Run.{RunsNames};
 ghost use Rattle.he_tasks.specs.Status.{status_of};
 
 use crate::objects::{names_object, show_object};
 use crate::race_request::choice_of;
+use crate::record::write_record;
 use crate::system::{System, Variables};
+use he_addr::Memory;
+use he_failures::{HeardFaults, lookup_record};
+use he_files::{NewName, create_beside};
 use he_names::Environment;
 use he_options::shown::shown;
+use he_record::Moment;
+use he_recording::moment_now;
 use he_request::Names;
 use he_resolver::{LookupReport, TellFault, write_names};
 use he_settings::{NamesFault, Wanted};
 use he_stream::{OutputStream, ToWriter};
-use he_tasks::reports::{report, report_of};
+use he_tasks::reports::{report, report_of, report_path};
 use he_tasks::{DONE, FAULT, Session};
 use std::alloc::Global;
-use std::io::Write;
+use std::io;
+use std::io::{ErrorKind, Write};
 use std::mem::drop;
+use std::rt::Files;
 
-// Finds the addresses of a host.
+// Finds the addresses of a host. The file of its record lines is created before.
 pub(crate) fn run_names<R: System, O: OutputStream, F: Write>(
     session: &mut Session<'_, '_, R, O, F>,
     names: Names<'_>,
 ) -> u8
-    ensures { RunsNames O.OutputStream names.entry.is_json session.old.output session.new.output result }
+    ensures { RunsNames ⟦<ToWriter<R::File> as OutputStream>⟧ O.OutputStream names.entry session.old.output
+        session.new.output result }
 {
     let mut lookup = LookupReport::new(session.alloc);
-    let status = find_names(session, names, &mut lookup);
+    let status = run_kept(session, names, &mut lookup);
     drop(lookup);
     status
+}
+
+fn run_kept<R: System, O: OutputStream, F: Write>(
+    session: &mut Session<'_, '_, R, O, F>,
+    names: Names<'_>,
+    lookup: &mut LookupReport,
+) -> u8
+    ensures { RunsNames ⟦<ToWriter<R::File> as OutputStream>⟧ O.OutputStream names.entry session.old.output
+        session.new.output result }
+{
+    let Some(path) = names.record else {
+        return find_names(session, names, lookup).status;
+    };
+    match create_beside(session.system, session.alloc, path) {
+        Ok((file, name)) => {
+            let at = moment_now(session.system);
+            let end = find_names(session, names, lookup);
+            let text = lines_of(session.alloc, at, lookup, end.is_found);
+            match keep_lines(session.system, file, name, text) {
+                Ok(()) => end.status,
+                Err(error) => report_path(session.alloc, path, error, &mut session.faults),
+            }
+        }
+        Err(error) => report_path(session.alloc, path, error, &mut session.faults),
+    }
+}
+
+// The end of a search for names.
+#[derive(Clone, Copy)]
+pub(crate) struct NamesEnd {
+    // The exit status.
+    status: u8,
+    // Whether an address was found, and written.
+    is_found: bool,
+}
+
+// The record lines of a look-up that found an address; nothing for another one.
+fn lines_of(
+    alloc: Global,
+    at: Option<Moment>,
+    lookup: &LookupReport,
+    is_found: bool,
+) -> Result<Vec<u8>, Memory>
+    ensures { IfOk result (λ text. IsLookupText text.items) }
+{
+    if !is_found {
+        return Ok(Vec::new(alloc));
+    }
+    let heard = HeardFaults {
+        v6: lookup.v6,
+        v4: lookup.v4,
+        events: &lookup.events,
+    };
+    lookup_record(alloc, at, heard)
+}
+
+// Writes the lines to their new file, and renames it. Without a line the old file stays.
+fn keep_lines<R: Files>(
+    rt: &R,
+    file: R::File,
+    name: NewName,
+    text: Result<Vec<u8>, Memory>,
+) -> io::Result<()>
+    requires { IfOk text (λ lines. IsLookupText lines.items) }
+    ensures { OnOk result (KeepsLookup (WasWritten ⟦<ToWriter<R::File> as OutputStream>⟧)) }
+{
+    match text {
+        Ok(text) => write_record(rt, file, name, &text),
+        Err(Memory) => {
+            drop(file);
+            name.discard(rt);
+            Err(ErrorKind::OutOfMemory.into())
+        }
+    }
 }
 
 fn find_names<R: System, O: OutputStream, F: Write>(
     session: &mut Session<'_, '_, R, O, F>,
     names: Names<'_>,
     lookup: &mut LookupReport,
-) -> u8
-    ensures { RunsNames O.OutputStream names.entry.is_json session.old.output session.new.output result }
+) -> NamesEnd
+    ensures { FindsNames O.OutputStream names.entry.is_json session.old.output session.new.output result.status }
 {
     if names.is_json {
         return run_object(session, names, lookup);
@@ -46,7 +130,10 @@ fn find_names<R: System, O: OutputStream, F: Write>(
     let variables = Variables::read(rt);
     let wanted = wanted_of(names, variables.environment());
     let end = write_names(rt, alloc, &mut session.output, wanted, lookup);
-    report_names(session, end, lookup, names)
+    NamesEnd {
+        status: report_names(session, end, lookup, names),
+        is_found: end.is_ok(),
+    }
 }
 
 fn wanted_of<'a>(names: Names<'a>, environment: Environment<'a>) -> Wanted<'a> {
@@ -63,8 +150,8 @@ fn run_object<R: System, O: OutputStream, F: Write>(
     session: &mut Session<'_, '_, R, O, F>,
     names: Names<'_>,
     lookup: &mut LookupReport,
-) -> u8
-    ensures { ShowsNames O.OutputStream session.old.output session.new.output result }
+) -> NamesEnd
+    ensures { ShowsNames O.OutputStream session.old.output session.new.output result.status }
 {
     let (rt, alloc) = (session.system, session.alloc);
     let mut lines = ToWriter::new(Vec::new(alloc));
@@ -73,10 +160,23 @@ fn run_object<R: System, O: OutputStream, F: Write>(
     let end = write_names(rt, alloc, &mut lines, wanted, lookup);
     let status = report_names(session, end, lookup, names);
     if end.is_err() {
-        return FAULT;
+        return NamesEnd {
+            status: FAULT,
+            is_found: false,
+        };
     }
     let shown = show_object(session, names_object(alloc, names.host, lines.writer()));
-    if shown == DONE { status } else { shown }
+    if shown == DONE {
+        NamesEnd {
+            status,
+            is_found: true,
+        }
+    } else {
+        NamesEnd {
+            status: shown,
+            is_found: false,
+        }
+    }
 }
 
 // Prints the events: `he: 12 ms: AAAA answer: 2 addresses from 192.0.2.1`. A failed write is ignored.

@@ -9,6 +9,7 @@ use he_addr::Family;
 use he_course::Course;
 use he_inputs::{NotOneRace, StreamFault, read_one_race};
 use he_json::{write_explanation_json, write_machine_json, write_names_json};
+use he_record::Record;
 use he_stream::OutputStream;
 use he_tasks::Session;
 use he_tasks::reports::report;
@@ -60,7 +61,7 @@ pub(crate) fn race_object(alloc: Global, text: &[u8]) -> Result<Vec<u8>, StreamF
     let race = race_in(alloc, text)?;
     let course = course_of(alloc, &race)?;
     let mut object = Vec::new(alloc);
-    match write_explanation_json(alloc, &course, None, &mut object) {
+    match write_explanation_json(alloc, &course, &Record::none(alloc), None, &mut object) {
         Ok(()) => Ok(object),
         Err(_) => Err(StreamFault::Memory),
     }

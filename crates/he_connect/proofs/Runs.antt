@@ -8,18 +8,17 @@ use Rattle.he_live.specs.declared.endpoint.Endpoint.{Endpoint}
 use Rattle.he_turns.specs.declared.live.Raced.{Raced}
 use Rattle.he_turns.specs.Resolving.{ReplaysGiven}
 use Rattle.he_turns.specs.Winner.{GoesAt, WinnerGoes}
-use Rattle.he_write.specs.Written.{timeline_text}
 use Rattle.he_connect.specs.declared.request.ConnectRequest.{ConnectRequest}
-use Rattle.he_connect.specs.declared.request.Families.{Families}
 use Rattle.he_connect.specs.declared.fault.ConnectFault.{ConnectFault}
 use Rattle.he_connect.specs.declared.racing.FinishedRace.{FinishedRace}
 use Rattle.he_connect.specs.declared.setup.Setup.{Setup}
 use Rattle.he_connect.proofs.Heard.{IsOfHost}
 use Rattle.he_connect.specs.Races.{IsExplained, IsRun, IsSetUp, RunsFrom}
+use Rattle.he_connect.specs.Recorded.{IsRecordFor}
 
 pub ran_so : (request : ConnectRequest) (start : Race) (to : Endpoint) (raced : Raced Dialed) (result : Result FinishedRace ConnectFault)
     → ReplaysGiven start raced → WinnerGoes (goes_to to) raced → IsOfHost request start raced.recorded
-    → IfOk result (λ run. run.text.items ≡ timeline_text raced.recorded)
+    → IfOk result (λ run. IsRecordFor request raced.recorded raced.transcript run.text.items)
     → IfOk result (λ run. IsExplained request.explains raced.recorded run.story.items)
     → IfOk result (λ run. run.connection ≡ raced.winner)
     → IfOk result (λ run. RunsFrom request start to run.text.items run.story.items run.connection)
@@ -38,27 +37,6 @@ ran_so request start to raced (Ok run) replays goes of text story winner = recor
 }
 ran_so request start to raced (Err fault) replays goes of text story winner = tt
 
--- what is run for the request with other families is run for the request
-runs_for : (request asked : ConnectRequest) (tried : Families) (start : Race) (to : Endpoint) (run : FinishedRace)
-    → asked ≡ record request { families = tried } → RunsFrom asked start to run.text.items run.story.items run.connection
-    → RunsFrom request start to run.text.items run.story.items run.connection
-runs_for request asked tried start to run same runs =
-    let of : RunsFrom (record request { families = tried }) start to run.text.items run.story.items run.connection =
-    subst (λ (r : ConnectRequest). RunsFrom r start to run.text.items run.story.items run.connection) same runs in
-    record {
-      recorded = of.recorded;
-      kept = of.kept;
-      origin = of.origin;
-      comes = of.comes;
-      answers = of.answers;
-      report = of.report;
-      transcript = of.transcript;
-      written = of.written;
-      explained = of.explained;
-      won_so = of.won_so;
-      goes = of.goes;
-    }
-
 pub began_so : (request : ConnectRequest) (setup : Setup) (result : Result FinishedRace ConnectFault) → IsSetUp request setup
     → IfOk result (λ run. RunsFrom setup.request setup.start setup.to run.text.items run.story.items run.connection)
     → IfOk result (λ run. IsRun request run.text.items run.story.items run.connection)
@@ -67,6 +45,6 @@ began_so request setup (Ok run) is runs = record {
   start = setup.start;
   to = setup.to;
   begins = is.begins;
-  runs = runs_for request setup.request is.tried setup.start setup.to run is.same runs;
+  runs = subst (λ (r : ConnectRequest). RunsFrom r setup.start setup.to run.text.items run.story.items run.connection) is.same runs;
 }
 began_so request setup (Err fault) is runs = tt

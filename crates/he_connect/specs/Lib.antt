@@ -1,3 +1,4 @@
 pub mod Answers
 pub mod Races
+pub mod Recorded
 pub mod Start

@@ -16,17 +16,17 @@ use Rattle.he_resolver.specs.Heard.{Origin}
 use Rattle.he_settings.specs.Known.{FindsKnown, items_of}
 use Rattle.he_settings.specs.Scopes.{FindsScope}
 use Rattle.he_story.specs.Story.{Tells}
-use Rattle.he_write.specs.Written.{timeline_text}
 use Rattle.he_connect.specs.declared.request.ConnectRequest.{ConnectRequest}
 use Rattle.he_connect.specs.declared.request.Families.{Families}
 use Rattle.he_connect.specs.declared.request.Families.TheVariants as families
 use Rattle.he_connect.specs.declared.setup.Setup.{Setup}
 use Rattle.he_connect.specs.Answers.{AnswersOf, ComesFrom}
+use Rattle.he_connect.specs.Recorded.{IsRecordFor}
 use Rattle.he_connect.specs.Start.{Starts}
 
 -- the explanation of a race, if requested, is the story of its record's course
 abbrev pub IsExplained : Bool → Race → List ℕ → Type 0
-IsExplained true recorded story = (course : Course Global) × IsCourse recorded 1 1 course × Tells course [] story
+IsExplained true recorded story = (course : Course Global) × IsCourse recorded 1 1 course × Tells [] course [] story
 IsExplained false recorded story = story ≡ []
 
 -- the only family to try, if there is one
@@ -35,9 +35,9 @@ only_of families.Both = None
 only_of (families.Only family) = Some family
 
 -- a race with this start was run for the request: its record keeps the start and replays; each new answer has the
--- host's origin; the text is the record's, and so is the story, if requested. There is a connection exactly if the
--- race was won; it goes to the address of the winning line, at the port, and over the interface if that address is a
--- link-local one
+-- host's origin; the text is the record's, with its record lines, and the story, if requested, is the record's. There
+-- is a connection exactly if the race was won; it goes to the address of the winning line, at the port, and over the
+-- interface if that address is a link-local one
 pub record RunsFrom (request : ConnectRequest) (start : Race) (to : Endpoint) (text story : List ℕ)
     (connection : Option Dialed) : Type 0 where
   pub recorded : Race
@@ -47,7 +47,7 @@ pub record RunsFrom (request : ConnectRequest) (start : Race) (to : Endpoint) (t
   pub answers : AnswersOf origin start recorded
   pub report : Report
   pub transcript : IsTranscript recorded report
-  pub written : text ≡ timeline_text recorded
+  pub written : IsRecordFor request recorded report text
   pub explained : IsExplained request.explains recorded story
   pub won_so : is_some connection ≡ is_won report.result
   pub goes : IfSome connection (GoesAt (goes_to to) report.lines report.result)
@@ -81,4 +81,4 @@ pub record IsRun (request : ConnectRequest) (text story : List ℕ) (connection 
   pub start : Race
   pub to : Endpoint
   pub begins : Begins request tried start to
-  pub runs : RunsFrom request start to text story connection
+  pub runs : RunsFrom (record request { families = tried }) start to text story connection

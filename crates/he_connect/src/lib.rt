@@ -11,9 +11,11 @@
 //!   an empty answer for a family that isn't tried (`specs/Start`). The families are the requested ones, or one of
 //!   both.
 //! - The returned text is the record of a race that started like this, kept its start, and replays to its transcript;
-//!   the story, if requested, is that of this record. There is a connection exactly if the race was won; it was made
-//!   to the address of the winning line and the port and, if that address is a link-local one, over the interface in
-//!   the host's text (`IsRun` in `specs/Races`).
+//!   the story, if requested, is that of this record. Before the race the text has record lines: the requested host
+//!   and port, an attempt for each failed one of the transcript, and a look-up only for a family whose answer is
+//!   empty. It reads back as the race with these lines (`IsRecordFor` in `specs/Recorded`). There is a connection
+//!   exactly if the race was won; it was made to the address of the winning line and the port and, if that address is
+//!   a link-local one, over the interface in the host's text (`IsRun` in `specs/Races`).
 //! - Each answer of that record that the race did not start with has, if name servers are asked, the family's
 //!   addresses in a message's answer for a name to query for the host; if the host's addresses are known, those; or
 //!   none (`specs/Answers`).
@@ -22,9 +24,10 @@
 //!
 //! All this holds if the calls return: they wait for the system.
 //!
-//! Tested only: which addresses are found, that it connects, and when; which lines are read, and for which families
-//! this machine has a way; the text of the report and of each step; the sources that the kernel selects, and their
-//! report.
+//! Tested only: the time, the reasons of attempts and of look-ups, and the name servers in record lines, since they
+//! are noted in cells that the race shares; which addresses are found, that it connects, and when; which lines are
+//! read, and for which families this machine has a way; the text of the report and of each step; the sources that the
+//! kernel selects, and their report.
 #![tactic(auto)]
 
 mod families;
@@ -32,6 +35,7 @@ pub mod fault;
 mod kernel;
 pub mod lines;
 pub mod racing;
+pub mod recorded;
 pub mod request;
 pub mod setup;
 pub mod source;
@@ -42,6 +46,7 @@ mod tried;
 pub use fault::ConnectFault;
 pub use lines::read_lines;
 pub use racing::{FinishedRace, look_up, race};
+pub use recorded::{KnownFacts, facts_of};
 pub use request::{ConnectRequest, Families, Lines};
 pub use setup::{Setup, set_up};
 pub use source::{FamilyFaults, HostAnswers, LookupFaults, OwnMachine};

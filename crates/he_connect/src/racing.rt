@@ -1,26 +1,31 @@
 //! Runs the race of a requested connection on real sockets.
 ghost use Rattle.std.specs.Prelude.{◌≡◌, IfOk};
-ghost use Rattle.he_write.specs.Written.{timeline_text};
+ghost use Rattle.he_inputs.specs.Recorded.{IsRecordedAs};
+ghost use Rattle.he_recording.specs.Recorded.{recorded_text};
 ghost use Rattle.he_resolver.specs.Begins.{BeginsFor};
 ghost use Rattle.he_resolver.specs.Heard.{IsSound};
 ghost use Rattle.he_connect.specs.Races.{IsExplained, IsRun, KnowsHost, RunsFrom, only_of};
+ghost use Rattle.he_connect.specs.Recorded.{IsRecordFor};
 
 use crate::families::write_unusable;
 use crate::fault::ConnectFault;
 use crate::kernel::write_other_sources;
+use crate::recorded::{KnownFacts, facts_of};
 use crate::request::{ConnectRequest, Lines};
 use crate::setup::{Setup, set_up};
 use crate::source::{FamilyFaults, HostAnswers, LookupFaults, OwnMachine};
 use crate::telling::Telling;
 use crate::tried::write_tried;
 use he_course::Course;
-use he_live::{Dialed, ResolvingRequest, Steps, resolving_race_on};
+use he_live::{Dialed, ResolvingRequest, Steps, attempt_failures, resolving_race_on};
+use he_record::{Moment, Record};
+use he_recording::laws::recorded_reads_back;
+use he_recording::{ServerFailure, Target, moment_now, record_of, write_recorded};
 use he_resolver::{Lookup, SystemResolver};
 use he_settings::{NamesFault, Wanted};
 use he_story::write_story;
 use he_timeline::Timeline;
 use he_turns::Raced;
-use he_write::write_timeline;
 use std::alloc::{AllocGlobal, Global};
 use std::io::Write;
 use std::mem::drop;
@@ -35,7 +40,7 @@ use tokio::runtime::{Handle, LocalRuntime};
 /// A race run for a connection.
 #[derive(Drop)]
 pub struct FinishedRace {
-    /// The text of its record.
+    /// The text of its record: record lines, and the race.
     pub text: Vec<u8>,
     /// Its story, if requested.
     pub story: Vec<u8>,
@@ -98,8 +103,16 @@ where
         source,
         to: setup.to,
     };
+    let at = moment_now(rt);
     let raced = resolving_race_on(rt, alloc, &mut runtime, request, &steps, &telling)?;
-    end_with(rt, alloc, setup, why.families(), &steps, raced)
+    let servers = why.servers(alloc)?;
+    let notes = RaceNotes {
+        at,
+        why: why.families(),
+        servers: &servers,
+        steps: &steps,
+    };
+    end_with(rt, alloc, setup, notes, raced)
 }
 
 /// A look-up of the host in the event loop: of the addresses known by the set-up, or by queries.
@@ -139,15 +152,14 @@ fn end_with<R: Files + Net + AllocGlobal>(
     rt: &R,
     alloc: Global,
     setup: &Setup<'_>,
-    why: FamilyFaults,
-    steps: &Steps,
+    notes: RaceNotes<'_>,
     raced: Raced<Dialed>,
 ) -> Result<FinishedRace, ConnectFault>
-    ensures text { IfOk result (λ run. run.text.items ≡ timeline_text raced.recorded) }
+    ensures text { IfOk result (λ run. IsRecordFor setup.now.request raced.recorded raced.transcript run.text.items) }
     ensures story { IfOk result (λ run. IsExplained setup.now.request.explains raced.recorded run.story.items) }
     ensures winner { IfOk result (λ run. run.connection ≡ raced.winner) }
 {
-    let texts = texts_of(rt, alloc, setup, why, steps, &raced);
+    let texts = texts_of(rt, alloc, setup, notes, &raced);
     let Raced {
         transcript,
         recorded,
@@ -160,7 +172,7 @@ fn end_with<R: Files + Net + AllocGlobal>(
         text,
         story,
         told,
-        nameless: why.nameless(setup.request.families),
+        nameless: notes.why.nameless(setup.request.families),
         connection: winner,
     })
 }
@@ -169,18 +181,30 @@ fn texts_of<R: Files + Net + AllocGlobal>(
     rt: &R,
     alloc: Global,
     setup: &Setup<'_>,
-    why: FamilyFaults,
-    steps: &Steps,
+    notes: RaceNotes<'_>,
     raced: &Raced<Dialed>,
 ) -> Result<RaceTexts, ConnectFault>
-    ensures text { IfOk result (λ texts. texts.text.items ≡ timeline_text raced.now.recorded) }
+    ensures text { IfOk result (λ texts. IsRecordFor setup.now.request raced.now.recorded raced.now.transcript
+        texts.text.items) }
     ensures story { IfOk result (λ texts. IsExplained setup.now.request.explains raced.now.recorded
         texts.story.items) }
 {
+    let told = told_of(rt, alloc, setup, notes, raced)?;
+    let recorded = write_race(alloc, &setup.request, notes, raced)?;
+    let RecordTexts { text, story } = recorded;
+    Ok(RaceTexts { text, story, told })
+}
+
+// The report of the race, without the story.
+fn told_of<R: Files + Net + AllocGlobal>(
+    rt: &R,
+    alloc: Global,
+    setup: &Setup<'_>,
+    notes: RaceNotes<'_>,
+    raced: &Raced<Dialed>,
+) -> Result<Vec<u8>, ConnectFault> {
+    let RaceNotes { why, steps, .. } = notes;
     let request = &setup.request;
-    let mut text = Vec::new(alloc);
-    write_timeline(&raced.recorded, &mut text)?;
-    let story = explain(alloc, request.explains, &raced.recorded)?;
     let mut told = Vec::new(alloc);
     if request.tells_steps || request.lines == Lines::Machine {
         write_other_sources(rt, &setup.asked, setup.to.scope, raced, &mut told)?;
@@ -195,7 +219,62 @@ fn texts_of<R: Files + Net + AllocGlobal>(
             &mut told,
         )?;
     }
-    Ok(RaceTexts { text, story, told })
+    Ok(told)
+}
+
+// The text of the race with its record, and its story.
+fn write_race(
+    alloc: Global,
+    request: &ConnectRequest<'_>,
+    notes: RaceNotes<'_>,
+    raced: &Raced<Dialed>,
+) -> Result<RecordTexts, ConnectFault>
+    ensures text { IfOk result (λ texts. IsRecordFor request.now raced.now.recorded raced.now.transcript
+        texts.text.items) }
+    ensures story { IfOk result (λ texts. IsExplained request.now.explains raced.now.recorded texts.story.items) }
+{
+    let attempts = attempt_failures(alloc, raced.transcript.attempts(), notes.steps)?;
+    let target = target_of(request);
+    let known = KnownFacts {
+        at: notes.at,
+        why: notes.why,
+        servers: notes.servers,
+        attempts: &attempts,
+    };
+    let facts = facts_of(target, request.families, &raced.recorded, known);
+    let record = record_of(alloc, &facts)?;
+    let texts = write_texts(alloc, request.explains, &record, &raced.recorded);
+    drop(record);
+    texts
+}
+
+// What is requested, as in a record.
+fn target_of<'a>(request: &ConnectRequest<'a>) -> Target<'a>
+    ensures host { result.host.now ≡ request.now.host.now }
+    ensures port { result.port ≡ request.now.port }
+{
+    Target {
+        host: request.host.as_bytes(),
+        port: request.port,
+    }
+}
+
+// The text of a race with its record, and its story, if requested.
+fn write_texts(
+    alloc: Global,
+    explains: bool,
+    told: &Record<'_>,
+    recorded: &Timeline,
+) -> Result<RecordTexts, ConnectFault>
+    ensures text { IfOk result (λ texts. texts.text.items ≡ recorded_text told.now recorded.now) }
+    ensures reads { IsRecordedAs (recorded_text told.now recorded.now) told.now recorded.now }
+    ensures story { IfOk result (λ texts. IsExplained explains recorded.now texts.story.items) }
+{
+    recorded_reads_back(told, recorded);
+    let mut text = Vec::new(alloc);
+    write_recorded(told, recorded, &mut text)?;
+    let story = explain(alloc, explains, recorded)?;
+    Ok(RecordTexts { text, story })
 }
 
 // The story of a race, if requested.
@@ -207,8 +286,25 @@ fn explain(alloc: Global, is_asked: bool, recorded: &Timeline) -> Result<Vec<u8>
     }
     let course = Course::of(alloc, recorded, 1, 1)?;
     let mut story = Vec::new(alloc);
-    write_story(alloc, &course, &mut story)?;
+    write_story(alloc, &course, &Record::none(alloc), &mut story)?;
     Ok(story)
+}
+
+// The notes of a race that has ended.
+#[derive(Clone, Copy)]
+struct RaceNotes<'n> {
+    // The time of tick 0.
+    at: Option<Moment>,
+    why: FamilyFaults,
+    servers: &'n [ServerFailure],
+    steps: &'n Steps,
+}
+
+// The text and the story of a race.
+#[derive(Drop)]
+struct RecordTexts {
+    text: Vec<u8>,
+    story: Vec<u8>,
 }
 
 // The texts of a race.

@@ -3,15 +3,19 @@ ghost use Rattle.std.specs.Prelude.{◌≡◌, IfOk, is_some, true};
 ghost use Rattle.he_turns.specs.Heard.{lists_of};
 ghost use Rattle.he_resolver.specs.Heard.{ttl_in};
 ghost use Rattle.he_connect.specs.Answers.{HasLines, IsAnswerOf, IsToldOf};
+ghost use Rattle.he_connect.specs.Recorded.{fault_of};
 
 use crate::request::Families;
 use crate::setup::Setup;
 use crate::telling::LookupWatcher;
 use futures::task::{Context, Poll};
 use he_addr::{Family, Ip, Memory};
-use he_asking::LookupLog;
+use he_asking::limits::MOST_EVENTS;
+use he_asking::{LookupEvent, LookupLog};
+use he_failures::failed_servers;
 use he_kernel::asked::AskedWays;
 use he_kernel::taken::find_machine_of;
+use he_recording::ServerFailure;
 use he_resolver::Lookup;
 use he_settings::{NamesFault, first_fault};
 use he_turns::{Answer, AnswerSource, Known, nothing_known};
@@ -23,7 +27,8 @@ use std::rc::Rc;
 use std::rt::Files;
 use std::time::Clock;
 
-/// Why each family has no address, shared by the look-up of one race and the report of its end.
+/// Why each family has no address, and the events of the look-up: shared by the look-up of one race and the report of
+/// its end.
 #[derive(Drop)]
 pub struct LookupFaults {
     shared: Rc<FaultCells>,
@@ -33,6 +38,8 @@ pub struct LookupFaults {
 struct FaultCells {
     six: Cell<Option<NamesFault>>,
     four: Cell<Option<NamesFault>>,
+    // The events of the look-up.
+    events: Cell<Option<Vec<LookupEvent>>>,
 }
 
 impl LookupFaults {
@@ -45,6 +52,7 @@ impl LookupFaults {
         let cells = FaultCells {
             six: Cell::new(None),
             four: Cell::new(None),
+            events: Cell::new(None),
         };
         Ok(LookupFaults {
             shared: Rc::new(alloc, cells)?,
@@ -70,6 +78,34 @@ impl LookupFaults {
         }
     }
 
+    /// The name servers that gave no answer so far.
+    ///
+    /// # Errors
+    ///
+    /// `Memory` if an allocation fails.
+    pub fn servers(&self, alloc: Global) -> Result<Vec<ServerFailure>, Memory> {
+        let Some(events) = self.shared.events.replace(None) else {
+            return Ok(Vec::new(alloc));
+        };
+        let servers = failed_servers(alloc, &events);
+        self.shared.events.set(Some(events));
+        servers
+    }
+
+    // Takes events of the look-up. They are lost if an allocation fails.
+    fn hear(&self, new: Vec<LookupEvent>) {
+        let events = match self.shared.events.replace(None) {
+            None => new,
+            Some(mut events) => {
+                if events.len() < MOST_EVENTS {
+                    let _ = events.extend_from_slice(&new);
+                }
+                events
+            }
+        };
+        self.shared.events.set(Some(events));
+    }
+
     fn note(&self, family: Family, fault: NamesFault) {
         match family {
             Family::V6 => self.shared.six.set(Some(fault)),
@@ -87,7 +123,9 @@ pub struct FamilyFaults {
 
 impl FamilyFaults {
     /// Why the family has no address; None if it has some, or was not answered in time.
-    pub fn of(self, family: Family) -> Option<NamesFault> {
+    pub fn of(self, family: Family) -> Option<NamesFault>
+        ensures { result ≡ fault_of self family }
+    {
         match family {
             Family::V6 => self.six,
             Family::V4 => self.four,
@@ -150,7 +188,7 @@ where
     W: LookupWatcher,
 {
     /// The answers of the look-up; with `machine`, each has this machine's lines for its first 32 addresses. Why a
-    /// family has none is recorded in `why`.
+    /// family has none is recorded in `why`, and so are the events of the look-up.
     ///
     /// # Errors
     ///
@@ -250,7 +288,9 @@ where
 
     fn poll_answer(&mut self, family: Family, now: u64, cx: &mut Context<'_>) -> Poll<Answer> {
         let polled = self.lookup.poll_answer(family, cx);
-        self.watcher.tell_lookup(&self.log, now);
+        let events = self.log.take();
+        self.watcher.tell_lookup(&events, now);
+        self.why.hear(events);
         match polled {
             Poll::Pending => Poll::Pending,
             Poll::Ready(told) => Poll::Ready(self.answer_of(family, told)),

@@ -3,7 +3,7 @@
 use crate::request::ConnectRequest;
 use crate::tried::write_reason;
 use he_addr::{Memory, write_ip, write_number};
-use he_asking::{LookupEvent, LookupEventKind, LookupLog};
+use he_asking::{LookupEvent, LookupEventKind};
 use he_live::{Quiet, Step, StepKind, Watcher};
 use std::alloc::Global;
 use std::cell::Cell;
@@ -12,7 +12,7 @@ use std::io::Write;
 /// Gets the events of a look-up, each time after the race has polled it.
 pub trait LookupWatcher: Drop {
     /// Takes the events since the last call, at the race's tick.
-    fn tell_lookup(&self, log: &LookupLog, tick: u64);
+    fn tell_lookup(&self, events: &[LookupEvent], tick: u64);
 
     /// Takes lines about files of this machine that can't be read, and destinations that the kernel can't be asked
     /// for.
@@ -20,7 +20,7 @@ pub trait LookupWatcher: Drop {
 }
 
 impl LookupWatcher for Quiet {
-    fn tell_lookup(&self, _log: &LookupLog, _tick: u64) {}
+    fn tell_lookup(&self, _events: &[LookupEvent], _tick: u64) {}
 
     fn tell_remarks(&self, _remarks: &[u8]) {}
 }
@@ -53,8 +53,8 @@ impl<'f, F> Telling<'f, F> {
 // A look-up goes on only when the race polls it, so all lines are in one order. The family that is not queried was
 // printed before.
 impl<'h, 'f, F: Write> LookupWatcher for &'h Telling<'f, F> {
-    fn tell_lookup(&self, log: &LookupLog, tick: u64) {
-        for event in log.take().iter() {
+    fn tell_lookup(&self, events: &[LookupEvent], tick: u64) {
+        for event in events {
             if self.tells_lookup && event.kind != LookupEventKind::NotAsked {
                 self.tell_event(*event, tick);
             }

@@ -27,5 +27,5 @@ pub use giving_up::{GivenUp, given_up_at};
 pub use known::{KnownAddresses, KnownAtStart, Learnt};
 pub use recent::{PAGE_RACES, Recent, Shown};
 pub use record::{RecordName, Records};
-pub use stamp::{second_now, stamp_now};
+pub use stamp::{second_now, stamp_now, stamp_of};
 pub use trouble::Trouble;

@@ -3,6 +3,7 @@
 use he_addr::{Family, Memory};
 use he_course::Course;
 use he_draw::{Times, Totals, write_head, write_name, write_section, write_tail};
+use he_record::Record;
 use he_timeline::Timeline;
 use std::alloc::Global;
 use std::cell::Cell;
@@ -62,7 +63,7 @@ fn write_races(alloc: Global, races: &[Shown], out: &mut Vec<u8>) -> Result<(), 
     for (place, race) in races.iter().rev().enumerate() {
         let course = Course::of(alloc, &race.recorded, place.saturating_add(1), 1)?;
         write_name(race.name.as_str(), out)?;
-        write_section(&course, 0, out)?;
+        write_section(&course, &Record::none(alloc), 0, out)?;
         counts.add(&course)?;
     }
     write_tail(counts.totals()?, out)

@@ -1,6 +1,7 @@
 //! Times, in UTC.
 
 use he_addr::Memory;
+use he_record::Moment;
 use jiff::Timestamp;
 use std::alloc::Global;
 use std::time::Clock;
@@ -9,6 +10,19 @@ use std::time::Clock;
 pub fn stamp_now<R: Clock>(rt: &R, alloc: Global) -> Option<String> {
     let now = Timestamp::now(rt).ok()?;
     format!(in alloc; "{now:.3}").ok()
+}
+
+/// The time as in RFC 3339, with milliseconds, as from [`stamp_now`].
+///
+/// # Errors
+///
+/// `Memory` if an allocation fails.
+pub fn stamp_of(alloc: Global, at: Moment) -> Result<String, Memory> {
+    let mut stamp = String::new(alloc);
+    for byte in at.text() {
+        stamp.push(char::from(byte))?;
+    }
+    Ok(stamp)
 }
 
 /// Whole seconds since 1970, by the system clock. None if the clock fails, or is before 1970.

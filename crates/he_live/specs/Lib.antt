@@ -2,3 +2,4 @@ pub mod Live
 pub mod Reasons
 pub mod Reading
 pub mod Dials
+pub mod Recorded

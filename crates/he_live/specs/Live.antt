@@ -1,16 +1,18 @@
 -- The result of a race on real sockets, and the text that is written for one.
-use Rattle.std.specs.Prelude.{ℕ, ◌≡◌, ◌⊎◌, ⊤, ◌++◌, Bool, List, [], ◌∷◌, None, Result, Ok, Err}
+use Rattle.std.specs.Prelude.{ℕ, ◌≡◌, ◌⊎◌, ⊤, ◌++◌, Bool, List, [], None, Result, Ok, Err}
 use Rattle.he_plan.specs.Agreement.{AreAlike}
 use Rattle.he_timeline.specs.Changes.{ChangeValues, changed}
 use Rattle.he_timeline.specs.Race.{Race}
 use Rattle.he_plan.specs.Transcript.{IsTranscript, Report}
 use Rattle.he_plan.specs.declared.transcript.Outcome3.{Outcome3}
 use Rattle.he_inputs.specs.Inputs.{GivesNone, GivesOne, StopsNone}
-use Rattle.he_write.specs.Written.{timeline_text, transcript_text}
+use Rattle.he_write.specs.Written.{transcript_text}
 use Rattle.he_inputs.specs.declared.input_fault.InputFault.TheVariants as inputs
 use Rattle.he_inputs.specs.declared.inputs.NotOneRace.{NotOneRace}
 use Rattle.he_inputs.specs.declared.inputs.NotOneRace.TheVariants as ones
+use Rattle.he_recording.specs.declared.facts.Facts.{Facts}
 use Rattle.he_live.specs.Reasons.{AreFailed}
+use Rattle.he_live.specs.Recorded.{IsRaceRecord}
 use Rattle.he_live.specs.declared.recording.LiveReport.{LiveReport}
 use Rattle.he_live.specs.declared.fault.LiveFault.{LiveFault}
 use Rattle.he_live.specs.declared.fault.LiveFault.TheVariants as faults
@@ -28,6 +30,19 @@ run_fault TooManyFilesInSystem = faults.Files
 run_fault OutOfMemory = faults.Memory
 run_fault reason = faults.Runtime
 
+-- the record has no other lines than the time and the attempts
+pub record IsOwnRace (facts : Facts) : Type 0 where
+  pub to : facts.to ≡ None
+  pub from : facts.from ≡ None
+  pub six : facts.six ≡ None
+  pub four : facts.four ≡ None
+  pub servers : facts.servers.now ≡ []
+  pub end : facts.end ≡ None
+
+-- the text of a race and its record, with the failed attempts of the transcript
+abbrev pub IsOwnRecord : Race → Report → List ℕ → Type 0
+IsOwnRecord recorded report text = (facts : Facts) × IsOwnRace facts × IsRaceRecord facts recorded report text
+
 -- the text of a race, the report of it, and its result: the text is the transcript and then the record, which has the
 -- race's settings, policy, host, answers and history, and which replays to this transcript
 pub record IsLiveText (race : Race) (text : List ℕ) (told : LiveReport) (result : Outcome3) : Type 0 where
@@ -36,7 +51,7 @@ pub record IsLiveText (race : Race) (text : List ℕ) (told : LiveReport) (resul
   pub alike : AreAlike race recorded
   pub transcript : IsTranscript recorded report
   pub written : text ≡ transcript_text report ++ told.record.items
-  pub record_text : told.record.items ≡ timeline_text recorded
+  pub record_text : IsOwnRecord recorded report told.record.items
   pub failures : AreFailed report.lines told.failed.items
   pub ended : result ≡ report.result
 

@@ -21,11 +21,14 @@
 //!
 //! `Dialed::into_stream` gives std's stream, whose reads and writes block; nothing else of the race is left.
 //! `raced.transcript` is the course of the race. `raced.recorded` is the record, which `write_timeline` (`he_write`)
-//! turns into a text for `he replay`. [`failed_attempts`] gives the reasons of failed attempts.
+//! turns into a text for `he replay`. [`failed_attempts`] gives the reasons of failed attempts, and
+//! [`attempt_failures`] their words in record lines, which `he_recording` writes.
 //!
 //! [`live_race`] makes and ends its own event loop; [`live_race_on`] takes one of the crate `tokio`. Where answers
 //! come during the race, as from a resolver, [`resolving_race_on`] asks a source for them, and reports each step to a
 //! [`Watcher`]. Its [`Endpoint`] also has the interface for link-local IPv6 addresses, which a timeline doesn't have.
+//!
+//! [`probe_on`] connects to each of some addresses, one after another at a pace, and reports the outcome of each.
 //!
 //! A race that is one task of several in an event loop uses its parts: [`LiveTicker`], [`socket_of`] and [`Steps`],
 //! with its own connector.
@@ -44,11 +47,16 @@
 //!   answers, begins with the given host and history, and has the source's answers for the other families
 //!   (`ReplaysGiven` and `IsOfSource` of `he_turns`).
 //! - [`live`] writes the transcript's text and then the record's, for the input's one race with the given changes of
-//!   its settings, and returns the record's text. It makes all of it before it writes the first byte; after any fault
+//!   its settings, and returns the record's text. Its record lines are a time and an attempt for each failed attempt
+//!   of the transcript, with the word for its reason; the text reads back as the race with these lines
+//!   (`IsRaceRecord` in `specs/Recorded`). It makes all of it before it writes the first byte; after any fault
 //!   but `Write` nothing is written. `Text`, `Read` and `OneRace` come only if the input has this fault
 //!   (`specs/Live`). It reports each failed attempt of the transcript, and no other, by place and address.
-//! - The reason for each error of the system, which reasons concern this machine only, and the lines that report
-//!   failed attempts ([`Reason::of`], [`Reason::is_local`], [`write_failures`]; `specs/Reasons`).
+//! - [`probe_on`] returns a row for each address, in their order; each row has the outcome that its own attempt gave, or
+//!   none if the attempt was pending at its end (`he_probe`).
+//! - The reason for each error of the system, which reasons concern this machine only, the word of each reason in a
+//!   record line, and the lines that report failed attempts ([`Reason::of`], [`Reason::is_local`],
+//!   [`Reason::attempt_reason`], [`write_failures`]; `specs/Reasons`, `specs/Recorded`).
 //!
 //! All this holds if the call returns: it waits for the system.
 //!
@@ -63,8 +71,10 @@ mod dialing;
 pub mod endpoint;
 pub mod failures;
 pub mod fault;
+pub mod probing;
 pub mod racing;
 pub mod reason;
+pub mod recorded;
 pub mod recording;
 pub mod sockets;
 mod start;
@@ -75,8 +85,10 @@ pub use dialed::Dialed;
 pub use endpoint::Endpoint;
 pub use failures::{FailedAttempt, failed_attempts, first_local, write_failures};
 pub use fault::LiveFault;
+pub use probing::{ProbeRequest, probe_on};
 pub use racing::{ResolvingRequest, live_race, live_race_on, resolving_race_on};
 pub use reason::Reason;
+pub use recorded::attempt_failures;
 pub use recording::{LiveReport, live};
 pub use sockets::socket_of;
 pub use steps::{Quiet, Step, StepKind, Steps, Watcher};

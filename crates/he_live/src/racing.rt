@@ -146,7 +146,7 @@ where
     }
 }
 
-fn fault_of(fault: RaceFault) -> LiveFault
+pub(crate) fn fault_of(fault: RaceFault) -> LiveFault
     ensures { IsRunFault result }
 {
     match fault {

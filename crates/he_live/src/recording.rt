@@ -2,21 +2,23 @@
 ghost use Rattle.std.specs.Prelude.{◌≡◌, [], IfErr, IfOk};
 ghost use Rattle.he_stream.specs.Input.{Gives, GivesSoFar};
 ghost use Rattle.he_stream.specs.Output.{PutsPart, PutsWhole};
-ghost use Rattle.he_write.specs.Written.{timeline_text};
-ghost use Rattle.he_live.specs.Live.{IsLiveText, IsRunFault, KeepsReport, Lives};
+ghost use Rattle.he_live.specs.Live.{IsLiveText, IsOwnRace, IsOwnRecord, IsRunFault, KeepsReport, Lives};
 ghost use Rattle.he_live.specs.Reading.{IsTold};
 
 use crate::dialed::Dialed;
 use crate::failures::{FailedAttempt, failed_attempts};
 use crate::fault::LiveFault;
 use crate::racing::live_race;
+use crate::recorded::attempt_failures;
 use crate::steps::Steps;
 use he_inputs::take_one_race;
 use he_plan::Outcome3;
+use he_record::Moment;
+use he_recording::{AttemptFailure, Facts, moment_now, text_of};
 use he_stream::{InputStream, OutputStream, write_whole};
 use he_timeline::{Changes, Timeline};
 use he_turns::Raced;
-use he_write::{write_timeline, write_transcript};
+use he_write::write_transcript;
 use std::alloc::{AllocGlobal, Global};
 use std::mem::drop;
 use std::net::Net;
@@ -27,8 +29,8 @@ use std::time::Clock;
 /// The results of a live race beside its output.
 #[derive(Drop)]
 pub struct LiveReport {
-    /// The record: a timeline text that replays to the transcript, as in the output after the transcript. Empty if no
-    /// race was run.
+    /// The record: a timeline text that replays to the transcript, as in the output after the transcript, with record
+    /// lines: the time of tick 0, and why each failed attempt failed. Empty if no race was run.
     pub record: Vec<u8>,
     /// The failed attempts, by place, each with its reason.
     pub failed: Vec<FailedAttempt>,
@@ -116,17 +118,23 @@ where
     ensures fault { IfErr result IsRunFault }
 {
     let steps = Steps::new(alloc)?;
+    let at = moment_now(rt);
     let raced = live_race(rt, alloc, timeline, port, &steps)?;
-    let run = tell_race(alloc, &raced, &steps);
+    let run = tell_race(alloc, &raced, &steps, at);
     drop(raced);
     run
 }
 
-fn tell_race(alloc: Global, raced: &Raced<Dialed>, steps: &Steps) -> Result<LiveOutput, LiveFault>
+fn tell_race(
+    alloc: Global,
+    raced: &Raced<Dialed>,
+    steps: &Steps,
+    at: Option<Moment>,
+) -> Result<LiveOutput, LiveFault>
     ensures text { IfOk result (IsTold raced.now.transcript raced.now.recorded) }
     ensures fault { IfErr result IsRunFault }
 {
-    let record = record_text(alloc, &raced.recorded)?;
+    let record = own_record(alloc, raced, steps, at)?;
     let mut text = Vec::new(alloc);
     write_transcript(&raced.transcript, &mut text)?;
     text.extend_from_slice(&record)?;
@@ -140,11 +148,28 @@ fn tell_race(alloc: Global, raced: &Raced<Dialed>, steps: &Steps) -> Result<Live
     })
 }
 
-fn record_text(alloc: Global, recorded: &Timeline) -> Result<Vec<u8>, LiveFault>
-    ensures text { IfOk result (λ text. text.items ≡ timeline_text recorded.now) }
+// The text of the race with its record.
+fn own_record(
+    alloc: Global,
+    raced: &Raced<Dialed>,
+    steps: &Steps,
+    at: Option<Moment>,
+) -> Result<Vec<u8>, LiveFault>
+    ensures text { IfOk result (λ text. IsOwnRecord raced.now.recorded raced.now.transcript text.items) }
     ensures fault { IfErr result IsRunFault }
 {
-    let mut text = Vec::new(alloc);
-    write_timeline(recorded, &mut text)?;
+    let attempts = attempt_failures(alloc, raced.transcript.attempts(), steps)?;
+    let facts = own_facts(at, &attempts);
+    let text = text_of(alloc, &facts, &raced.recorded)?;
     Ok(text)
+}
+
+fn own_facts<'f>(at: Option<Moment>, attempts: &'f [AttemptFailure]) -> Facts<'f>
+    ensures own { IsOwnRace result }
+    ensures attempts { result.attempts ≡ attempts.entry }
+{
+    Facts {
+        attempts,
+        ..Facts::at(at)
+    }
 }

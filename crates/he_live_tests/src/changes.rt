@@ -37,6 +37,20 @@ set limit 30000
 set floor 20
 ";
 
+// The record lines after that of the time.
+const REFUSED_LINES: &[u8] = b"record attempt 127.0.0.1 refused
+record attempt 127.0.0.2 refused
+";
+
+// Whether a record has the time, both failed attempts, and then these lines.
+fn begins_with(record: &[u8], lines: &[u8]) -> bool {
+    let Some(end) = record.iter().position(|byte| *byte == b'\n') else {
+        return false;
+    };
+    let after = record[end + 1..].strip_prefix(REFUSED_LINES);
+    record.starts_with(b"record at ") && after.is_some_and(|race| race.starts_with(lines))
+}
+
 // Whether the race, run with these changes, takes at least this number of milliseconds, and its record begins with
 // these lines and replays.
 fn is_run<R: Lender + Net>(
@@ -63,7 +77,7 @@ fn is_run<R: Lender + Net>(
         Some(transcript) => replays(rt, transcript, &told.record),
         None => Ok(false),
     };
-    let is_recorded = told.record.starts_with(lines) && told.failed.len() == 2;
+    let is_recorded = begins_with(&told.record, lines) && told.failed.len() == 2;
     drop(told);
     let is_replayed = is_replayed?;
     Ok(is_late && is_recorded && is_replayed)

@@ -1,7 +1,7 @@
 //! Tests of `he_live` on real sockets, of loopback alone: races with servers that listen, refuse or stay silent, or
 //! whose addresses come while they run, that their records replay, that no socket of a race is left but the winner's,
-//! the state that each fault leaves, the effect of changed settings, a clock that fails, and that the interface of a
-//! link-local address reaches connect(2).
+//! the state that each fault leaves, the effect of changed settings, a clock that fails, that the interface of a
+//! link-local address reaches connect(2), and that a probe has the outcome of each address.
 #![tactic(auto)]
 
 #[cfg(test)]
@@ -14,6 +14,8 @@ mod faults;
 mod homes;
 #[cfg(test)]
 mod interfaces;
+#[cfg(test)]
+mod probes;
 #[cfg(test)]
 mod races;
 #[cfg(test)]

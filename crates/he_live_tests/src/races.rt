@@ -51,8 +51,8 @@ end
 
 const OPEN: Ipv4Addr = Ipv4Addr::LOCALHOST;
 
-// The first line of a record.
-const RECORD: &[u8] = b"race 1\n";
+// The beginning of a record.
+const RECORD: &[u8] = b"record at ";
 
 // More connections than a listener's queue takes.
 const CROWD: usize = 200;
@@ -99,8 +99,8 @@ const NOBODY: Wanted<'static> = Wanted {
     reason: Reason::Refused,
 };
 
-// The address of the silent server: its listener's queue is full.
-fn dead_ip() -> IpAddr {
+/// The address of the silent server: its listener's queue is full.
+pub fn dead_ip() -> IpAddr {
     IpAddr::V4(Ipv4Addr::new(127, 0, 0, 2))
 }
 
@@ -136,8 +136,8 @@ fn servers_listen_or_refuse(rt: HostRuntime) -> Result<(), Fail> {
     Ok(())
 }
 
-// `CROWD` connections to the address, none of which is accepted.
-fn crowd<R: Lender + Net<Listener = TcpListener, Stream = StdStream>>(
+/// `CROWD` connections to the address, none of which is accepted.
+pub fn crowd<R: Lender + Net<Listener = TcpListener, Stream = StdStream>>(
     rt: &R,
     runtime: &LocalRuntime,
     port: u16,

@@ -3,5 +3,6 @@ pub mod Dials
 pub mod Kept
 pub mod Limits
 pub mod Races
+pub mod Recorded
 pub mod Sockets
 pub mod Sources

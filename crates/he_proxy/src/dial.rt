@@ -75,6 +75,20 @@ impl<'h, N: Net> LoopConnector<'h, N> {
     }
 }
 
+impl<'h, N: Net> LoopConnector<'h, N> {
+    // Notes that the proxy forbids the attempt, if there is memory for it.
+    fn note_forbidden(&self, place: usize, ip: Ip, now: u64) {
+        if let Ok(steps) = self.steps.for_attempt() {
+            steps.note(Step {
+                place,
+                ip,
+                tick: now,
+                what: StepKind::Failed(Reason::Prohibited),
+            });
+        }
+    }
+}
+
 impl<'h, N: Net> Connector for LoopConnector<'h, N> {
     type Conn = Joined;
 
@@ -91,6 +105,7 @@ impl<'h, N: Net> Connector for LoopConnector<'h, N> {
     fn begin(&mut self, place: usize, ip: Ip, now: u64) -> Result<LoopTrial, AttemptFault> {
         let way = self.asked.way(self.net, ip, self.to.scope);
         if !self.reach.has(way, self.to.port) {
+            self.note_forbidden(place, ip, now);
             return Err(AttemptFault::Begin);
         }
         let Ok(steps) = self.steps.for_attempt() else {

@@ -1,25 +1,27 @@
 //! The result of an ended race, and its record.
 ghost use Rattle.std.specs.Prelude.{◌≡◌, IfOk, IfSome};
-ghost use Rattle.he_write.specs.Written.{timeline_text};
 ghost use Rattle.he_proxy.specs.Races.{IsWinner, IsWonOf};
+ghost use Rattle.he_proxy.specs.Recorded.{IsRecordOf, IsSessionFacts, client_ip, end_of};
 
-use crate::access::Reach;
+use crate::access::{Reach, ip_of};
 use crate::dial::Joined;
 use crate::sockets::{Noted, SharedLoop};
 use he_addr::{Ip, Memory};
-use he_connect::Families;
+use he_connect::{Families, KnownFacts, facts_of};
 use he_course::Course;
 use he_front::Ended;
 use he_history::{
     GivenUp, KnownAddresses, Learnt, Recent, RecordName, Records, Shown, given_up_at,
 };
 use he_kernel::sockets::NO_SCOPE;
+use he_live::attempt_failures;
 use he_log::{Facts, Lost, SessionFacts};
 use he_plan::{Line, Mark, Outcome3, Transcript};
+use he_record::{ClientEnd, Moment};
+use he_recording::{Facts as RecordFacts, Target, text_of};
 use he_sessions::{Winner, Won};
 use he_timeline::Timeline;
 use he_turns::Raced;
-use he_write::write_timeline;
 use std::alloc::{AllocGlobal, Global};
 use std::cell::Cell;
 use std::mem::drop;
@@ -47,6 +49,8 @@ pub struct Keeping<'h, R> {
     pub left: &'h Cell<Option<SocketAddr>>,
     /// When it began, as in the name of its record.
     pub began: String,
+    /// The time of its tick 0.
+    pub at: Option<Moment>,
     pub host: String,
     pub port: u16,
     pub reach: Reach<'h>,
@@ -142,7 +146,7 @@ impl<'h, R: Clock + Files + RandomSource + AllocGlobal + Net + Copy> Keeping<'h,
         let alloc = self.shared.alloc;
         let mut facts = Facts::none(alloc);
         facts.began = String::from_str(alloc, self.began.as_str()).ok();
-        facts.record = self.record(recorded);
+        facts.record = self.record(recorded, transcript, given_up);
         facts.names = transcript.attempts().first().map(|line| line.tick);
         if lost.is_some() || given_up.is_some() {
             facts.tried = tried_in(alloc, transcript.attempts());
@@ -154,16 +158,62 @@ impl<'h, R: Clock + Files + RandomSource + AllocGlobal + Net + Copy> Keeping<'h,
 
     // Writes the record, if records are kept, and returns the name of its file. If it can't be written, the session
     // goes on, and the log has the reason.
-    fn record(&self, recorded: &Timeline) -> Option<String> {
+    fn record(
+        &self,
+        recorded: &Timeline,
+        transcript: &Transcript,
+        given_up: Option<u64>,
+    ) -> Option<String> {
         let records = self.records?;
-        let mut text = Vec::new(self.shared.alloc);
-        write_timeline(recorded, &mut text).ok()?;
+        let text = self.text_of(recorded, transcript, given_up).ok()?;
         let name = RecordName {
             began: self.began.as_str(),
             host: self.host.as_str(),
             port: self.port,
         };
         records.keep(self.shared.rt, name, text.as_slice())
+    }
+
+    // The text of the race with its record.
+    fn text_of(
+        &self,
+        recorded: &Timeline,
+        transcript: &Transcript,
+        given_up: Option<u64>,
+    ) -> Result<Vec<u8>, Memory>
+        ensures { IfOk result (λ text. IsRecordOf self.now given_up recorded.now transcript.now text.items) }
+    {
+        let alloc = self.shared.alloc;
+        let servers = self.noted.why.servers(alloc)?;
+        let attempts = attempt_failures(alloc, transcript.attempts(), &self.noted.steps)?;
+        let known = KnownFacts {
+            at: self.at,
+            why: self.noted.why.families(),
+            servers: &servers,
+            attempts: &attempts,
+        };
+        let facts = self.facts_of(recorded, known, given_up);
+        text_of(alloc, &facts, recorded)
+    }
+
+    // The facts of the race: those of a race of he_connect, its client, and when that left.
+    fn facts_of<'f>(
+        &'f self,
+        recorded: &Timeline,
+        known: KnownFacts<'f>,
+        given_up: Option<u64>,
+    ) -> RecordFacts<'f>
+        ensures { IsSessionFacts self.now given_up recorded.now known.entry result }
+    {
+        let target = Target {
+            host: self.host.as_bytes(),
+            port: self.port,
+        };
+        RecordFacts {
+            from: Some(client_ip(self.client)),
+            end: end_of(given_up),
+            ..facts_of(target, self.families, recorded, known)
+        }
     }
 
     // Shows the race on the page of the last races.
@@ -259,3 +309,25 @@ fn winner_of(alloc: Global, raced: &Raced<Joined>) -> Result<Option<Winner>, Mem
         None => Ok(None),
     }
 }
+
+// The client gave the race up at this tick.
+fn end_of(given_up: Option<u64>) -> Option<ClientEnd>
+    ensures { result ≡ end_of given_up }
+{
+    given_up.map(ClientEnd::GaveUp)
+}
+
+// The client's address; of an IPv4 client of an IPv6 socket its IPv4 address.
+fn client_ip(client: SocketAddr) -> Ip
+    ensures { result ≡ client_ip client }
+{
+    match ip_of(client.ip()) {
+        Ip::V6(bits) if MAPPED <= bits && bits <= LAST_MAPPED => Ip::V4((bits - MAPPED) as u32),
+        ip => ip,
+    }
+}
+
+// ::ffff:0:0/96.
+const MAPPED: u128 = 0xffff_0000_0000;
+
+const LAST_MAPPED: u128 = 0xffff_ffff_ffff;

@@ -33,7 +33,11 @@
 //! - A look-up's answer is cached for the race's own host and family, with the answer's addresses and TTL
 //!   (`to_keep`). A cached answer that a race gets was cached for its own host and family (`AreKeptFor` in
 //!   `specs/Kept`), by a look-up less than its TTL ago (`he_kept`).
-//! - The records, history and log lines of a race are as specified by `he_history` and `he_log`.
+//! - The text of a race's record has the session's host and port, its client's address, the tick at which the client
+//!   left if it did, an attempt for each failed one of the transcript, and a look-up only for a family whose answer is
+//!   empty. It reads back as the race with these lines (`IsRecordOf` in `specs/Recorded`).
+//! - The history and log lines of a race, and the record of one that was given up, are as specified by `he_history` and
+//!   `he_log`.
 //! - A running race gets its look-up's answers or, if another race does the host's look-up, addresses with the lines
 //!   that the look-up would give them; the history of addresses changes neither them nor the lines (`specs/Sources`).
 //! - The numbers in the documents are the program's (`specs/Limits`).
@@ -42,7 +46,8 @@
 //!
 //! All this holds if the calls return: they wait for the system.
 //!
-//! Tested only: that it connects, and when; the facts in the log's lines; the page.
+//! Tested only: that it connects, and when; the time, the reasons and the name servers in record lines; the facts in
+//! the log's lines; the page.
 #![tactic(auto)]
 
 pub mod access;

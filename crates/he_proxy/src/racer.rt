@@ -16,9 +16,10 @@ use he_addr::{Ip, Memory};
 use he_clients::ClientPlace;
 use he_connect::{ConnectFault, ConnectRequest, Setup, set_up};
 use he_front::Ended;
-use he_history::{Records, second_now, stamp_now};
+use he_history::{Records, second_now, stamp_of};
 use he_kernel::asked::AskedWays;
 use he_log::{Facts, Lost};
+use he_recording::moment_now;
 use he_sessions::{PageAsked, Racer, SessionEnd};
 use std::alloc::AllocGlobal;
 use std::io;
@@ -120,7 +121,7 @@ where
         client: SocketAddr,
     ) -> Result<Keeping<'h, R>, ConnectFault> {
         let SharedLoop { rt, alloc, .. } = self.shared;
-        let Some(began) = stamp_now(rt, alloc) else {
+        let Some(at) = moment_now(rt) else {
             return Err(ConnectFault::Runtime);
         };
         Ok(Keeping {
@@ -131,7 +132,8 @@ where
             facts: &self.state.facts,
             client,
             left: &self.state.left,
-            began,
+            began: stamp_of(alloc, at)?,
+            at: Some(at),
             host: String::from_str(alloc, request.host)?,
             port: request.port,
             reach,

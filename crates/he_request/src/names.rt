@@ -1,15 +1,18 @@
 //! `he names`.
 
+use crate::connect::record_of;
 use clap::{ArgMatches, Command};
 use he_addr::Memory;
-use he_options::arguments::{flag, flag_of, plain, word};
+use he_options::arguments::{flag, flag_of, plain, value, word};
 use he_options::resolver::{resolver_argument, resolver_of};
-use he_options::{OptionFault, Resolver};
+use he_options::{OptionFault, Resolver, STANDARD};
 use std::alloc::Global;
 
 const ABOUT: &str = "Find the addresses of a host, as the answers of a race";
 
 const HOST_HELP: &str = "A host name, as www.example.com, or an address";
+
+const RECORD_HELP: &str = "Write record lines of the look-up to FILE";
 
 const EXAMPLE: &str = "\
 Standard output has the two answers of a timeline, each with the tick
@@ -35,7 +38,10 @@ families at once.
 
 If the look-up of a family failed, standard error says why, and the addresses of
 the other are written. With -v standard error has each event with its
-millisecond: which server answered, failed, or did not answer in time.
+millisecond: which server answered, failed, or did not answer in time. FILE of
+--record gets the record lines that go before a race with these answers: when
+the look-up began, why a family has no address, and the name servers that did
+not answer.
 
 Exit status: 0 if an address was found and no look-up failed; 1 after a fault,
 such as a name that does not exist; 2 for a command line that is refused.";
@@ -48,7 +54,8 @@ pub(crate) fn command<'a>(alloc: Global) -> Result<Command<'a>, Memory> {
         "json",
         "Write one JSON object in place of the answers",
     );
-    let args = vec![in alloc; host, resolver_argument(alloc), json, verbose]?;
+    let record = value(alloc, "record", "FILE", RECORD_HELP);
+    let args = vec![in alloc; host, resolver_argument(alloc), record, json, verbose]?;
     plain(alloc, "names", ABOUT, EXAMPLE, args)
 }
 
@@ -58,6 +65,8 @@ pub struct Names<'a> {
     /// A name or an address.
     pub host: &'a str,
     pub resolver: Resolver<'a>,
+    /// The file of the look-up's record lines.
+    pub record: Option<&'a str>,
     /// Whether the answers are written as JSON.
     pub is_json: bool,
     /// Whether what happened is reported.
@@ -69,9 +78,14 @@ pub(crate) fn names_of<'a>(
     alloc: Global,
     matches: &ArgMatches<'a>,
 ) -> Result<Names<'a>, OptionFault> {
+    let record = record_of(matches)?;
+    if record == Some(STANDARD) {
+        return Err(OptionFault::Answers);
+    }
     Ok(Names {
         host: matches.get_str("host").unwrap_or(""),
         resolver: resolver_of(alloc, matches)?,
+        record,
         is_json: flag_of(matches, "json"),
         tells_steps: flag_of(matches, "verbose"),
     })

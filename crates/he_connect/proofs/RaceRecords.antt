@@ -1,0 +1,45 @@
+-- The record of a race that was run.
+use Rattle.std.proofs.Common.{◌≡◌, ℕ, List, ◌∙◌, ap, subst, sym}
+use Rattle.std.specs.Borrow.{Bor}
+use Rattle.std.specs.Prelude.{Result, Ok, Err, IfOk}
+use Rattle.he_inputs.specs.Recorded.{IsRecordedAs}
+use Rattle.he_live.specs.Recorded.{AreFailures}
+use Rattle.he_plan.specs.Transcript.{Report}
+use Rattle.he_record.specs.Said.{Said}
+use Rattle.he_recording.specs.Facts.{facts_said}
+use Rattle.he_recording.specs.Recorded.{recorded_text}
+use Rattle.he_recording.specs.declared.facts.AttemptFailure.{AttemptFailure}
+use Rattle.he_recording.specs.declared.facts.Facts.{Facts}
+use Rattle.he_recording.specs.declared.facts.Target.{Target}
+use Rattle.he_timeline.specs.Race.{Race}
+use Rattle.he_connect.specs.Recorded.{IsFactsOf, IsRecordFor}
+use Rattle.he_connect.specs.declared.fault.ConnectFault.{ConnectFault}
+use Rattle.he_connect.specs.declared.racing.RecordTexts.{RecordTexts}
+use Rattle.he_connect.specs.declared.recorded.KnownFacts.{KnownFacts}
+use Rattle.he_connect.specs.declared.request.ConnectRequest.{ConnectRequest}
+
+pub record_for : (request : ConnectRequest) (race : Race) (report : Report) (target : Target) (known : KnownFacts) (facts : Facts) (said : List Said)
+    (result : Result RecordTexts ConnectFault)
+    → target.host.now ≡ request.host.now → target.port ≡ request.port → IsFactsOf target request.families race known facts
+    → AreFailures report.lines known.attempts.now → said ≡ facts_said facts
+    → IsRecordedAs (recorded_text said race) said race
+    → IfOk result (λ texts. texts.text.items ≡ recorded_text said race)
+    → IfOk result (λ texts. IsRecordFor request race report texts.text.items)
+record_for request race report target known facts said (Ok texts) host port of failures same reads written =
+    let text : texts.text.items ≡ recorded_text (facts_said facts) race =
+    written ∙ ap (λ (s : List Said). recorded_text s race) same in
+    record {
+      target = target;
+      host = host;
+      port = port;
+      known = known;
+      facts = facts;
+      of_race = of;
+      is = record {
+        attempts = subst (λ (a : Bor (List AttemptFailure)). AreFailures report.lines a.now) (sym of.attempts) failures;
+        written = text;
+        reads = subst (λ (bytes : List ℕ). IsRecordedAs bytes (facts_said facts) race) (sym text)
+            (subst (λ (s : List Said). IsRecordedAs (recorded_text s race) s race) same reads);
+      };
+    }
+record_for request race report target known facts said (Err fault) host port of failures same reads written = tt

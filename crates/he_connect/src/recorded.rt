@@ -1,0 +1,69 @@
+//! What the record of a connection's race says beside the race.
+ghost use Rattle.std.specs.Prelude.{◌≡◌};
+ghost use Rattle.he_connect.specs.Recorded.{IsFactsOf, is_left_out, reason_of};
+
+use crate::request::Families;
+use crate::source::FamilyFaults;
+use he_addr::Family;
+use he_failures::fault_reason;
+use he_record::{LookupReason, Moment};
+use he_recording::{AttemptFailure, Facts, ServerFailure, Target, reason_if_empty};
+use he_timeline::Timeline;
+
+/// What is known of a race that has ended.
+#[derive(Clone, Copy)]
+pub struct KnownFacts<'n> {
+    /// The time of tick 0.
+    pub at: Option<Moment>,
+    pub why: FamilyFaults,
+    pub servers: &'n [ServerFailure],
+    pub attempts: &'n [AttemptFailure],
+}
+
+/// The facts of a race to the target: why a family has no address is among them only if its answer in the race is
+/// empty. A family that isn't tried was not asked for.
+pub fn facts_of<'n>(
+    target: Target<'n>,
+    families: Families,
+    recorded: &Timeline,
+    known: KnownFacts<'n>,
+) -> Facts<'n>
+    ensures { IsFactsOf target.entry families recorded.now known.entry result }
+{
+    let KnownFacts {
+        at,
+        why,
+        servers,
+        attempts,
+    } = known;
+    Facts {
+        at,
+        to: Some(target),
+        from: None,
+        six: reason_if_empty(recorded, Family::V6, reason_of(families, why, Family::V6)),
+        four: reason_if_empty(recorded, Family::V4, reason_of(families, why, Family::V4)),
+        servers,
+        attempts,
+        end: None,
+    }
+}
+
+// Why the family has no address, if it has none.
+fn reason_of(families: Families, why: FamilyFaults, family: Family) -> Option<LookupReason>
+    ensures { result ≡ reason_of families why family }
+{
+    if is_left_out(families, family) {
+        return Some(LookupReason::NotAsked);
+    }
+    fault_reason(why.of(family))
+}
+
+fn is_left_out(families: Families, family: Family) -> bool
+    ensures { result ≡ is_left_out families family }
+{
+    match (families, family) {
+        (Families::Only(Family::V6), Family::V4) => true,
+        (Families::Only(Family::V4), Family::V6) => true,
+        _ => false,
+    }
+}

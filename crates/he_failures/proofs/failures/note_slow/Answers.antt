@@ -1,0 +1,10 @@
+use Rattle.std.proofs.Common.{◌∙◌, ap}
+use Rattle.he_failures.specs.Failures.{all_noted, slow_failure}
+use Rattle.he_failures.proofs.Noted.{one_more}
+use Rattle.he_failures.proofs.failures.note_slow.Goals as goal
+
+pub loop-event-preserved : goal.loop-event-preserved
+loop-event-preserved c =
+    one_more (slow_failure c.args.events.now) c.args.events.now c.loop-event.event-index _ c.args.failed.now.items c.loop-event.failed.items c.note.new.failed.items
+    c.loop-event-test.true c.loop-event.invariant
+    (c.in_ok-note.ensures ∙ ap (λ x. all_noted c.loop-event.failed.items x) c.slow_failure.ensures)

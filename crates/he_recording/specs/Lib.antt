@@ -1,0 +1,5 @@
+pub mod Added
+pub mod Alone
+pub mod Empty
+pub mod Facts
+pub mod Recorded
