@@ -20,7 +20,7 @@ _he() {
             return ;;
         "connect --set" | "proxy --set" | "live --set" | "replay --set" | "explain --set" | "draw --set" | "summary --set" | "compare --set")
             compopt -o nospace; mapfile -t COMPREPLY < <(compgen -W 'attempt= resolution= count= limit= floor=' -- "$word"); return ;;
-        "connect --host" | "connect --record" | "proxy --host" | "proxy --history" | "live --record" | "draw --html")
+        "connect --host" | "connect --record" | "proxy --host" | "proxy --history" | "names --record" | "live --record" | "draw --html")
             compopt -o filenames; mapfile -t COMPREPLY < <(compgen -f -- "$word"); return ;;
         "connect --resolver" | "proxy --resolver" | "names --resolver")
             mapfile -t COMPREPLY < <(compgen -W system -- "$word"); return ;;
@@ -44,7 +44,7 @@ _he() {
     case $command in
         connect) options='-4 -6 -z --timeout --set --wait --host --resolver --record --json --explain --verbose -v --help -h' words=HOST ;;
         proxy) options='--listen --allow --allow-private -4 -6 --timeout --set --host --resolver --record --record-most --history --most --idle --quiet -q --log-json --help -h' words= ;;
-        names) options='--resolver --json --verbose -v --help -h' words=HOST ;;
+        names) options='--resolver --record --json --verbose -v --help -h' words=HOST ;;
         host) options='--for --json --help -h' words= ;;
         live) options='--port --timeout --set --record --must-connect --verbose -v --help -h' words=FILE ;;
         replay) options='--workers --set --json --verbose -v --help -h' words=FILE ;;

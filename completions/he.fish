@@ -50,6 +50,7 @@ complete -c he -n '__fish_seen_subcommand_from proxy' -l log-json -d 'Write the 
 complete -c he -n '__fish_seen_subcommand_from proxy' -s h -l help -d 'Print help'
 complete -c he -n '__fish_seen_subcommand_from names' -a '(__fish_print_hostnames)'
 complete -c he -n '__fish_seen_subcommand_from names' -l resolver -x -a system -d 'The name server to ask: ADDRESS, ADDRESS:PORT, [ADDRESS]:PORT or ADDRESS%INTERFACE'
+complete -c he -n '__fish_seen_subcommand_from names' -l record -r -F -d 'Write record lines of the look-up to FILE'
 complete -c he -n '__fish_seen_subcommand_from names' -l json -d 'Write one JSON object in place of the answers'
 complete -c he -n '__fish_seen_subcommand_from names' -s v -l verbose -d 'Report what happens in the look-up'
 complete -c he -n '__fish_seen_subcommand_from names' -s h -l help -d 'Print help'

@@ -28,7 +28,7 @@ use std::mem::drop;
 pub fn race_one<A: Allocator>(alloc: Global, timeline: &Timeline<A>) -> Result<Transcript, Memory>
     ensures { IfOk result (IsTranscript timeline.now) }
 {
-    let solo = Solo::new(&Alone { alloc }, Doorbell::spinning())?;
+    let solo = Solo::new(&Alone { alloc }, Doorbell::spinning()).map_err(|_| Memory)?;
     let transcript = run_race(alloc, &solo, timeline);
     drop(solo);
     transcript

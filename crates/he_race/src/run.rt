@@ -28,7 +28,7 @@ pub fn run_attempt<A: Allocator, B: Allocator>(
     requires { place < length plan.now }
     ensures { IfOk result (λ fate. (x : Attempt) → slice_get plan.now place ≡ Some x → fate ≡ fate_of timeline.now x) }
 {
-    let solo = Solo::new(&Alone { alloc }, Doorbell::spinning())?;
+    let solo = Solo::new(&Alone { alloc }, Doorbell::spinning()).map_err(|_| Memory)?;
     let attempt = plan.attempts()[place];
     Ok(run(&solo, timeline, attempt, Scripted::new(timeline)))
 }
