@@ -281,7 +281,8 @@ def group_row(summary, label):
 
 def group_object(summary, label):
     told = as_object(summary, 0)
-    del told["failing"]
+    for name in ("failing", *record_members(summary)):
+        del told[name]
     return one_line({**told, "group": label})
 
 
