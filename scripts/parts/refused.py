@@ -141,11 +141,12 @@ def is_live_answer(ran):
 
 def replays(written):
     """Whether a live race was written: a transcript, and a record that replays to it."""
-    at = written.find(b"race 2\n")
-    if at < 0:
+    begins = re.search(rb"(?m)^(record |race 2$)", written)
+    if not begins or b"race 2\n" not in written:
         return False
-    ran, _ = run(["replay"], written[at:], 0)
-    return ran.returncode == 0 and ran.stdout == written[:at] != b""
+    transcript, record = written[:begins.start()], written[begins.start():]
+    ran, _ = run(["replay"], record, 0)
+    return ran.returncode == 0 and ran.stdout == transcript != b""
 
 
 def is_answer(ran, whole):
