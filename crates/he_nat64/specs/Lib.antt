@@ -1,0 +1,4 @@
+pub mod Embedding
+pub mod Discovery
+pub mod Laws
+pub mod Synthesis
