@@ -28,11 +28,11 @@ pub record IsOfHost (request : ConnectRequest) (start recorded : Race) : Type 0 
   pub comes : ComesFrom request.host.now request.resolver request.environment origin
   pub answers : AnswersOf origin start recorded
 
-known_ips : (ips : List Ip) → ips_of (map nothing_known ips) ≡ ips
+pub known_ips : (ips : List Ip) → ips_of (map nothing_known ips) ≡ ips
 known_ips [] = refl
 known_ips (ip ∷ ips) = ap (λ (more : List Ip). ip ∷ more) (known_ips ips)
 
-nothing_cleaned : (family : Family) → cleaned_again family [] ≡ []
+pub nothing_cleaned : (family : Family) → cleaned_again family [] ≡ []
 nothing_cleaned family = refl
 
 told_one : (origin : Origin) (family : Family) (given : Option Reply) (reply : Reply) → AreOf origin family reply.addresses
@@ -68,7 +68,7 @@ module _ {R : Type 0} where
   origin_for choice environment only target (sources.System query) begins = begins
   origin_for choice environment only target (sources.Told found) begins = absurd begins
 
-  comes_from : (text : List ℕ) (choice : Choice) (environment : Environment) (only : Option Family) (source : Source R)
+  pub comes_from : (text : List ℕ) (choice : Choice) (environment : Environment) (only : Option Family) (source : Source R)
       → BeginsFor text choice environment only source → ComesFrom text choice environment (origin_of source)
   comes_from text choice environment only source (target, means, begins) =
       (target, means, origin_for choice environment only target source begins)
@@ -97,7 +97,7 @@ module _ {R : Type 0} where
   of_poll brings source start race family now (Some answer) of were =
       told_so (origin_of source) start race family now answer (of_answer brings source family answer of) were
 
-replies_alike : (x y : Race) → AreAlike x y → (family : Family) → reply_of y family ≡ reply_of x family
+pub replies_alike : (x y : Race) → AreAlike x y → (family : Family) → reply_of y family ≡ reply_of x family
 replies_alike x y alike families.V6 = ap (λ (r : Race). r.aaaa) alike
 replies_alike x y alike families.V4 = ap (λ (r : Race). r.a) alike
 

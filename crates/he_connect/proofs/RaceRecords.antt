@@ -1,5 +1,5 @@
 -- The record of a race that was run.
-use Rattle.std.proofs.Common.{◌≡◌, ℕ, List, ◌∙◌, ap, subst, sym}
+use Rattle.std.proofs.Common.{◌≡◌, ℕ, Bool, List, ◌∙◌, ap, subst, sym}
 use Rattle.std.specs.Borrow.{Bor}
 use Rattle.std.specs.Prelude.{Result, Ok, Err, IfOk}
 use Rattle.he_inputs.specs.Recorded.{IsRecordedAs}
@@ -12,34 +12,38 @@ use Rattle.he_recording.specs.declared.facts.AttemptFailure.{AttemptFailure}
 use Rattle.he_recording.specs.declared.facts.Facts.{Facts}
 use Rattle.he_recording.specs.declared.facts.Target.{Target}
 use Rattle.he_timeline.specs.Race.{Race}
-use Rattle.he_connect.specs.Recorded.{IsFactsOf, IsRecordFor}
+use Rattle.he_connect.specs.Recorded.{AreTextsOf, IsExplained, IsFactsFor}
 use Rattle.he_connect.specs.declared.fault.ConnectFault.{ConnectFault}
 use Rattle.he_connect.specs.declared.racing.RecordTexts.{RecordTexts}
 use Rattle.he_connect.specs.declared.recorded.KnownFacts.{KnownFacts}
 use Rattle.he_connect.specs.declared.request.ConnectRequest.{ConnectRequest}
 
-pub record_for : (request : ConnectRequest) (race : Race) (report : Report) (target : Target) (known : KnownFacts) (facts : Facts) (said : List Said)
+pub texts_of : (by_nat64 : Bool) (request : ConnectRequest) (race : Race) (report : Report) (target : Target) (known : KnownFacts) (facts : Facts) (said : List Said)
     (result : Result RecordTexts ConnectFault)
-    → target.host.now ≡ request.host.now → target.port ≡ request.port → IsFactsOf target request.families race known facts
+    → target.host.now ≡ request.host.now → target.port ≡ request.port → IsFactsFor by_nat64 target request.families race known facts → facts.attempts ≡ known.attempts
     → AreFailures report.lines known.attempts.now → said ≡ facts_said facts
     → IsRecordedAs (recorded_text said race) said race
     → IfOk result (λ texts. texts.text.items ≡ recorded_text said race)
-    → IfOk result (λ texts. IsRecordFor request race report texts.text.items)
-record_for request race report target known facts said (Ok texts) host port of failures same reads written =
+    → IfOk result (λ texts. IsExplained request.explains said race texts.story.items)
+    → IfOk result (λ texts. AreTextsOf by_nat64 request race report texts.text.items texts.story.items)
+texts_of by_nat64 request race report target known facts said (Ok texts) host port of own failures same reads written explained =
     let text : texts.text.items ≡ recorded_text (facts_said facts) race =
     written ∙ ap (λ (s : List Said). recorded_text s race) same in
     record {
-      target = target;
-      host = host;
-      port = port;
-      known = known;
-      facts = facts;
-      of_race = of;
-      is = record {
-        attempts = subst (λ (a : Bor (List AttemptFailure)). AreFailures report.lines a.now) (sym of.attempts) failures;
-        written = text;
-        reads = subst (λ (bytes : List ℕ). IsRecordedAs bytes (facts_said facts) race) (sym text)
-            (subst (λ (s : List Said). IsRecordedAs (recorded_text s race) s race) same reads);
+      written = record {
+        target = target;
+        host = host;
+        port = port;
+        known = known;
+        facts = facts;
+        of_race = of;
+        is = record {
+          attempts = subst (λ (a : Bor (List AttemptFailure)). AreFailures report.lines a.now) (sym own) failures;
+          written = text;
+          reads = subst (λ (bytes : List ℕ). IsRecordedAs bytes (facts_said facts) race) (sym text)
+              (subst (λ (s : List Said). IsRecordedAs (recorded_text s race) s race) same reads);
+        };
       };
+      explained = subst (λ (s : List Said). IsExplained request.explains s race texts.story.items) same explained;
     }
-record_for request race report target known facts said (Err fault) host port of failures same reads written = tt
+texts_of by_nat64 request race report target known facts said (Err fault) host port of own failures same reads written explained = tt

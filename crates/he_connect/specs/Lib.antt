@@ -1,4 +1,6 @@
 pub mod Answers
+pub mod Embedded
+pub mod Origins
 pub mod Races
 pub mod Recorded
 pub mod Start

@@ -1,9 +1,7 @@
 -- A race run for a connection.
-use Rattle.std.specs.Global.{Global}
-use Rattle.std.specs.Prelude.{ℕ, ◌≡◌, ◌⊎◌, List, [], Bool, true, false, Option, Some, None, IfSome, is_some}
+use Rattle.std.specs.Prelude.{ℕ, ◌≡◌, ◌⊎◌, Bool, true, List, Option, Some, None, IfSome, is_some}
 use Rattle.he_addr.specs.declared.ip.Family.{Family}
-use Rattle.he_course.specs.Course.{IsCourse}
-use Rattle.he_course.specs.declared.course.Course.{Course}
+use Rattle.he_addr.specs.declared.ip.Family.TheVariants as ips
 use Rattle.he_timeline.specs.Race.{Race}
 use Rattle.he_live.specs.Dials.{goes_to}
 use Rattle.he_live.specs.declared.dialed.Dialed.{Dialed}
@@ -12,43 +10,43 @@ use Rattle.he_plan.specs.Transcript.{IsTranscript, Report}
 use Rattle.he_turns.specs.Recording.{is_won}
 use Rattle.he_turns.specs.Resolving.{KeepsGiven}
 use Rattle.he_turns.specs.Winner.{GoesAt}
-use Rattle.he_resolver.specs.Heard.{Origin}
 use Rattle.he_settings.specs.Known.{FindsKnown, items_of}
 use Rattle.he_settings.specs.Scopes.{FindsScope}
-use Rattle.he_story.specs.Story.{Tells}
 use Rattle.he_connect.specs.declared.request.ConnectRequest.{ConnectRequest}
 use Rattle.he_connect.specs.declared.request.Families.{Families}
 use Rattle.he_connect.specs.declared.request.Families.TheVariants as families
 use Rattle.he_connect.specs.declared.setup.Setup.{Setup}
-use Rattle.he_connect.specs.Answers.{AnswersOf, ComesFrom}
-use Rattle.he_connect.specs.Recorded.{IsRecordFor}
+use Rattle.he_connect.specs.Embedded.{MayEmbed}
+use Rattle.he_connect.specs.Origins.{AnswersBy, ComesFor, Origins}
+use Rattle.he_connect.specs.Recorded.{AreTextsOf}
 use Rattle.he_connect.specs.Start.{Starts}
-
--- the explanation of a race, if requested, is the story of its record's course
-abbrev pub IsExplained : Bool → Race → List ℕ → Type 0
-IsExplained true recorded story = (course : Course Global) × IsCourse recorded 1 1 course × Tells [] course [] story
-IsExplained false recorded story = story ≡ []
 
 -- the only family to try, if there is one
 abbrev pub only_of : Families → Option Family
 only_of families.Both = None
 only_of (families.Only family) = Some family
 
--- a race with this start was run for the request: its record keeps the start and replays; each new answer has the
--- host's origin; the text is the record's, with its record lines, and the story, if requested, is the record's. There
--- is a connection exactly if the race was won; it goes to the address of the winning line, at the port, and over the
--- interface if that address is a link-local one
-pub record RunsFrom (request : ConnectRequest) (start : Race) (to : Endpoint) (text story : List ℕ)
+-- only IPv6 is tried
+abbrev pub only_six : Families
+only_six = families.Only ips.V6
+
+-- a race with this start was run for the request, with embedding or not: its record keeps the start and replays; each
+-- new answer comes from the host's origins; the text is the record's, with its record lines, which have the reason
+-- *nat64* only with embedding; and the story, if requested, is that of both. There is a connection exactly if the race
+-- was won; it goes to the address of the winning line, at the port, and over the interface if that address is a
+-- link-local one
+pub record RunsFrom (embeds : Bool) (request : ConnectRequest) (start : Race) (to : Endpoint) (text story : List ℕ)
     (connection : Option Dialed) : Type 0 where
   pub recorded : Race
   pub kept : KeepsGiven start recorded
-  pub origin : Origin
-  pub comes : ComesFrom request.host.now request.resolver request.environment origin
-  pub answers : AnswersOf origin start recorded
+  pub origins : Origins
+  pub comes : ComesFor embeds request origins
+  pub answers : AnswersBy origins start recorded
   pub report : Report
   pub transcript : IsTranscript recorded report
-  pub written : IsRecordFor request recorded report text
-  pub explained : IsExplained request.explains recorded story
+  pub by_nat64 : Bool
+  pub only : by_nat64 ≡ true → embeds ≡ true
+  pub texts : AreTextsOf by_nat64 request recorded report text story
   pub won_so : is_some connection ≡ is_won report.result
   pub goes : IfSome connection (GoesAt (goes_to to) report.lines report.result)
 
@@ -75,10 +73,12 @@ pub record IsSetUp (request : ConnectRequest) (setup : Setup) : Type 0 where
   pub begins : Begins request tried setup.start setup.to
   pub same : setup.request ≡ record request { families = tried }
 
--- the requested race was run
+-- the requested race was run, with embedding only if this machine's lines and IPv6 are requested
 pub record IsRun (request : ConnectRequest) (text story : List ℕ) (connection : Option Dialed) : Type 0 where
   pub tried : Families
   pub start : Race
   pub to : Endpoint
   pub begins : Begins request tried start to
-  pub runs : RunsFrom (record request { families = tried }) start to text story connection
+  pub embeds : Bool
+  pub chosen : MayEmbed embeds request
+  pub runs : RunsFrom embeds (record request { families = tried }) start to text story connection

@@ -1,16 +1,22 @@
--- The record of a connection's race.
-use Rattle.std.specs.Prelude.{ℕ, ◌≡◌, Bool, true, false, List, Option, Some, None, if◌then◌else◌}
+-- The record of a connection's race, and the explanation of both.
+use Rattle.std.specs.Global.{Global}
+use Rattle.std.specs.Prelude.{ℕ, ◌≡◌, Bool, true, false, List, [], Option, Some, None, if◌then◌else◌}
 use Rattle.he_addr.specs.declared.ip.Family.{Family}
 use Rattle.he_addr.specs.declared.ip.Family.TheVariants as families
+use Rattle.he_course.specs.Course.{IsCourse}
+use Rattle.he_course.specs.declared.course.Course.{Course}
 use Rattle.he_failures.specs.Recorded.{fault_reason}
 use Rattle.he_live.specs.Recorded.{IsRaceRecord}
 use Rattle.he_plan.specs.Transcript.{Report}
+use Rattle.he_record.specs.Said.{Said}
 use Rattle.he_record.specs.declared.reasons.LookupReason.{LookupReason}
-use Rattle.he_record.specs.declared.reasons.LookupReason.TheVariants.{NotAsked}
+use Rattle.he_record.specs.declared.reasons.LookupReason.TheVariants.{Nat64, NotAsked}
 use Rattle.he_recording.specs.Empty.{reason_if_empty}
+use Rattle.he_recording.specs.Facts.{facts_said}
 use Rattle.he_recording.specs.declared.facts.Facts.{Facts}
 use Rattle.he_recording.specs.declared.facts.Target.{Target}
 use Rattle.he_settings.specs.declared.fault.NamesFault.{NamesFault}
+use Rattle.he_story.specs.Story.{Tells}
 use Rattle.he_timeline.specs.Race.{Race}
 use Rattle.he_connect.specs.declared.recorded.KnownFacts.{KnownFacts}
 use Rattle.he_connect.specs.declared.request.ConnectRequest.{ConnectRequest}
@@ -44,17 +50,37 @@ pub record IsFactsOf (target : Target) (tried : Families) (race : Race) (known :
     pub from : facts.from ≡ None
     pub six : facts.six ≡ reason_in race tried known.why families.V6
     pub four : facts.four ≡ reason_in race tried known.why families.V4
+    pub nat64 : facts.nat64 ≡ known.nat64
     pub servers : facts.servers ≡ known.servers
     pub attempts : facts.attempts ≡ known.attempts
     pub end : facts.end ≡ None
 
+-- so; or, through a NAT64, the IPv4 look-up has the reason *nat64*, if its answer is empty
+abbrev pub IsFactsFor : Bool → Target → Families → Race → KnownFacts → Facts → Type 0
+IsFactsFor false target tried race known facts = IsFactsOf target tried race known facts
+IsFactsFor true target tried race known facts =
+    (plain : Facts) × IsFactsOf target tried race known plain
+    × (facts ≡ record plain { four = reason_if_empty race families.V4 (Some Nat64) })
+
 -- the text has the record and the race: the record has the requested host and port, a look-up for a family without
--- an address, and all failed attempts of the transcript
-pub record IsRecordFor (request : ConnectRequest) (race : Race) (report : Report) (text : List ℕ) : Type 0 where
+-- an address, and the failed attempts of the transcript
+pub record IsRecordFor (by_nat64 : Bool) (request : ConnectRequest) (race : Race) (report : Report) (text : List ℕ)
+    : Type 0 where
   pub target : Target
   pub host : target.host.now ≡ request.host.now
   pub port : target.port ≡ request.port
   pub known : KnownFacts
   pub facts : Facts
-  pub of_race : IsFactsOf target request.families race known facts
+  pub of_race : IsFactsFor by_nat64 target request.families race known facts
   pub is : IsRaceRecord facts race report text
+
+-- the explanation of a race with these record lines, if requested, is the story of its course
+abbrev pub IsExplained : Bool → List Said → Race → List ℕ → Type 0
+IsExplained true said race story = (course : Course Global) × IsCourse race 1 1 course × Tells said course [] story
+IsExplained false said race story = story ≡ []
+
+-- the text of the race with its record, and the explanation of both
+pub record AreTextsOf (by_nat64 : Bool) (request : ConnectRequest) (race : Race) (report : Report)
+    (text story : List ℕ) : Type 0 where
+  pub written : IsRecordFor by_nat64 request race report text
+  pub explained : IsExplained request.explains (facts_said written.facts) race story

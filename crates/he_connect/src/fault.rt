@@ -13,16 +13,16 @@ use thiserror::Error;
 #[derive(Clone, Copy, Debug, PartialEq, Eq, Error)]
 pub enum ConnectFault {
     /// The addresses and routes of this machine can't be read.
-    #[error("cannot read /proc/net: name a file of source and route lines by --host")]
+    #[error("cannot read /proc/net: give a file of source and route lines with --machine")]
     Machine,
     /// The file of lines can't be read.
-    #[error("cannot read the file of --host")]
+    #[error("cannot read the --machine file")]
     File,
     /// A line of the file of lines is wrong.
-    #[error("the file of --host: {0}")]
+    #[error("the --machine file: {0}")]
     Lines(TextFault),
     /// The file of lines has lines other than source, route and policy lines.
-    #[error("the file of --host may have source, route and policy lines alone")]
+    #[error("the --machine file may contain only source, route and policy lines")]
     OtherLines,
     /// The host has no address, or can't be looked up.
     #[error("{0}")]

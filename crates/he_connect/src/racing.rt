@@ -2,27 +2,30 @@
 ghost use Rattle.std.specs.Prelude.{◌≡◌, IfOk};
 ghost use Rattle.he_inputs.specs.Recorded.{IsRecordedAs};
 ghost use Rattle.he_recording.specs.Recorded.{recorded_text};
-ghost use Rattle.he_resolver.specs.Begins.{BeginsFor};
-ghost use Rattle.he_resolver.specs.Heard.{IsSound};
-ghost use Rattle.he_connect.specs.Races.{IsExplained, IsRun, KnowsHost, RunsFrom, only_of};
-ghost use Rattle.he_connect.specs.Recorded.{IsRecordFor};
+ghost use Rattle.he_connect.specs.Races.{IsRun, KnowsHost, RunsFrom};
+ghost use Rattle.he_connect.specs.Recorded.{AreTextsOf, IsExplained};
 
+use crate::answering::RaceAnswers;
+use crate::embedding::set_up_any;
 use crate::families::write_unusable;
 use crate::fault::ConnectFault;
 use crate::kernel::write_other_sources;
-use crate::recorded::{KnownFacts, facts_of};
+use crate::lookups::look_up;
+use crate::recorded::{KnownFacts, facts_for};
 use crate::request::{ConnectRequest, Lines};
-use crate::setup::{Setup, set_up};
-use crate::source::{FamilyFaults, HostAnswers, LookupFaults, OwnMachine};
+use crate::setup::Setup;
+use crate::source::{FamilyFaults, LookupFaults, OwnMachine};
 use crate::telling::Telling;
+use crate::translated::{Nat64, is_by_nat64, nat64_prefixes, write_translated, write_untranslated};
 use crate::tried::write_tried;
 use he_course::Course;
 use he_live::{Dialed, ResolvingRequest, Steps, attempt_failures, resolving_race_on};
+use he_record::nat64::Nat64Prefix;
 use he_record::{Moment, Record};
 use he_recording::laws::recorded_reads_back;
 use he_recording::{ServerFailure, Target, moment_now, record_of, write_recorded};
-use he_resolver::{Lookup, SystemResolver};
-use he_settings::{NamesFault, Wanted};
+use he_resolver::SystemResolver;
+use he_settings::NamesFault;
 use he_story::write_story;
 use he_timeline::Timeline;
 use he_turns::Raced;
@@ -35,7 +38,7 @@ use std::rt::Files;
 use std::sync::Wait;
 use std::thread::Threads;
 use std::time::Clock;
-use tokio::runtime::{Handle, LocalRuntime};
+use tokio::runtime::LocalRuntime;
 
 /// A race run for a connection.
 #[derive(Drop)]
@@ -44,7 +47,8 @@ pub struct FinishedRace {
     pub text: Vec<u8>,
     /// Its story, if requested.
     pub story: Vec<u8>,
-    /// Report lines other than the story: other sources and, if nothing connected, the addresses tried.
+    /// Report lines other than the story: other sources, embedded IPv4 hosts and, if nothing connected, the addresses
+    /// tried.
     pub told: Vec<u8>,
     /// Why there was no address to connect to, if a look-up found none.
     pub nameless: Option<NamesFault>,
@@ -70,7 +74,7 @@ where
     R: SystemResolver + Copy + Send + 'static,
     ensures { IfOk result (λ run. IsRun request.now run.text.items run.story.items run.connection) }
 {
-    let setup = set_up(rt, alloc, request, faults)?;
+    let setup = set_up_any(rt, alloc, request, faults)?;
     let run = run_from(rt, alloc, &setup, faults);
     drop(setup);
     run
@@ -87,17 +91,17 @@ where
     F: Write,
     R: Threads + Wait + Clock + RandomSource + AllocGlobal + Net + Files + Sync,
     R: SystemResolver + Copy + Send + 'static,
-    ensures race { KnowsHost setup.now → IfOk result (λ run. RunsFrom setup.now.request setup.now.start
-        setup.now.to run.text.items run.story.items run.connection) }
+    ensures race { KnowsHost setup.now → IfOk result (λ run. RunsFrom setup.now.embeds setup.now.request
+        setup.now.start setup.now.to run.text.items run.story.items run.connection) }
 {
     let mut runtime = LocalRuntime::new(rt)?;
     let handle = runtime.handle().clone()?;
     let why = LookupFaults::new(alloc)?;
     let steps = Steps::new(alloc)?;
     let telling = Telling::new(alloc, faults, &setup.request);
-    let lookup = look_up(rt, alloc, &handle, setup)?;
+    let lookups = look_up(rt, alloc, &handle, setup)?;
     let machine = OwnMachine::of_setup(rt, setup)?;
-    let source = HostAnswers::new(alloc, lookup, machine, why.share()?, &telling)?;
+    let source = RaceAnswers::new(alloc, lookups, machine, why.share()?, &telling)?;
     let request = ResolvingRequest {
         timeline: &setup.start,
         source,
@@ -106,45 +110,18 @@ where
     let at = moment_now(rt);
     let raced = resolving_race_on(rt, alloc, &mut runtime, request, &steps, &telling)?;
     let servers = why.servers(alloc)?;
+    let nat64 = why.take_nat64();
+    let prefixes = nat64_prefixes(alloc, nat64.as_ref())?;
     let notes = RaceNotes {
         at,
         why: why.families(),
         servers: &servers,
         steps: &steps,
+        nat64: nat64.as_ref(),
+        prefixes: &prefixes,
+        by_nat64: is_by_nat64(setup, nat64.as_ref()),
     };
     end_with(rt, alloc, setup, notes, raced)
-}
-
-/// A look-up of the host in the event loop: of the addresses known by the set-up, or by queries.
-///
-/// # Errors
-///
-/// `Name`.
-pub fn look_up<'h, R>(
-    rt: &'h R,
-    alloc: Global,
-    handle: &'h Handle,
-    setup: &Setup<'_>,
-) -> Result<Lookup<'h, R>, ConnectFault>
-where
-    R: Threads + Wait + Clock + RandomSource + AllocGlobal + Net + Files + Sync,
-    R: SystemResolver + Copy + Send + 'static,
-    ensures begins { KnowsHost setup.now → IfOk result (λ lookup. BeginsFor setup.now.request.host.now
-        setup.now.request.resolver setup.now.request.environment (only_of setup.now.request.families) lookup.source) }
-    ensures sound { IfOk result (λ lookup. IsSound lookup.source) }
-{
-    match &setup.known {
-        Some(known) => Ok(Lookup::of_known(rt, alloc, Vec::from_slice(alloc, known)?)?),
-        None => {
-            let wanted = Wanted {
-                host: setup.request.host,
-                only: setup.request.families.only(),
-                choice: setup.request.resolver,
-                environment: setup.request.environment,
-            };
-            Ok(Lookup::new(rt, alloc, handle, wanted)?)
-        }
-    }
 }
 
 // The results of the race.
@@ -155,8 +132,8 @@ fn end_with<R: Files + Net + AllocGlobal>(
     notes: RaceNotes<'_>,
     raced: Raced<Dialed>,
 ) -> Result<FinishedRace, ConnectFault>
-    ensures text { IfOk result (λ run. IsRecordFor setup.now.request raced.recorded raced.transcript run.text.items) }
-    ensures story { IfOk result (λ run. IsExplained setup.now.request.explains raced.recorded run.story.items) }
+    ensures texts { IfOk result (λ run. AreTextsOf notes.entry.by_nat64 setup.now.request raced.recorded
+        raced.transcript run.text.items run.story.items) }
     ensures winner { IfOk result (λ run. run.connection ≡ raced.winner) }
 {
     let texts = texts_of(rt, alloc, setup, notes, &raced);
@@ -184,10 +161,8 @@ fn texts_of<R: Files + Net + AllocGlobal>(
     notes: RaceNotes<'_>,
     raced: &Raced<Dialed>,
 ) -> Result<RaceTexts, ConnectFault>
-    ensures text { IfOk result (λ texts. IsRecordFor setup.now.request raced.now.recorded raced.now.transcript
-        texts.text.items) }
-    ensures story { IfOk result (λ texts. IsExplained setup.now.request.explains raced.now.recorded
-        texts.story.items) }
+    ensures { IfOk result (λ texts. AreTextsOf notes.entry.by_nat64 setup.now.request raced.now.recorded
+        raced.now.transcript texts.text.items texts.story.items) }
 {
     let told = told_of(rt, alloc, setup, notes, raced)?;
     let recorded = write_race(alloc, &setup.request, notes, raced)?;
@@ -203,21 +178,30 @@ fn told_of<R: Files + Net + AllocGlobal>(
     notes: RaceNotes<'_>,
     raced: &Raced<Dialed>,
 ) -> Result<Vec<u8>, ConnectFault> {
-    let RaceNotes { why, steps, .. } = notes;
+    let RaceNotes {
+        why,
+        steps,
+        nat64,
+        ..
+    } = notes;
     let request = &setup.request;
+    let attempts = raced.transcript.attempts();
     let mut told = Vec::new(alloc);
+    if request.tells_steps || request.explains {
+        write_translated(nat64, attempts, &mut told)?;
+    }
     if request.tells_steps || request.lines == Lines::Machine {
         write_other_sources(rt, &setup.asked, setup.to.scope, raced, &mut told)?;
     }
-    if raced.winner.is_none() && why.nameless(request.families).is_none() {
-        write_tried(alloc, request, raced, steps, why, &mut told)?;
-        write_unusable(
-            rt,
-            &setup.asked,
-            raced.transcript.attempts(),
-            steps,
-            &mut told,
-        )?;
+    if raced.winner.is_some() || why.nameless(request.families).is_some() {
+        return Ok(told);
+    }
+    match nat64 {
+        Some(nat64) if attempts.is_empty() => write_untranslated(alloc, setup, nat64, &mut told)?,
+        _ => {
+            write_tried(alloc, request, raced, steps, why, &mut told)?;
+            write_unusable(rt, &setup.asked, attempts, steps, &mut told)?;
+        }
     }
     Ok(told)
 }
@@ -229,21 +213,22 @@ fn write_race(
     notes: RaceNotes<'_>,
     raced: &Raced<Dialed>,
 ) -> Result<RecordTexts, ConnectFault>
-    ensures text { IfOk result (λ texts. IsRecordFor request.now raced.now.recorded raced.now.transcript
-        texts.text.items) }
-    ensures story { IfOk result (λ texts. IsExplained request.now.explains raced.now.recorded texts.story.items) }
+    ensures { IfOk result (λ texts. AreTextsOf notes.entry.by_nat64 request.now raced.now.recorded
+        raced.now.transcript texts.text.items texts.story.items) }
 {
     let attempts = attempt_failures(alloc, raced.transcript.attempts(), notes.steps)?;
     let target = target_of(request);
     let known = KnownFacts {
         at: notes.at,
         why: notes.why,
+        nat64: notes.prefixes,
         servers: notes.servers,
         attempts: &attempts,
     };
-    let facts = facts_of(target, request.families, &raced.recorded, known);
+    let recorded = &raced.recorded;
+    let facts = facts_for(notes.by_nat64, target, request.families, recorded, known);
     let record = record_of(alloc, &facts)?;
-    let texts = write_texts(alloc, request.explains, &record, &raced.recorded);
+    let texts = write_texts(alloc, request.explains, &record, recorded);
     drop(record);
     texts
 }
@@ -268,25 +253,30 @@ fn write_texts(
 ) -> Result<RecordTexts, ConnectFault>
     ensures text { IfOk result (λ texts. texts.text.items ≡ recorded_text told.now recorded.now) }
     ensures reads { IsRecordedAs (recorded_text told.now recorded.now) told.now recorded.now }
-    ensures story { IfOk result (λ texts. IsExplained explains recorded.now texts.story.items) }
+    ensures story { IfOk result (λ texts. IsExplained explains told.now recorded.now texts.story.items) }
 {
     recorded_reads_back(told, recorded);
     let mut text = Vec::new(alloc);
     write_recorded(told, recorded, &mut text)?;
-    let story = explain(alloc, explains, recorded)?;
+    let story = explain(alloc, explains, told, recorded)?;
     Ok(RecordTexts { text, story })
 }
 
-// The story of a race, if requested.
-fn explain(alloc: Global, is_asked: bool, recorded: &Timeline) -> Result<Vec<u8>, ConnectFault>
-    ensures { IfOk result (λ story. IsExplained is_asked recorded.now story.items) }
+// The story of a race with its record, if requested.
+fn explain(
+    alloc: Global,
+    is_asked: bool,
+    told: &Record<'_>,
+    recorded: &Timeline,
+) -> Result<Vec<u8>, ConnectFault>
+    ensures { IfOk result (λ story. IsExplained is_asked told.now recorded.now story.items) }
 {
     if !is_asked {
         return Ok(Vec::new(alloc));
     }
     let course = Course::of(alloc, recorded, 1, 1)?;
     let mut story = Vec::new(alloc);
-    write_story(alloc, &course, &Record::none(alloc), &mut story)?;
+    write_story(alloc, &course, told, &mut story)?;
     Ok(story)
 }
 
@@ -298,6 +288,12 @@ struct RaceNotes<'n> {
     why: FamilyFaults,
     servers: &'n [ServerFailure],
     steps: &'n Steps,
+    // What is known of the network's NAT64, if its prefixes were looked up.
+    nat64: Option<&'n Nat64>,
+    // Its prefixes, as a record has them.
+    prefixes: &'n [Nat64Prefix],
+    // Whether the IPv4 addresses are reached through it.
+    by_nat64: bool,
 }
 
 // The text and the story of a race.

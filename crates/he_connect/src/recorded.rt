@@ -1,11 +1,12 @@
 //! What the record of a connection's race says beside the race.
 ghost use Rattle.std.specs.Prelude.{◌≡◌};
-ghost use Rattle.he_connect.specs.Recorded.{IsFactsOf, is_left_out, reason_of};
+ghost use Rattle.he_connect.specs.Recorded.{IsFactsFor, IsFactsOf, is_left_out, reason_of};
 
 use crate::request::Families;
 use crate::source::FamilyFaults;
 use he_addr::Family;
 use he_failures::fault_reason;
+use he_record::nat64::Nat64Prefix;
 use he_record::{LookupReason, Moment};
 use he_recording::{AttemptFailure, Facts, ServerFailure, Target, reason_if_empty};
 use he_timeline::Timeline;
@@ -16,6 +17,8 @@ pub struct KnownFacts<'n> {
     /// The time of tick 0.
     pub at: Option<Moment>,
     pub why: FamilyFaults,
+    /// The prefixes of the network's NAT64, if they were looked up.
+    pub nat64: &'n [Nat64Prefix],
     pub servers: &'n [ServerFailure],
     pub attempts: &'n [AttemptFailure],
 }
@@ -33,6 +36,7 @@ pub fn facts_of<'n>(
     let KnownFacts {
         at,
         why,
+        nat64,
         servers,
         attempts,
     } = known;
@@ -42,9 +46,31 @@ pub fn facts_of<'n>(
         from: None,
         six: reason_if_empty(recorded, Family::V6, reason_of(families, why, Family::V6)),
         four: reason_if_empty(recorded, Family::V4, reason_of(families, why, Family::V4)),
+        nat64,
         servers,
         attempts,
         end: None,
+    }
+}
+
+/// As [`facts_of`]; through a NAT64, the IPv4 look-up has the reason `Nat64`.
+pub fn facts_for<'n>(
+    by_nat64: bool,
+    target: Target<'n>,
+    families: Families,
+    recorded: &Timeline,
+    known: KnownFacts<'n>,
+) -> Facts<'n>
+    ensures facts { IsFactsFor by_nat64 target.entry families recorded.now known.entry result }
+    ensures attempts { result.attempts ≡ known.entry.attempts }
+{
+    let facts = facts_of(target, families, recorded, known);
+    if !by_nat64 {
+        return facts;
+    }
+    Facts {
+        four: reason_if_empty(recorded, Family::V4, Some(LookupReason::Nat64)),
+        ..facts
     }
 }
 

@@ -1,5 +1,5 @@
 //! The set-up of a connection's race.
-ghost use Rattle.std.specs.Prelude.{IfOk};
+ghost use Rattle.std.specs.Prelude.{◌≡◌, IfOk, false};
 ghost use Rattle.he_connect.specs.Races.{IsSetUp, KnowsHost};
 
 use crate::families::{families_to_try, tell_unasked};
@@ -28,6 +28,8 @@ pub struct Setup<'a> {
     pub known: Option<Vec<Ip>>,
     /// Whether this machine's lines come with the addresses.
     pub brings_lines: bool,
+    /// Whether the race also reaches IPv4 hosts through the network's NAT64.
+    pub embeds: bool,
     /// The kernel's answers in this race.
     pub asked: AskedWays,
 }
@@ -49,6 +51,7 @@ where
     F: Write,
     ensures setup { IfOk result (IsSetUp request.now) }
     ensures known { IfOk result KnowsHost }
+    ensures plain { IfOk result (λ setup. setup.embeds ≡ false) }
 {
     let known = find_known(rt, alloc, request.host, request.resolver)?;
     let scope = find_scope(rt, alloc, request.host)?;
@@ -73,6 +76,7 @@ where
             scope,
         },
         brings_lines: request.lines == Lines::Machine && known.is_none(),
+        embeds: false,
         known,
         asked,
     })

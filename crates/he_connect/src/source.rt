@@ -1,19 +1,25 @@
 //! The source of answers for a connection's race.
-ghost use Rattle.std.specs.Prelude.{◌≡◌, IfOk, is_some, true};
+ghost use Rattle.std.specs.Prelude.{◌≡◌, ◌≢◌, IfOk, None, Some, is_some, true};
+ghost use Rattle.futures.specs.Poll.{IfReady, OnPending};
+ghost use Rattle.futures.specs.Task.{Covers, Keeps};
+ghost use Rattle.he_addr.specs.declared.ip.Family.{Family};
 ghost use Rattle.he_turns.specs.Heard.{lists_of};
-ghost use Rattle.he_resolver.specs.Heard.{ttl_in};
-ghost use Rattle.he_connect.specs.Answers.{HasLines, IsAnswerOf, IsToldOf};
+ghost use Rattle.he_resolver.specs.Heard.{IsSound, Tells, origin_of, ttl_in};
+ghost use Rattle.he_resolver.specs.Needs.{lookup_needs};
+ghost use Rattle.he_connect.specs.Answers.{HasLines, HearsLookup, IsAnswerOf, IsToldOf};
 ghost use Rattle.he_connect.specs.Recorded.{fault_of};
 
 use crate::request::Families;
 use crate::setup::Setup;
 use crate::telling::LookupWatcher;
+use crate::translated::Nat64;
 use futures::task::{Context, Poll};
 use he_addr::{Family, Ip, Memory};
 use he_asking::limits::MOST_EVENTS;
 use he_asking::{LookupEvent, LookupLog};
 use he_failures::failed_servers;
 use he_kernel::asked::AskedWays;
+use he_kernel::sockets::NO_SCOPE;
 use he_kernel::taken::find_machine_of;
 use he_recording::ServerFailure;
 use he_resolver::Lookup;
@@ -27,8 +33,8 @@ use std::rc::Rc;
 use std::rt::Files;
 use std::time::Clock;
 
-/// Why each family has no address, and the events of the look-up: shared by the look-up of one race and the report of
-/// its end.
+/// Why each family has no address, the events of the look-up, and what is known of the network's NAT64: shared by the
+/// look-up of one race and the report of its end.
 #[derive(Drop)]
 pub struct LookupFaults {
     shared: Rc<FaultCells>,
@@ -40,6 +46,8 @@ struct FaultCells {
     four: Cell<Option<NamesFault>>,
     // The events of the look-up.
     events: Cell<Option<Vec<LookupEvent>>>,
+    // What is known of the network's NAT64, once its prefixes are looked up.
+    nat64: Cell<Option<Nat64>>,
 }
 
 impl LookupFaults {
@@ -53,6 +61,7 @@ impl LookupFaults {
             six: Cell::new(None),
             four: Cell::new(None),
             events: Cell::new(None),
+            nat64: Cell::new(None),
         };
         Ok(LookupFaults {
             shared: Rc::new(alloc, cells)?,
@@ -104,6 +113,11 @@ impl LookupFaults {
             }
         };
         self.shared.events.set(Some(events));
+    }
+
+    /// What is known of the network's NAT64, if its prefixes were looked up. Gives it once.
+    pub fn take_nat64(&self) -> Option<Nat64> {
+        self.shared.nat64.replace(None)
     }
 
     fn note(&self, family: Family, fault: NamesFault) {
@@ -213,6 +227,67 @@ where
         })
     }
 
+    // Polls the look-up for the family, and passes its events on.
+    pub(crate) fn poll_told(
+        &mut self,
+        family: Family,
+        now: u64,
+        cx: &mut Context<'_>,
+    ) -> Poll<Result<Vec<Ip>, NamesFault>>
+        ensures told { IsSound self.old.lookup.source → IfReady result (Tells self.new.lookup.source family) }
+        ensures sound { IsSound self.old.lookup.source → IsSound self.new.lookup.source }
+        ensures origin { origin_of self.new.lookup.source ≡ origin_of self.old.lookup.source }
+        ensures brings { is_some self.new.machine ≡ is_some self.old.machine }
+        ensures waits { OnPending result (Covers cx.new (lookup_needs self.new.lookup family)) }
+        ensures other { (other : Family) → other ≢ family → Covers cx.old (lookup_needs self.old.lookup other)
+            → Covers cx.new (lookup_needs self.new.lookup other) }
+        ensures kept { Keeps cx.old cx.new }
+    {
+        let polled = self.lookup.poll_answer(family, cx);
+        let events = self.log.take();
+        self.watcher.tell_lookup(&events, now);
+        self.why.hear(events);
+        polled
+    }
+
+    // Polls for the race's answer. While there is none, the look-up is waited for.
+    pub(crate) fn poll_host(
+        &mut self,
+        family: Family,
+        now: u64,
+        cx: &mut Context<'_>,
+    ) -> Poll<Answer>
+        ensures pending { OnPending result (HearsLookup self.old family None self.new) }
+        ensures ready { IfReady result (λ answer. HearsLookup self.old family (Some (lists_of answer)) self.new) }
+        ensures waits { OnPending result (Covers cx.new (lookup_needs self.new.lookup family)) }
+        ensures other { (other : Family) → other ≢ family → Covers cx.old (lookup_needs self.old.lookup other)
+            → Covers cx.new (lookup_needs self.new.lookup other) }
+        ensures kept { Keeps cx.old cx.new }
+    {
+        match self.poll_told(family, now, cx) {
+            Poll::Pending => Poll::Pending,
+            Poll::Ready(told) => Poll::Ready(self.answer_of(family, told)),
+        }
+    }
+
+    // Prints that this look-up begins, for the prefixes of a NAT64.
+    pub(crate) fn tell_asked(&self, tick: u64) {
+        self.watcher.tell_prefixes_asked(tick);
+    }
+
+    // Whether the kernel has a way to one of the addresses.
+    pub(crate) fn has_way(&self, ips: &[Ip]) -> bool {
+        let Some(machine) = &self.machine else {
+            return false;
+        };
+        ips.iter().any(|ip| machine.asked.way(machine.rt, *ip, NO_SCOPE).from.is_some())
+    }
+
+    // Takes what is known of the network's NAT64.
+    pub(crate) fn hear_nat64(&self, nat64: Nat64) {
+        self.why.shared.nat64.set(Some(nat64));
+    }
+
     /// How long the addresses of the family may be kept, in seconds ([`Lookup::ttl`]).
     pub fn ttl(&self, family: Family) -> Option<u32>
         ensures { result ≡ ttl_in self.now.lookup.source family }
@@ -287,13 +362,6 @@ where
     ghost hears = { λ old family _ told new. HearsLookup old family told new };
 
     fn poll_answer(&mut self, family: Family, now: u64, cx: &mut Context<'_>) -> Poll<Answer> {
-        let polled = self.lookup.poll_answer(family, cx);
-        let events = self.log.take();
-        self.watcher.tell_lookup(&events, now);
-        self.why.hear(events);
-        match polled {
-            Poll::Pending => Poll::Pending,
-            Poll::Ready(told) => Poll::Ready(self.answer_of(family, told)),
-        }
+        self.poll_host(family, now, cx)
     }
 }

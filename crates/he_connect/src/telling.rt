@@ -17,17 +17,22 @@ pub trait LookupWatcher: Drop {
     /// Takes lines about files of this machine that can't be read, and destinations that the kernel can't be asked
     /// for.
     fn tell_remarks(&self, remarks: &[u8]);
+
+    /// Takes the race's tick at which the prefixes of the network's NAT64 are asked for.
+    fn tell_prefixes_asked(&self, tick: u64);
 }
 
 impl LookupWatcher for Quiet {
     fn tell_lookup(&self, _events: &[LookupEvent], _tick: u64) {}
 
     fn tell_remarks(&self, _remarks: &[u8]) {}
+
+    fn tell_prefixes_asked(&self, _tick: u64) {}
 }
 
-// Prints a line for each step, if requested. A failed write is ignored.
+/// Prints a line for each step, if requested. A failed write is ignored.
 #[derive(Drop)]
-pub(crate) struct Telling<'f, F> {
+pub struct Telling<'f, F> {
     alloc: Global,
     faults: Cell<Option<&'f mut F>>,
     tells_steps: bool,
@@ -36,11 +41,8 @@ pub(crate) struct Telling<'f, F> {
 }
 
 impl<'f, F> Telling<'f, F> {
-    pub(crate) fn new(
-        alloc: Global,
-        faults: &'f mut F,
-        request: &ConnectRequest<'_>,
-    ) -> Telling<'f, F> {
+    /// Prints the steps that the request asks for.
+    pub fn new(alloc: Global, faults: &'f mut F, request: &ConnectRequest<'_>) -> Telling<'f, F> {
         Telling {
             alloc,
             faults: Cell::new(Some(faults)),
@@ -63,6 +65,19 @@ impl<'h, 'f, F: Write> LookupWatcher for &'h Telling<'f, F> {
 
     fn tell_remarks(&self, remarks: &[u8]) {
         self.write_lines(remarks);
+    }
+
+    fn tell_prefixes_asked(&self, tick: u64) {
+        if !self.tells_lookup {
+            return;
+        }
+        if let Some(faults) = self.faults.replace(None) {
+            let _ = writeln!(
+                faults,
+                "he: {tick} ms: AAAA of ipv4only.arpa asked, for the prefix of a NAT64"
+            );
+            self.faults.set(Some(faults));
+        }
     }
 }
 

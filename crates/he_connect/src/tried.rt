@@ -46,7 +46,8 @@ fn lacking(families: Families, why: FamilyFaults) -> Option<Family> {
         .filter(|family| why.of(*family) == Some(NamesFault::NoAddress))
 }
 
-fn write_lack(host: &str, family: Family, out: &mut Vec<u8>) -> Result<(), Memory> {
+// Appends that the name has no address of the family.
+pub(crate) fn write_lack(host: &str, family: Family, out: &mut Vec<u8>) -> Result<(), Memory> {
     out.extend_from_slice(b"he: ")?;
     out.extend_from_slice(host.as_bytes())?;
     out.extend_from_slice(match family {

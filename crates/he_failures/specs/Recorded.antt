@@ -25,6 +25,7 @@ pub record IsOfServers (at : Option Moment) (heard : HeardFaults) (servers : Lis
     pub from : facts.from ≡ None
     pub six : facts.six ≡ fault_reason heard.v6
     pub four : facts.four ≡ fault_reason heard.v4
+    pub nat64 : facts.nat64.now ≡ []
     pub servers_are : facts.servers.now ≡ servers
     pub attempts : facts.attempts.now ≡ []
     pub end : facts.end ≡ None

@@ -54,6 +54,7 @@ fn facts_of<'s>(
         from: None,
         six: fault_reason(heard.v6),
         four: fault_reason(heard.v4),
+        nat64: &[],
         servers,
         attempts: &[],
         end: None,

@@ -3,3 +3,4 @@ pub mod Reasons
 pub mod Reading
 pub mod Dials
 pub mod Recorded
+pub mod Probed

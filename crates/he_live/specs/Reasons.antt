@@ -11,7 +11,7 @@ use Rattle.he_plan.specs.declared.transcript.Mark.{Mark}
 use Rattle.he_plan.specs.declared.transcript.Mark.TheVariants as marks
 use Rattle.he_live.specs.declared.failures.FailedAttempt.{FailedAttempt}
 use Rattle.he_live.specs.declared.reason.Reason.{Reason}
-use Rattle.he_live.specs.declared.reason.Reason.TheVariants.{Refused, Reset, Aborted, TimedOut, HostUnreachable, NetworkUnreachable, NetworkDown, AddressNotAvailable, NoFamily, TooManyFiles, TooManyFilesInSystem, OutOfMemory, NoBuffers, Prohibited, Other}
+use Rattle.he_live.specs.declared.reason.Reason.TheVariants.{Refused, Reset, Aborted, TimedOut, HostUnreachable, NetworkUnreachable, NetworkDown, AddressNotAvailable, NoFamily, TooManyFiles, TooManyFilesInSystem, OutOfMemory, NoBuffers, Prohibited, Other, Unknown}
 
 -- the errors of Linux with words of their own, by their numbers on x86-64 and aarch64
 abbrev pub numbered : List (ℕ × Reason)
@@ -67,6 +67,7 @@ words_of OutOfMemory = codes "out of memory"
 words_of NoBuffers = codes "no buffer space"
 words_of Prohibited = codes "prohibited"
 words_of (Other number) = codes "system error "
+words_of Unknown = codes "unknown reason"
 
 abbrev pub reason_text : Reason → List ℕ
 reason_text (Other number) = words_of (Other number) ++ decimal number

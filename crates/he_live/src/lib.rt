@@ -28,7 +28,8 @@
 //! come during the race, as from a resolver, [`resolving_race_on`] asks a source for them, and reports each step to a
 //! [`Watcher`]. Its [`Endpoint`] also has the interface for link-local IPv6 addresses, which a timeline doesn't have.
 //!
-//! [`probe_on`] connects to each of some addresses, one after another at a pace, and reports the outcome of each.
+//! [`gather_on`] takes the answers of a source and connects to none. [`probe_on`] connects to each of some addresses,
+//! one after another at a pace, and reports the outcome of each.
 //!
 //! A race that is one task of several in an event loop uses its parts: [`LiveTicker`], [`socket_of`] and [`Steps`],
 //! with its own connector.
@@ -48,12 +49,15 @@
 //!   (`ReplaysGiven` and `IsOfSource` of `he_turns`).
 //! - [`live`] writes the transcript's text and then the record's, for the input's one race with the given changes of
 //!   its settings, and returns the record's text. Its record lines are a time and an attempt for each failed attempt
-//!   of the transcript, with the word for its reason; the text reads back as the race with these lines
-//!   (`IsRaceRecord` in `specs/Recorded`). It makes all of it before it writes the first byte; after any fault
+//!   of the transcript whose reason is known, with the word for that; the text reads back as the race with these
+//!   lines (`IsRaceRecord` in `specs/Recorded`). It makes all of it before it writes the first byte; after any fault
 //!   but `Write` nothing is written. `Text`, `Read` and `OneRace` come only if the input has this fault
 //!   (`specs/Live`). It reports each failed attempt of the transcript, and no other, by place and address.
-//! - [`probe_on`] returns a row for each address, in their order; each row has the outcome that its own attempt gave, or
-//!   none if the attempt was pending at its end (`he_probe`).
+//! - The result of [`gather_on`] is the given timeline with the source's answers for both families; one that has no
+//!   answer had none at the tick `MAX_LIMIT` (`IsGatheredFrom` of `he_turns`).
+//! - [`probe_on`] returns a row for each address, in their order, of attempts that start at the request's pace and
+//!   have the request's time; each row has the outcome that its own attempt gave, or none if the attempt was pending
+//!   at its end (`specs/Probed`, `he_probe`).
 //! - The reason for each error of the system, which reasons concern this machine only, the word of each reason in a
 //!   record line, and the lines that report failed attempts ([`Reason::of`], [`Reason::is_local`],
 //!   [`Reason::attempt_reason`], [`write_failures`]; `specs/Reasons`, `specs/Recorded`).
@@ -71,6 +75,7 @@ mod dialing;
 pub mod endpoint;
 pub mod failures;
 pub mod fault;
+pub mod gathering;
 pub mod probing;
 pub mod racing;
 pub mod reason;
@@ -85,6 +90,7 @@ pub use dialed::Dialed;
 pub use endpoint::Endpoint;
 pub use failures::{FailedAttempt, failed_attempts, first_local, write_failures};
 pub use fault::LiveFault;
+pub use gathering::gather_on;
 pub use probing::{ProbeRequest, probe_on};
 pub use racing::{ResolvingRequest, live_race, live_race_on, resolving_race_on};
 pub use reason::Reason;

@@ -29,6 +29,8 @@ pub enum Reason {
     Prohibited,
     /// Any other error, by its number; 0 if it has none.
     Other(u32),
+    /// Not known: no memory was left to note it.
+    Unknown,
 }
 
 impl Reason {
@@ -101,6 +103,7 @@ impl Reason {
             Reason::NoBuffers => b"no buffer space",
             Reason::Prohibited => b"prohibited",
             Reason::Other(_) => b"system error ",
+            Reason::Unknown => b"unknown reason",
         }
     }
 }

@@ -1,5 +1,5 @@
 //! The failed attempts of a live race, for its record.
-ghost use Rattle.std.specs.Prelude.{◌≡◌, IfOk, map};
+ghost use Rattle.std.specs.Prelude.{◌≡◌, IfOk, filter_map};
 ghost use Rattle.he_live.specs.Recorded.{AreFailures, attempt_reason, failure_of};
 
 use crate::failures::{FailedAttempt, failed_attempts};
@@ -13,26 +13,28 @@ use std::alloc::Global;
 use std::mem::drop;
 
 impl Reason {
-    /// The word of a record line for it.
-    pub fn attempt_reason(self) -> AttemptReason
+    /// The word of a record line for it. None if it is not known.
+    pub fn attempt_reason(self) -> Option<AttemptReason>
         ensures { result ≡ attempt_reason self }
     {
         match self {
-            Reason::Refused => AttemptReason::Refused,
-            Reason::Reset => AttemptReason::Reset,
-            Reason::Aborted => AttemptReason::Reset,
-            Reason::TimedOut => AttemptReason::TimedOut,
-            Reason::HostUnreachable => AttemptReason::Unreachable,
-            Reason::NetworkUnreachable => AttemptReason::Unreachable,
-            Reason::NetworkDown => AttemptReason::Unreachable,
-            Reason::AddressNotAvailable => AttemptReason::NoSource,
-            Reason::Prohibited => AttemptReason::Forbidden,
-            _ => AttemptReason::Other,
+            Reason::Refused => Some(AttemptReason::Refused),
+            Reason::Reset => Some(AttemptReason::Reset),
+            Reason::Aborted => Some(AttemptReason::Reset),
+            Reason::TimedOut => Some(AttemptReason::TimedOut),
+            Reason::HostUnreachable => Some(AttemptReason::Unreachable),
+            Reason::NetworkUnreachable => Some(AttemptReason::Unreachable),
+            Reason::NetworkDown => Some(AttemptReason::Unreachable),
+            Reason::AddressNotAvailable => Some(AttemptReason::NoSource),
+            Reason::Prohibited => Some(AttemptReason::Forbidden),
+            Reason::Unknown => None,
+            _ => Some(AttemptReason::Other),
         }
     }
 }
 
-/// The failed attempts of a transcript, by place, each with the word for its reason.
+/// The failed attempts of a transcript, by place, each with the word for its reason; without those whose reason is not
+/// known.
 ///
 /// # Errors
 ///
@@ -51,16 +53,17 @@ pub fn attempt_failures(
 }
 
 fn failures_of(alloc: Global, failed: &[FailedAttempt]) -> Result<Vec<AttemptFailure>, Memory>
-    ensures { IfOk result (λ failures. failures.items ≡ map failure_of failed.now) }
+    ensures { IfOk result (λ failures. failures.items ≡ filter_map failure_of failed.now) }
 {
-    failed.iter().map(failure_of).collect(alloc)
+    failed.iter().filter_map(failure_of).collect(alloc)
 }
 
-fn failure_of(attempt: &FailedAttempt) -> AttemptFailure
+fn failure_of(attempt: &FailedAttempt) -> Option<AttemptFailure>
     ensures { result ≡ failure_of attempt.now }
 {
-    AttemptFailure {
+    let reason = attempt.reason.attempt_reason()?;
+    Some(AttemptFailure {
         ip: attempt.ip,
-        reason: attempt.reason.attempt_reason(),
-    }
+        reason,
+    })
 }

@@ -88,7 +88,7 @@ impl Steps {
         })
     }
 
-    /// Why the attempt at the place failed; `Other(0)` if no failure of it was noted.
+    /// Why the attempt at the place failed; `Unknown` if no failure of it was noted.
     pub fn reason_of(&self, place: usize) -> Reason {
         let steps = self.take();
         let reason = reason_in(&steps, place);
@@ -182,5 +182,5 @@ fn reason_in(steps: &[Step], place: usize) -> Reason {
             return reason;
         }
     }
-    Reason::Other(0)
+    Reason::Unknown
 }

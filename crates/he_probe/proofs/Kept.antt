@@ -1,5 +1,5 @@
 -- A context that keeps its facts keeps those for which attempts have registered.
-use Rattle.std.proofs.Common.{All, List, Option, None, Some, IfSome, inl, inr}
+use Rattle.std.proofs.Common.{List, Option, None, Some, IfSome, inl, inr}
 use Rattle.std.proofs.lemmas.List.Elements.{All-weaker}
 use Rattle.futures.specs.Task.{Keeps, Lasting}
 use Rattle.futures.specs.declared.task.context.Context.{Context}

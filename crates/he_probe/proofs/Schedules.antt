@@ -1,5 +1,5 @@
 -- The schedule of a probe, address by address.
-use Rattle.std.proofs.Common.{◌≡◌, ℕ, suc, ◌+◌, ◌*◌, ◌<◌, ◌++◌, All, List, [], ◌∷◌, None, Some, get_or, length, map, take, ap, refl, sym, ◌∙◌, add-zero, arith}
+use Rattle.std.proofs.Common.{◌≡◌, ℕ, suc, ◌+◌, ◌*◌, ◌<◌, ◌++◌, List, [], ◌∷◌, None, Some, get_or, length, map, take, ap, refl, sym, ◌∙◌, add-zero, arith}
 use Rattle.std.proofs.lemmas.List.Elements.{All-cons, All-nil}
 use Rattle.std.proofs.lemmas.List.{length-take-le, take_more}
 use Rattle.he_addr.specs.declared.ip.Ip.{Ip}

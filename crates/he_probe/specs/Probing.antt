@@ -1,5 +1,6 @@
 -- A poll of the attempts of a probe: each address has the outcome of its own attempt.
-use Rattle.std.specs.Prelude.{ℕ, ◌≡◌, ◌-◌, All, List, Some, None, Result, Ok, Err, MatchOption, IfSome, nat_le, max, if◌then◌else◌}
+use Rattle.std.specs.Prelude.{ℕ, ◌≡◌, ◌-◌, All, List, [], ◌∷◌, Some, None, Result, Ok, Err, MatchOption, IfSome, map, nat_le, max, if◌then◌else◌}
+use Rattle.std.specs.List.{AllZip}
 use Rattle.futures.specs.declared.task.context.Context.{Context}
 use Rattle.futures.specs.declared.task.Poll.{Poll}
 use Rattle.futures.specs.declared.task.Poll.TheVariants.{Ready, Pending}
@@ -64,6 +65,20 @@ module _ {C Conn Run : Type 0} (connector : ConnectorOf C Conn Run) (trial : Tri
   -- with some states of the connector
   abbrev pub SomePoll : ℕ → Probe C Conn Run → Probe C Conn Run → Type 0
   SomePoll now old new = (c : C) × (c' : C) × ProbePolls c old now c' new
+
+  -- polls of a probe at these ticks, one after the other
+  abbrev pub PollsAt : List ℕ → Probe C Conn Run → Probe C Conn Run → Type 0
+  PollsAt [] old new = new ≡ old
+  PollsAt (now ∷ ticks) old new = (between : Probe C Conn Run) × SomePoll now old between × PollsAt ticks between new
+
+  -- the rows of these probes, in their order: each was polled until its attempt was over
+  pub record AreRowsOf (probes : List (Probe C Conn Run)) (rows : List ProbeRow) : Type 0 where
+    pub ticks : List ℕ
+    pub last : List (Probe C Conn Run)
+    pub polled : AllZip (PollsAt ticks) probes last
+    pub closed : All IsClosed last
+    pub are : rows ≡ map row_of last
+    pub ips : map row_ip rows ≡ map ip_of probes
 
   -- an attempt that isn't over has registered in this context for all that it needs
   abbrev pub Waits : Context → Probe C Conn Run → Type 0

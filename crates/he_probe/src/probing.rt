@@ -1,11 +1,14 @@
 //! Probes of several addresses, as a future.
-ghost use Rattle.std.specs.Prelude.{◌≡◌, ◌≤◌, ◌+◌, ◌*◌, ℕ, All, IfNone, IfOk, length, map};
+ghost use Rattle.std.specs.Prelude.{◌≡◌, ◌≤◌, ◌+◌, ◌*◌, ℕ, All, IfNone, IfOk, Result, length, map};
+ghost use Rattle.std.specs.Global.{Vec};
 ghost use Rattle.std.specs.List.{AllZip};
 ghost use Rattle.futures.specs.Poll.{IfReady, OnPending};
 ghost use Rattle.futures.specs.Task.{Covers, IsArmed, Keeps};
+ghost use Rattle.he_turns.specs.declared.faults.RaceFault.{RaceFault};
 ghost use Rattle.he_turns.specs.declared.limits.TheConstants.{MAX_POLL_TICK};
-ghost use Rattle.he_probe.specs.Probing.{AllWait, AreReady, IsClosed, SomePoll, ip_of, row_ip, row_of};
+ghost use Rattle.he_probe.specs.Probing.{AllWait, AreReady, AreRowsOf, IsClosed, SomePoll, ip_of, row_ip, row_of};
 ghost use Rattle.he_probe.specs.Schedule.{scheduled};
+ghost use Rattle.he_probe.specs.declared.probe.ProbeRow.{ProbeRow};
 
 use crate::probe::{Probe, ProbeRow};
 use futures::Future;
@@ -114,18 +117,21 @@ fn rows_of<C: Connector>(alloc: Global, probes: &[Probe<C>]) -> Result<Vec<Probe
 impl<C: Connector, T: Ticker> Future for Probing<C, T> {
     type Output = Result<Vec<ProbeRow>, RaceFault>;
 
-    ghost use Rattle.std.specs.Prelude.{◌≡◌, IfOk, map};
-    ghost use Rattle.he_probe.specs.Probing.{AreReady, ip_of, row_ip};
+    ghost use Rattle.std.specs.Prelude.{IfOk};
+    ghost use Rattle.he_probe.specs.Probing.{AreReady, AreRowsOf};
 
     ghost can_poll = { λ s. AreReady C.Connector C.Run.Trial s.probes.items };
 
-    ghost gives = { λ s r. IfOk r (λ rows. map row_ip rows.items ≡ map ip_of s.probes.items) };
+    ghost gives = { λ s r. IfOk r (λ rows. AreRowsOf C.Connector C.Run.Trial s.probes.items rows.items) };
 
     fn poll(&mut self, cx: &mut Context<'_>) -> Poll<Result<Vec<ProbeRow>, RaceFault>>
         requires { AreReady C.Connector C.Run.Trial self.old.probes.items }
-        ensures value { IfReady result (λ r. IfOk r (λ rows. map row_ip rows.items ≡ map ip_of self.old.probes.items)) }
+        ensures value { IfReady result (λ r. IfOk r (λ rows. AreRowsOf C.Connector C.Run.Trial self.old.probes.items
+            rows.items)) }
         ensures again { OnPending result (AreReady C.Connector C.Run.Trial self.new.probes.items) }
-        ensures same { OnPending result (map ip_of self.new.probes.items ≡ map ip_of self.old.probes.items) }
+        ensures same { OnPending result ((r : Result (Vec ProbeRow) RaceFault) → IfOk r (λ rows. AreRowsOf C.Connector
+            C.Run.Trial self.new.probes.items rows.items)
+            → IfOk r (λ rows. AreRowsOf C.Connector C.Run.Trial self.old.probes.items rows.items)) }
         ensures registered { OnPending result (Covers cx.new (λ _. ⊥)) }
         ensures armed { OnPending result (IsArmed cx.new) }
         ensures waits { OnPending result (AllWait C.Connector C.Run.Trial cx.new self.new.probes.items) }

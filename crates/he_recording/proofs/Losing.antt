@@ -10,7 +10,7 @@ use Rattle.he_record.specs.Adding.{add_fault, value_fault}
 use Rattle.he_record.specs.Faults.{one_too_many, out_of_order, repeated}
 use Rattle.he_record.specs.Moments.{is_moment}
 use Rattle.he_record.specs.Ranges.{least_port}
-use Rattle.he_record.specs.Said.{Said, AtSaid, ToSaid, FromSaid, LookupSaid, ServerSaid, AttemptSaid, UntriedSaid, EndSaid, MaySay, is_host, ticks_of, word_said}
+use Rattle.he_record.specs.Said.{Said, AtSaid, ToSaid, FromSaid, LookupSaid, Nat64Said, ServerSaid, AttemptSaid, UntriedSaid, EndSaid, MaySay, is_host, is_nat64, ticks_of, word_said}
 use Rattle.he_record.specs.Text.{FitTogether, IsRecord}
 use Rattle.he_record.proofs.FitLaws.{PassesAfter, fit_passes}
 use Rattle.he_recording.specs.Added.{added, unless, with_line}
@@ -42,6 +42,7 @@ right_value (ToSaid host port) may =
     (holds (is_host host) kinds.Word may.0) (within least_port port kinds.Range may.1)
 right_value (FromSaid ip) may = refl
 right_value (LookupSaid family reason) may = refl
+right_value (Nat64Said prefix) may = holds (is_nat64 prefix) kinds.Range may
 right_value (ServerSaid ip reason ticks) may = within ticks MAX_TICK kinds.Range may.1
 right_value (AttemptSaid ip reason) may = refl
 right_value (UntriedSaid ip) may = refl

@@ -10,6 +10,7 @@ pub record IsAlone (at : Option Moment) (facts : Facts) : Type 0 where
   pub from : facts.from ≡ None
   pub six : facts.six ≡ None
   pub four : facts.four ≡ None
+  pub nat64 : facts.nat64.now ≡ []
   pub servers : facts.servers.now ≡ []
   pub attempts : facts.attempts.now ≡ []
   pub end : facts.end ≡ None

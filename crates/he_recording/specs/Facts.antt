@@ -4,9 +4,11 @@ use Rattle.he_addr.specs.declared.ip.Family.{Family}
 use Rattle.he_addr.specs.declared.ip.Family.TheVariants.{V4, V6}
 use Rattle.he_addr.specs.declared.ip.Ip.{Ip}
 use Rattle.he_record.specs.declared.moment.Moment.{Moment}
+use Rattle.he_record.specs.declared.nat64.Nat64Prefix.{Nat64Prefix}
 use Rattle.he_record.specs.declared.reasons.ClientEnd.{ClientEnd}
 use Rattle.he_record.specs.declared.reasons.LookupReason.{LookupReason}
-use Rattle.he_record.specs.Said.{Said, AtSaid, ToSaid, FromSaid, LookupSaid, ServerSaid, AttemptSaid, EndSaid}
+use Rattle.he_record.specs.Left.{parts_of}
+use Rattle.he_record.specs.Said.{Said, AtSaid, ToSaid, FromSaid, LookupSaid, Nat64Said, ServerSaid, AttemptSaid, EndSaid}
 use Rattle.he_recording.specs.declared.facts.AttemptFailure.{AttemptFailure}
 use Rattle.he_recording.specs.declared.facts.Facts.{Facts}
 use Rattle.he_recording.specs.declared.facts.ServerFailure.{ServerFailure}
@@ -33,6 +35,9 @@ abbrev pub end_lines : Option ClientEnd → List Said
 end_lines None = []
 end_lines (Some end) = EndSaid end ∷ []
 
+abbrev pub nat64_line : Nat64Prefix → Said
+nat64_line prefix = Nat64Said (parts_of prefix)
+
 abbrev pub server_line : ServerFailure → Said
 server_line server = ServerSaid server.ip server.reason server.ticks
 
@@ -42,7 +47,8 @@ attempt_line attempt = AttemptSaid attempt.ip attempt.reason
 -- the lines of the look-up
 abbrev pub names_lines : Facts → List Said
 names_lines facts =
-    lookup_lines V6 facts.six ++ (lookup_lines V4 facts.four ++ map server_line facts.servers.now)
+    lookup_lines V6 facts.six ++ (lookup_lines V4 facts.four
+    ++ (map nat64_line facts.nat64.now ++ map server_line facts.servers.now))
 
 -- all lines
 abbrev pub facts_lines : Facts → List Said

@@ -3,6 +3,7 @@
 ghost use Rattle.he_recording.specs.Alone.{IsAlone};
 
 use he_addr::Ip;
+use he_record::nat64::Nat64Prefix;
 use he_record::{AttemptReason, ClientEnd, LookupReason, Moment, ServerReason};
 
 /// A requested host and port.
@@ -40,6 +41,8 @@ pub struct Facts<'t> {
     pub six: Option<LookupReason>,
     /// Why IPv4 has no address.
     pub four: Option<LookupReason>,
+    /// The prefixes of the network's NAT64, if they were looked up.
+    pub nat64: &'t [Nat64Prefix],
     pub servers: &'t [ServerFailure],
     pub attempts: &'t [AttemptFailure],
     /// The client's own result.
@@ -57,6 +60,7 @@ impl<'t> Facts<'t> {
             from: None,
             six: None,
             four: None,
+            nat64: &[],
             servers: &[],
             attempts: &[],
             end: None,

@@ -3,17 +3,18 @@
 ghost use Rattle.std.specs.Prelude.{◌≡◌, ◌++◌, map, option_map, IfOk, OnOk};
 ghost use Rattle.he_record.specs.Left.{said_of};
 ghost use Rattle.he_recording.specs.Added.{added, with_line};
-ghost use Rattle.he_recording.specs.Facts.{at_lines, attempt_line, end_lines, facts_lines, facts_said, from_lines, lookup_lines, names_lines, server_line, to_lines};
+ghost use Rattle.he_recording.specs.Facts.{at_lines, attempt_line, end_lines, facts_lines, facts_said, from_lines, lookup_lines, names_lines, nat64_line, server_line, to_lines};
 
 use crate::facts::{AttemptFailure, Facts, ServerFailure, Target};
 use he_addr::{Family, Ip, Memory};
+use he_record::nat64::Nat64Prefix;
 use he_record::{ClientEnd, LookupReason, Moment, Record, RecordLine};
 use he_words::TextKind;
 use std::alloc::Global;
 use std::mem::drop;
 
 /// The record of the facts. A line that a record can't have is left out: a time or a number out of its range, a text
-/// that is not a host, a second line of an address, a ninth name server, more than 512 attempts.
+/// that is not a host, a second line of an address, a ninth name server or prefix, more than 512 attempts.
 ///
 /// # Errors
 ///
@@ -47,6 +48,7 @@ fn add_names<'t>(told: &mut Record<'t>, facts: &Facts<'t>) -> Result<(), Memory>
 {
     add_lookup(told, Family::V6, facts.six)?;
     add_lookup(told, Family::V4, facts.four)?;
+    add_nat64(told, facts.nat64)?;
     add_servers(told, facts.servers)
 }
 
@@ -97,6 +99,15 @@ fn add_end(told: &mut Record<'_>, end: Option<ClientEnd>) -> Result<(), Memory>
         Some(end) => add(told, RecordLine::End(end)),
         None => Ok(()),
     }
+}
+
+fn add_nat64(told: &mut Record<'_>, prefixes: &[Nat64Prefix]) -> Result<(), Memory>
+    ensures { OnOk result (told.new ≡ added told.old (map nat64_line prefixes.now)) }
+{
+    for prefix in prefixes {
+        add(told, RecordLine::Nat64(*prefix))?;
+    }
+    Ok(())
 }
 
 fn add_servers(told: &mut Record<'_>, servers: &[ServerFailure]) -> Result<(), Memory>

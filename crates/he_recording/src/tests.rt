@@ -3,6 +3,7 @@
 use crate::facts::{AttemptFailure, Facts, ServerFailure, Target};
 use crate::making::record_of;
 use he_addr::Ip;
+use he_record::nat64::Nat64Prefix;
 use he_record::{AttemptReason, ClientEnd, LookupReason, Moment, ServerReason, write_record};
 use std::test::Fail;
 
@@ -32,6 +33,12 @@ const FORBIDDEN: AttemptFailure = AttemptFailure {
     reason: AttemptReason::Forbidden,
 };
 
+// 64:ff9b::/96 (RFC 6052 section 2.1)
+const WELL_KNOWN: Nat64Prefix = Nat64Prefix {
+    bits: 0x0064_ff9b_0000_0000_0000_0000_0000_0000,
+    len: 96,
+};
+
 static ALL: Facts<'static> = Facts {
     at: Some(MOMENT),
     to: Some(Target {
@@ -41,6 +48,7 @@ static ALL: Facts<'static> = Facts {
     from: Some(Ip::V4(0xc633_6409)),
     six: Some(LookupReason::NoAnswer),
     four: Some(LookupReason::NotAsked),
+    nat64: &[WELL_KNOWN],
     servers: &[SILENT],
     attempts: &[REFUSED],
     end: Some(ClientEnd::GaveUp(812)),
@@ -48,7 +56,7 @@ static ALL: Facts<'static> = Facts {
 
 const WANTED: &[u8] = b"record at 2026-11-28T10:54:05.061Z\nrecord to www.example.com 443\n\
 record from 198.51.100.9\nrecord lookup aaaa no-answer\nrecord lookup a not-asked\n\
-record server 192.0.2.77 silent 251\nrecord attempt 2001:db8::1 refused\nrecord gave-up 812\n";
+record nat64 64:ff9b::/96\nrecord server 192.0.2.77 silent 251\nrecord attempt 2001:db8::1 refused\nrecord gave-up 812\n";
 
 fn is_written(rt: &HostRuntime, facts: &Facts<'_>, wanted: &[u8]) -> Result<bool, Fail> {
     let record = record_of(rt.alloc(), facts)?;

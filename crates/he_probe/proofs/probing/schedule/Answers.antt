@@ -1,8 +1,7 @@
-use Rattle.std.proofs.Common.{◌≡◌, ◌+◌, ◌*◌, ap, map, subst, sym, take, ◌∙◌, arith, rules}
+use Rattle.std.proofs.Common.{◌+◌, ap, map, subst, sym, take, ◌∙◌, arith, rules}
 use Rattle.std.proofs.lemmas.List.{take_all}
 use Rattle.he_addr.specs.declared.ip.Ip.TheVariants.{V4}
 use Rattle.he_probe.specs.Probing.{AreReady, ip_of}
-use Rattle.he_probe.specs.Schedule.{scheduled}
 use Rattle.he_probe.proofs.Schedules.{one-more, scheduled-ips, scheduled-ready}
 use Rattle.he_probe.proofs.probing.schedule.Goals as goal
 

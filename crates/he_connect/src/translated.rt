@@ -1,0 +1,105 @@
+//! What a race learns of its network's NAT64, and its report.
+ghost use Rattle.std.specs.Prelude.{◌≡◌, true};
+
+use crate::setup::Setup;
+use crate::tried::write_lack;
+use he_addr::{Family, Ip, Memory, write_ip};
+use he_nat64::Prefix64;
+use he_plan::Line;
+use he_record::nat64::Nat64Prefix;
+use he_settings::NamesFault;
+use std::alloc::Global;
+
+/// What a race learns of its network's NAT64.
+#[derive(Drop)]
+pub enum Nat64 {
+    /// Its prefixes; without one, the network has no NAT64.
+    Prefixes(Vec<Prefix64>),
+    /// Why they are not known.
+    Unknown(NamesFault),
+}
+
+/// Whether the race that is set up reaches IPv4 hosts through a NAT64.
+pub fn is_by_nat64(setup: &Setup<'_>, nat64: Option<&Nat64>) -> bool
+    ensures { result ≡ true → setup.now.embeds ≡ true }
+{
+    setup.embeds && has_prefix(nat64)
+}
+
+fn has_prefix(nat64: Option<&Nat64>) -> bool {
+    match nat64 {
+        Some(Nat64::Prefixes(prefixes)) => !prefixes.is_empty(),
+        _ => false,
+    }
+}
+
+/// The prefixes of the network's NAT64, as a record has them; none if they are not known.
+///
+/// # Errors
+///
+/// `Memory` if an allocation fails.
+pub fn nat64_prefixes(alloc: Global, nat64: Option<&Nat64>) -> Result<Vec<Nat64Prefix>, Memory> {
+    let Some(Nat64::Prefixes(prefixes)) = nat64 else {
+        return Ok(Vec::new(alloc));
+    };
+    prefixes
+        .iter()
+        .map(|prefix| Nat64Prefix::of(prefix.prefix()))
+        .collect(alloc)
+}
+
+// Appends a line for each address that was tried and has an IPv4 host embedded: `he: 64:ff9b::cb00:7150 is
+// 203.0.113.80`.
+pub(crate) fn write_translated(
+    nat64: Option<&Nat64>,
+    attempts: &[Line],
+    out: &mut Vec<u8>,
+) -> Result<(), Memory> {
+    let Some(Nat64::Prefixes(prefixes)) = nat64 else {
+        return Ok(());
+    };
+    for attempt in attempts {
+        if let Some(host) = host_of(prefixes, attempt.ip) {
+            out.extend_from_slice(b"he: ")?;
+            write_ip(attempt.ip, out)?;
+            out.extend_from_slice(b" is ")?;
+            write_ip(Ip::V4(host), out)?;
+            out.push(b'\n')?;
+        }
+    }
+    Ok(())
+}
+
+// The host that the address has embedded by one of the prefixes.
+fn host_of(prefixes: &[Prefix64], ip: Ip) -> Option<u32> {
+    let Ip::V6(number) = ip else {
+        return None;
+    };
+    prefixes.iter().find_map(|prefix| prefix.extract(number))
+}
+
+// Appends why no IPv4 address was embedded: the network has no prefix, or none for this host, or it is not known.
+pub(crate) fn write_untranslated(
+    alloc: Global,
+    setup: &Setup<'_>,
+    nat64: &Nat64,
+    out: &mut Vec<u8>,
+) -> Result<(), Memory> {
+    let host = setup.request.host;
+    if setup.known.is_none() {
+        write_lack(host, Family::V6, out)?;
+    }
+    let line = match nat64 {
+        Nat64::Unknown(fault) => format!(in alloc;
+            "he: this machine has no IPv4, and its network's NAT64 is unknown: AAAA of ipv4only.arpa: {fault}\n"
+        )?,
+        Nat64::Prefixes(prefixes) if prefixes.is_empty() => format!(in alloc;
+            "he: this machine has no IPv4, and its network no NAT64\n"
+        )?,
+        Nat64::Prefixes(_) => format!(in alloc;
+            "he: this machine has no IPv4, and its network's NAT64 no address for {host}\n"
+        )?,
+    };
+    out.extend_from_slice(line.as_bytes())?;
+    Ok(())
+}

@@ -1,0 +1,2 @@
+mod Quickest
+mod Rounded
