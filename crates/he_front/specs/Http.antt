@@ -1,5 +1,5 @@
 -- The requests of HTTP clients: the head of a request (RFC 9112 section 3).
-use Rattle.std.specs.Prelude.{◌≡◌, ◌≢◌, ◌≤◌, IfSome, ℕ, Bool, true, false, List, Option, codes, count_by, drop, find, map, nat_le}
+use Rattle.std.specs.Prelude.{◌≡◌, ◌≢◌, ◌≤◌, ◌&&◌, IfSome, ℕ, Bool, true, false, List, Option, codes, count_by, drop, find, length, map, nat_le, take}
 use Rattle.std.specs.Char.{to_ascii_lowercase}
 use Rattle.std.specs.Option.{option_map}
 use Rattle.std.specs.Str.{bytes_eq}
@@ -14,12 +14,11 @@ use Rattle.he_front.specs.declared.http.Method.TheVariants as methods
 use Rattle.he_front.specs.declared.http.ReadHead.{ReadHead}
 use Rattle.he_front.specs.declared.http.ReadHead.TheVariants as reads
 
--- methods, in capital letters (RFC 9110 section 9.1)
+-- methods besides CONNECT, in capital letters (RFC 9110 section 9.1)
 abbrev pub IsMethod : List ℕ → Method → Type 0
-IsMethod method methods.Connect = method ≡ codes "CONNECT"
 IsMethod method methods.Get = method ≡ codes "GET"
 IsMethod method methods.Head = method ≡ codes "HEAD"
-IsMethod method methods.Other = (method ≢ codes "CONNECT") × (method ≢ codes "GET") × (method ≢ codes "HEAD")
+IsMethod method methods.Other = (method ≢ codes "GET") × (method ≢ codes "HEAD")
 
 -- field names are compared case-insensitively (RFC 9110 section 5.1)
 abbrev pub is_named : List ℕ → List ℕ → Bool
@@ -44,23 +43,34 @@ count_named octets name fields = count_by (λ field. is_named name (span_bytes o
 abbrev pub has_two_hosts : RequestHead → Bool
 has_two_hosts request = nat_le 2 (count_of (codes "host") (map name_and_value request.fields))
 
+-- a target in absolute form with the scheme http, in any case of letters (RFC 9112 section 3.2.2)
+abbrev pub is_forwarded : List ℕ → Bool
+is_forwarded target = nat_le 7 (length target) && is_named (codes "http://") (take 7 target)
+
+-- a request of the proxy itself, or one that names its target in another way
+abbrev pub IsOfProxy : RequestHead → Type 0
+IsOfProxy request = (has_two_hosts request ≡ false) × (is_forwarded request.target ≡ false)
+
 -- these are the spans of the target and of the value of the field Host
 abbrev pub HasTarget : List ℕ → RequestHead → Span → Option Span → Type 0
 HasTarget octets request target host =
     (span_bytes octets target ≡ request.target)
     × (option_map (span_bytes octets) host ≡ value_of (codes "host") (map name_and_value request.fields))
 
--- the request: a tunnel to this target; this target of this host, with or without the body; or something else
+-- the request: a tunnel to this target; this target of this host, with or without the body; one to forward; or
+-- something else
 abbrev pub AsksFor : List ℕ → RequestHead → Head → Type 0
 AsksFor octets request (heads.Tunnel target) =
-    (has_two_hosts request ≡ false) × IsMethod request.method methods.Connect
-    × (span_bytes octets target ≡ request.target)
+    (has_two_hosts request ≡ false) × (request.method ≡ codes "CONNECT") × (span_bytes octets target ≡ request.target)
 AsksFor octets request (heads.Get target host) =
-    (has_two_hosts request ≡ false) × IsMethod request.method methods.Get × HasTarget octets request target host
+    IsOfProxy request × IsMethod request.method methods.Get × HasTarget octets request target host
 AsksFor octets request (heads.Head target host) =
-    (has_two_hosts request ≡ false) × IsMethod request.method methods.Head × HasTarget octets request target host
+    IsOfProxy request × IsMethod request.method methods.Head × HasTarget octets request target host
+AsksFor octets request heads.Forward =
+    (has_two_hosts request ≡ false) × (request.method ≢ codes "CONNECT") × (is_forwarded request.target ≡ true)
 AsksFor octets request heads.TwoHosts = has_two_hosts request ≡ true
-AsksFor octets request heads.Other = (has_two_hosts request ≡ false) × IsMethod request.method methods.Other
+AsksFor octets request heads.Other =
+    IsOfProxy request × (request.method ≢ codes "CONNECT") × IsMethod request.method methods.Other
 
 -- the octets begin with this head, which ends here
 abbrev pub HasHead : List ℕ → Head → ℕ → Type 0
@@ -72,6 +82,7 @@ abbrev pub LiesWithin : ℕ → Head → Type 0
 LiesWithin n (heads.Tunnel target) = IsWithin n target
 LiesWithin n (heads.Get target host) = IsWithin n target × IfSome host (IsWithin n)
 LiesWithin n (heads.Head target host) = IsWithin n target × IfSome host (IsWithin n)
+LiesWithin n heads.Forward = Unit {0}
 LiesWithin n heads.TwoHosts = Unit {0}
 LiesWithin n heads.Other = Unit {0}
 

@@ -1,15 +1,18 @@
-// The requests of HTTP clients (RFC 9112 section 3; a tunnel: RFC 9110 section 9.3.6).
+// The requests of HTTP clients (RFC 9112 section 3; a tunnel: RFC 9110 section 9.3.6; a request to forward: RFC 9112
+// section 3.2.2).
 
-ghost use Rattle.std.specs.Prelude.{◌≡◌, All, IfSome, length, map, nat_le};
+ghost use Rattle.std.specs.Prelude.{◌≡◌, All, IfSome, length, map};
 ghost use Rattle.std.specs.Option.{option_map};
 ghost use Rattle.httparse.specs.Spans.{header_bytes, span_bytes, IsHeaderWithin, IsRequestOf, IsRequestWithin, IsWithin};
-ghost use Rattle.he_front.specs.Http.{HasHead, IsMethod, IsReadWithin, LiesWithin, ReadsHead, count_named, field_named, is_named, value_of};
+ghost use Rattle.he_front.specs.Http.{HasHead, IsMethod, IsReadWithin, LiesWithin, ReadsHead, count_named, field_named, is_forwarded, is_named, value_of};
 
 use httparse::Status;
 use httparse::spans::{EMPTY_HEADER_SPAN, HeaderSpan, RequestSpans, Span, parse_request};
 
 /// The maximum number of fields of a head.
 pub const MOST_FIELDS: usize = 64;
+
+const HTTP: &[u8] = b"http://";
 
 /// The head of a request.
 #[derive(Clone, Copy, Debug, PartialEq, Eq)]
@@ -20,6 +23,9 @@ pub enum Head {
     Get(Span, Option<Span>),
     /// HEAD, with the same spans as GET.
     Head(Span, Option<Span>),
+    /// A request of any other method to forward: its target is in absolute form with the scheme http (RFC 9112
+    /// section 3.2.2).
+    Forward,
     /// A request of any method with more than one field Host (RFC 9112 section 3.2).
     TwoHosts,
     /// Another method.
@@ -39,7 +45,6 @@ pub enum ReadHead {
 
 #[derive(Clone, Copy, PartialEq, Eq)]
 enum Method {
-    Connect,
     Get,
     Head,
     Other,
@@ -48,9 +53,7 @@ enum Method {
 fn method_of(method: &[u8]) -> Method
     ensures { IsMethod method.now result }
 {
-    if method == b"CONNECT".as_slice() {
-        Method::Connect
-    } else if method == b"GET".as_slice() {
+    if method == b"GET".as_slice() {
         Method::Get
     } else if method == b"HEAD".as_slice() {
         Method::Head
@@ -82,22 +85,35 @@ fn head_of(octets: &[u8], fields: &[HeaderSpan], spans: &RequestSpans) -> Head
     ensures within { LiesWithin (length octets.now) result }
 {
     let given = &fields[..spans.headers];
-    if has_two(octets, given, b"host") {
+    if count_named(octets, given, b"host") >= 2 {
         return Head::TwoHosts;
     }
+    let method = spans.method.of(octets);
+    if method == b"CONNECT".as_slice() {
+        return Head::Tunnel(spans.path);
+    }
+    if is_forwarded(spans.path.of(octets)) {
+        return Head::Forward;
+    }
     let host = value_named(octets, given, b"host");
-    match method_of(spans.method.of(octets)) {
-        Method::Connect => Head::Tunnel(spans.path),
+    match method_of(method) {
         Method::Get => Head::Get(spans.path, host),
         Method::Head => Head::Head(spans.path, host),
         Method::Other => Head::Other,
     }
 }
 
-// Whether more than one field has this name.
-fn has_two(octets: &[u8], fields: &[HeaderSpan], name: &[u8]) -> bool
+/// Whether a target is in absolute form with the scheme http, whose case does not matter (RFC 3986 section 3.1).
+pub fn is_forwarded(target: &[u8]) -> bool
+    ensures { result ≡ is_forwarded target.now }
+{
+    target.len() >= HTTP.len() && is_named(&target[..HTTP.len()], HTTP)
+}
+
+/// The number of fields with this name.
+pub fn count_named(octets: &[u8], fields: &[HeaderSpan], name: &[u8]) -> usize
     requires { All (IsHeaderWithin (length octets.now)) fields.now }
-    ensures { result ≡ nat_le 2 (count_named octets.now name.now fields.now) }
+    ensures { result ≡ count_named octets.now name.now fields.now }
 {
     let mut count = 0usize;
     for field in fields {
@@ -105,7 +121,7 @@ fn has_two(octets: &[u8], fields: &[HeaderSpan], name: &[u8]) -> bool
             count += 1;
         }
     }
-    count >= 2
+    count
 }
 
 // The span of the value of the first field with this name.
@@ -121,8 +137,8 @@ fn value_named(octets: &[u8], fields: &[HeaderSpan], name: &[u8]) -> Option<Span
     }
 }
 
-// The first field with this name.
-fn field_named(octets: &[u8], fields: &[HeaderSpan], name: &[u8]) -> Option<HeaderSpan>
+/// The first field with this name.
+pub fn field_named(octets: &[u8], fields: &[HeaderSpan], name: &[u8]) -> Option<HeaderSpan>
     requires { All (IsHeaderWithin (length octets.now)) fields.now }
     ensures field { result ≡ field_named octets.now name.now fields.now }
     ensures within { IfSome result (IsHeaderWithin (length octets.now)) }
@@ -135,7 +151,8 @@ fn field_named(octets: &[u8], fields: &[HeaderSpan], name: &[u8]) -> Option<Head
     None
 }
 
-fn is_named(field: &[u8], name: &[u8]) -> bool
+/// Whether the name of a field is this one: case does not matter (RFC 9110 section 5.1).
+pub fn is_named(field: &[u8], name: &[u8]) -> bool
     ensures { result ≡ is_named name.now field.now }
 {
     field.eq_ignore_ascii_case(name)

@@ -1,5 +1,6 @@
 //! The requests of a proxy's clients and the replies to them: SOCKS 5 (RFC 1928), tunnels over HTTP (RFC 9110 section
-//! 9.3.6), and the proxy's own pages. This crate reads and writes octets, and has no sockets.
+//! 9.3.6), requests of HTTP to forward, which `he_forward` reads, and the proxy's own pages. This crate reads and
+//! writes octets, and has no sockets.
 //!
 //! Proved, for all octets:
 //!

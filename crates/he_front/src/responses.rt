@@ -199,11 +199,11 @@ pub fn write_advice<A: Allocator + Copy>(
     ensures { OnOk result (out.new.items ≡ out.old.items ++ advice_text ip port) }
 {
     write_octets(
-        b"he proxy speaks SOCKS 5 and CONNECT: set ALL_PROXY=socks5h://",
+        b"he proxy speaks SOCKS 5, CONNECT and plain HTTP: set ALL_PROXY=socks5h://",
         out,
     )?;
     write_socket(ip, port, out)?;
-    write_octets(b", or for https alone https_proxy=http://", out)?;
+    write_octets(b", or http_proxy and https_proxy=http://", out)?;
     write_socket(ip, port, out)
 }
 

@@ -103,6 +103,28 @@ fn a_connect_names_its_target(rt: HostRuntime) -> Result<(), Fail> {
     Ok(())
 }
 
+// Whether the octets begin with this head.
+fn begins_with(octets: &[u8], wanted: Head) -> bool {
+    match read_head(octets) {
+        ReadHead::Whole(head, _) => head == wanted,
+        _ => false,
+    }
+}
+
+#[test]
+fn a_target_with_a_scheme_is_forwarded(rt: HostRuntime) {
+    assert!(rt; begins_with(b"GET http://a/ HTTP/1.1\r\nHost: a\r\n\r\n", Head::Forward));
+    assert!(rt; begins_with(b"PURGE HtTp:// HTTP/1.0\r\n\r\n", Head::Forward));
+    assert!(rt; begins_with(b"POST https://a/ HTTP/1.1\r\n\r\n", Head::Other));
+    assert!(rt; begins_with(b"POST http:/ HTTP/1.1\r\n\r\n", Head::Other));
+    assert!(rt;
+        begins_with(
+            b"GET http://a/ HTTP/1.1\r\nHost: a\r\nHost: a\r\n\r\n",
+            Head::TwoHosts
+        )
+    );
+}
+
 #[test]
 fn a_page_is_asked_for(rt: HostRuntime) {
     let ReadHead::Whole(Head::Get(target, Some(host)), _) = read_head(GET) else {

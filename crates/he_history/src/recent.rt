@@ -3,7 +3,7 @@
 use he_addr::{Family, Memory};
 use he_course::Course;
 use he_draw::{Times, Totals, write_head, write_name, write_section, write_tail};
-use he_record::Record;
+use he_record::{Record, read_record};
 use he_timeline::Timeline;
 use std::alloc::Global;
 use std::cell::Cell;
@@ -23,6 +23,8 @@ pub struct Recent {
 pub struct Shown {
     pub name: String,
     pub recorded: Timeline,
+    /// The text of the race with its record lines; none if an allocation failed.
+    pub text: Option<Vec<u8>>,
 }
 
 impl Recent {
@@ -63,10 +65,21 @@ fn write_races(alloc: Global, races: &[Shown], out: &mut Vec<u8>) -> Result<(), 
     for (place, race) in races.iter().rev().enumerate() {
         let course = Course::of(alloc, &race.recorded, place.saturating_add(1), 1)?;
         write_name(race.name.as_str(), out)?;
-        write_section(&course, &Record::none(alloc), 0, out)?;
+        write_section(&course, &record_of(alloc, race)?, 0, out)?;
         counts.add(&course)?;
     }
     write_tail(counts.totals()?, out)
+}
+
+// The record lines of the race.
+fn record_of(alloc: Global, race: &Shown) -> Result<Record<'_>, Memory> {
+    let Some(text) = &race.text else {
+        return Ok(Record::none(alloc));
+    };
+    match read_record(alloc, text) {
+        Ok((record, _length)) => Ok(record),
+        Err(_fault) => Err(Memory),
+    }
 }
 
 // The counts of the races.

@@ -7,7 +7,7 @@ use crate::facts::Facts;
 use crate::output::Output;
 use he_access::reach::Place;
 use he_addr::{Memory, write_ip, write_number};
-use he_front::{Ended, RequestLine};
+use he_front::Ended;
 use he_history::{Cause, stamp_now};
 use he_live::{Endpoint, socket_of};
 use he_print::write_string;
@@ -118,7 +118,7 @@ impl<F: Write + Drop> Log<F> {
     /// Reports that the limit of sessions is reached.
     pub fn tell_most(&self, most: u32) {
         if let Ok(what) = format!(in self.alloc;
-            "{most} sessions run, as many as --most allows: other clients wait until one ends"
+            "{most} sessions run, as many as --max-clients allows: other clients wait until one ends"
         ) {
             self.say(&what);
         }
@@ -161,7 +161,11 @@ fn line_of(
     line.put_text("host", end.host.as_bytes())?;
     line.put_number("port", u64::from(end.port))?;
     if let Some(request) = end.request {
-        line.put_request(alloc, request)?;
+        line.put_octets(alloc, "method", request.method)?;
+        // The log has no paths of other servers, which may be private.
+        if end.host.is_empty() {
+            line.put_octets(alloc, "target", request.target)?;
+        }
     }
     line.put_facts(facts)?;
     match end.result {
@@ -200,13 +204,10 @@ impl Line {
         self.put_text("client", format!(in alloc; "{client}")?.as_bytes())
     }
 
-    // The request for no tunnel, as UTF-8 text, whatever its octets are.
-    fn put_request(&mut self, alloc: Global, request: RequestLine<'_>) -> Result<(), Memory> {
-        let RequestLine { method, target } = request;
-        let method = String::from_utf8_lossy(alloc, method)?;
-        let target = String::from_utf8_lossy(alloc, target)?;
-        self.put_text("method", method.as_bytes())?;
-        self.put_text("target", target.as_bytes())
+    // Octets of a request as UTF-8 text, whatever they are.
+    fn put_octets(&mut self, alloc: Global, name: &str, octets: &[u8]) -> Result<(), Memory> {
+        let text = String::from_utf8_lossy(alloc, octets)?;
+        self.put_text(name, text.as_bytes())
     }
 
     // When the race began, its record, and how long it had no address to try.

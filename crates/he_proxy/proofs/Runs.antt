@@ -12,11 +12,11 @@ use Rattle.he_turns.specs.Winner.{WinnerGoes}
 use Rattle.he_turns.specs.declared.live.Raced.{Raced}
 use Rattle.he_sessions.specs.declared.racer.Won.{Won}
 use Rattle.he_timeline.specs.Race.{Race}
-use Rattle.he_proxy.specs.Dials.{GoesTo}
+use Rattle.he_loop.specs.Dials.{GoesTo}
 use Rattle.he_proxy.specs.Races.{AsksFor, HandsOut, IsReachOf, IsWonBy, RunsFrom, Wins}
 use Rattle.he_access.specs.declared.reach.Place.{Place}
-use Rattle.he_proxy.specs.declared.access.Reach.{Reach}
-use Rattle.he_proxy.specs.declared.dial.Joined.{Joined}
+use Rattle.he_loop.specs.declared.access.Reach.{Reach}
+use Rattle.he_loop.specs.declared.dial.Joined.{Joined}
 use Rattle.he_proxy.specs.declared.request.ProxyRequest.{ProxyRequest}
 
 -- a connection that goes to the endpoint that is asked for, where it is reached

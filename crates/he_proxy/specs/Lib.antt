@@ -1,5 +1,3 @@
-pub mod Access
-pub mod Dials
 pub mod Kept
 pub mod Limits
 pub mod Races

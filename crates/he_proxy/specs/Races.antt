@@ -21,10 +21,10 @@ use Rattle.he_addr.specs.Text.{ip_of}
 use Rattle.he_live.specs.declared.endpoint.Endpoint.{Endpoint}
 use Rattle.he_turns.specs.Resolving.{ReplaysGiven}
 use Rattle.he_turns.specs.Winner.{WinnerGoes}
-use Rattle.he_proxy.specs.Dials.{GoesTo}
+use Rattle.he_loop.specs.Dials.{GoesTo}
 use Rattle.he_access.specs.declared.reach.Place.{Place}
-use Rattle.he_proxy.specs.declared.access.Reach.{Reach}
-use Rattle.he_proxy.specs.declared.dial.Joined.{Joined}
+use Rattle.he_loop.specs.declared.access.Reach.{Reach}
+use Rattle.he_loop.specs.declared.dial.Joined.{Joined}
 use Rattle.he_proxy.specs.declared.request.ProxyRequest.{ProxyRequest}
 
 -- the race was won at this place and tick: by this address, in this number of milliseconds, of which it lost `lost`

@@ -3,9 +3,7 @@ ghost use Rattle.std.specs.Prelude.{◌≡◌, IfOk, IfSome};
 ghost use Rattle.he_proxy.specs.Races.{IsWinner, IsWonOf};
 ghost use Rattle.he_proxy.specs.Recorded.{IsRecordOf, IsSessionFacts, client_ip, end_of};
 
-use crate::access::{Reach, ip_of};
-use crate::dial::Joined;
-use crate::sockets::{Noted, SharedLoop};
+use crate::sockets::Noted;
 use he_addr::{Ip, Memory};
 use he_connect::{Families, KnownFacts, facts_of};
 use he_course::Course;
@@ -16,6 +14,7 @@ use he_history::{
 use he_kernel::sockets::NO_SCOPE;
 use he_live::attempt_failures;
 use he_log::{Facts, Lost, SessionFacts};
+use he_loop::{Joined, Reach, SharedLoop, ip_of};
 use he_plan::{Line, Mark, Outcome3, Transcript};
 use he_record::{ClientEnd, Moment};
 use he_recording::{Facts as RecordFacts, Target, text_of};
@@ -90,14 +89,14 @@ impl<'h, R: Clock + Files + RandomSource + AllocGlobal + Net + Copy> Keeping<'h,
         let lost = self.lost(&winner, &raced.transcript);
         let source = raced.winner.as_ref().and_then(Joined::source);
         self.learn(&raced.recorded, &raced.transcript, source);
-        self.keep(&raced.recorded, &raced.transcript, lost, None);
+        let text = self.keep(&raced.recorded, &raced.transcript, lost, None);
         let Raced {
             transcript,
             recorded,
             winner: joined,
         } = raced;
         drop(transcript);
-        self.show(recorded);
+        self.show(recorded, text);
         match (winner, joined) {
             (Ok(Some(winner)), Some(joined)) => Ok(Won {
                 stream: joined.into_stream(),
@@ -119,9 +118,9 @@ impl<'h, R: Clock + Files + RandomSource + AllocGlobal + Net + Copy> Keeping<'h,
                 transcript,
             } = kept;
             self.learn(&recorded, &transcript, None);
-            self.keep(&recorded, &transcript, None, Some(tick));
+            let text = self.keep(&recorded, &transcript, None, Some(tick));
             drop(transcript);
-            self.show(recorded);
+            self.show(recorded, text);
         }
         Ok(())
     }
@@ -135,18 +134,20 @@ impl<'h, R: Clock + Files + RandomSource + AllocGlobal + Net + Copy> Keeping<'h,
         self.known.learn(self.shared.rt, transcript, learnt);
     }
 
-    // Keeps the record, if records are kept, and notes the log's facts of the race.
+    // Keeps the record, if records are kept, and notes the log's facts of the race. Returns the record's text; none if
+    // an allocation fails.
     fn keep(
         &self,
         recorded: &Timeline,
         transcript: &Transcript,
         lost: Option<Lost>,
         given_up: Option<u64>,
-    ) {
+    ) -> Option<Vec<u8>> {
         let alloc = self.shared.alloc;
+        let text = self.text_of(recorded, transcript, given_up).ok();
         let mut facts = Facts::none(alloc);
         facts.began = String::from_str(alloc, self.began.as_str()).ok();
-        facts.record = self.record(recorded, transcript, given_up);
+        facts.record = text.as_ref().and_then(|text| self.record(text));
         facts.names = transcript.attempts().first().map(|line| line.tick);
         if lost.is_some() || given_up.is_some() {
             facts.tried = tried_in(alloc, transcript.attempts());
@@ -154,24 +155,19 @@ impl<'h, R: Clock + Files + RandomSource + AllocGlobal + Net + Copy> Keeping<'h,
         facts.lost = lost;
         facts.given_up = given_up;
         self.facts.note(self.client, facts);
+        text
     }
 
     // Writes the record, if records are kept, and returns the name of its file. If it can't be written, the session
     // goes on, and the log has the reason.
-    fn record(
-        &self,
-        recorded: &Timeline,
-        transcript: &Transcript,
-        given_up: Option<u64>,
-    ) -> Option<String> {
+    fn record(&self, text: &[u8]) -> Option<String> {
         let records = self.records?;
-        let text = self.text_of(recorded, transcript, given_up).ok()?;
         let name = RecordName {
             began: self.began.as_str(),
             host: self.host.as_str(),
             port: self.port,
         };
-        records.keep(self.shared.rt, name, text.as_slice())
+        records.keep(self.shared.rt, name, text)
     }
 
     // The text of the race with its record.
@@ -189,6 +185,7 @@ impl<'h, R: Clock + Files + RandomSource + AllocGlobal + Net + Copy> Keeping<'h,
         let known = KnownFacts {
             at: self.at,
             why: self.noted.why.families(),
+            nat64: &[],
             servers: &servers,
             attempts: &attempts,
         };
@@ -216,11 +213,15 @@ impl<'h, R: Clock + Files + RandomSource + AllocGlobal + Net + Copy> Keeping<'h,
         }
     }
 
-    // Shows the race on the page of the last races.
-    fn show(&self, recorded: Timeline) {
+    // Shows the race with its record on the page of the last races.
+    fn show(&self, recorded: Timeline, text: Option<Vec<u8>>) {
         let (began, host, port) = (&self.began, &self.host, self.port);
         match format!(in self.shared.alloc; "{host} port {port}, {began}") {
-            Ok(name) => self.recent.add(Shown { name, recorded }),
+            Ok(name) => self.recent.add(Shown {
+                name,
+                recorded,
+                text,
+            }),
             Err(_) => drop(recorded),
         }
     }

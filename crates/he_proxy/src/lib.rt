@@ -22,8 +22,8 @@
 //! - A session's client is one that `he_access` serves, and its race is requested with that client's address
 //!   (`IsServedBy`, `IsReachOf` in `specs/Races`).
 //! - An address is tried only if `he_access` allows it to the client, by the kernel's answer for it in this race
-//!   ([`Reach::has`](access::Reach::has)); for a client of another machine only if the kernel has a way to it. The
-//!   connection comes with that answer (`GoesTo` in `specs/Dials`). That the kernel was asked is tested.
+//!   ([`Reach::has`](he_loop::Reach::has)); for a client of another machine only if the kernel has a way to it. The
+//!   connection comes with that answer (`GoesTo` of he_loop). That the kernel was asked is tested.
 //! - A race is requested with the session's host and port, and with the proxy's settings, families, lines and
 //!   resolver (`AsksFor` in `specs/Races`).
 //! - A session gets the connection that its race gave: the winner's address and time are those of the race's
@@ -36,8 +36,8 @@
 //! - The text of a race's record has the session's host and port, its client's address, the tick at which the client
 //!   left if it did, an attempt for each failed one of the transcript, and a look-up only for a family whose answer is
 //!   empty. It reads back as the race with these lines (`IsRecordOf` in `specs/Recorded`).
-//! - The history and log lines of a race, and the record of one that was given up, are as specified by `he_history` and
-//!   `he_log`.
+//! - The history and log lines of a race, and the record of one that was given up, are as specified by `he_history`
+//!   and `he_log`.
 //! - A running race gets its look-up's answers or, if another race does the host's look-up, addresses with the lines
 //!   that the look-up would give them; the history of addresses changes neither them nor the lines (`specs/Sources`).
 //! - The numbers in the documents are the program's (`specs/Limits`).
@@ -50,8 +50,6 @@
 //! the log's lines; the page.
 #![tactic(auto)]
 
-pub mod access;
-pub mod dial;
 pub mod fault;
 pub mod keeping;
 pub mod limits;
@@ -65,7 +63,6 @@ pub mod server;
 pub mod sockets;
 pub mod source;
 pub mod state;
-pub mod ticks;
 
 pub use fault::ProxyFault;
 pub use limits::{DEFAULT_PORT, DEFAULT_RECORDS, DEFAULT_SESSIONS};

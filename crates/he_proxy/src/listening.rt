@@ -2,7 +2,6 @@
 ghost use Rattle.std.specs.Prelude.{IfOk};
 ghost use Rattle.he_proxy.specs.Sockets.{MayAccept};
 
-use crate::access::{ip_of, place_of};
 use crate::fault::ProxyFault;
 use crate::limits::DEFAULT_PORT;
 use crate::request::ProxyRequest;
@@ -10,6 +9,7 @@ use futures::stream::SelectAll;
 use he_access::reach::{Place, is_loopback};
 use he_addr::Prefix;
 use he_history::Cause;
+use he_loop::{ip_of, place_of};
 use he_relay::keep_alive;
 use std::alloc::Global;
 use std::net::{IpAddr, Ipv4Addr, Ipv6Addr, Net, SocketAddr};

@@ -1,11 +1,11 @@
 //! A session's race: its result, and its record.
 ghost use Rattle.std.specs.Prelude.{◌≡◌};
 
-use crate::dial::Joined;
 use crate::keeping::Keeping;
 use futures::Future;
 use futures::task::{Context, Poll};
 use he_front::Ended;
+use he_loop::Joined;
 use he_sessions::Won;
 use he_turns::{RaceFault, Raced};
 use std::alloc::AllocGlobal;

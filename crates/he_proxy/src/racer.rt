@@ -2,12 +2,11 @@
 ghost use Rattle.std.specs.Prelude.{◌≡◌, IfOk, Ok};
 ghost use Rattle.he_proxy.specs.Races.{AsksFor, IsReachOf, IsWonBy, RunsFrom, Wins};
 
-use crate::access::{Client, Reach, ip_of, place_of};
 use crate::keeping::Keeping;
 use crate::pages::{Asked, write_answer};
 use crate::race::LoopRace;
 use crate::request::ProxyRequest;
-use crate::sockets::{Noted, SharedLoop, SocketRace, socket_race};
+use crate::sockets::{Noted, SocketRace, socket_race};
 use crate::source::Earlier;
 use crate::state::ProxyState;
 use futures::Future;
@@ -19,6 +18,7 @@ use he_front::Ended;
 use he_history::{Records, second_now, stamp_of};
 use he_kernel::asked::AskedWays;
 use he_log::{Facts, Lost};
+use he_loop::{Client, Reach, SharedLoop, ip_of, place_of};
 use he_recording::moment_now;
 use he_sessions::{PageAsked, Racer, SessionEnd};
 use std::alloc::AllocGlobal;

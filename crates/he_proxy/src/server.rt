@@ -1,10 +1,10 @@
 //! Handles clients: a session for each that is served.
 ghost use Rattle.std.specs.Prelude.{IfSome};
 
-use crate::sockets::SharedLoop;
 use crate::state::ProxyState;
 use he_clients::Service;
 use he_live::Reason;
+use he_loop::SharedLoop;
 use he_sessions::{Limits, Racer, Session};
 use std::io::Write;
 use std::net::SocketAddr;

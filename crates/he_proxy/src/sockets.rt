@@ -1,22 +1,18 @@
 //! The race of a session on the sockets of the event loop.
 ghost use Rattle.std.specs.Prelude.{◌≡◌, IfOk, IfSome, Ok};
-ghost use Rattle.futures.specs.Task.{Keeps};
 ghost use Rattle.he_resolver.specs.Heard.{IsSound};
 ghost use Rattle.he_connect.specs.Races.{KnowsHost, only_of};
 ghost use Rattle.he_proxy.specs.Kept.{AreKeptOf, BeginsBy};
 ghost use Rattle.he_proxy.specs.Races.{RunsFrom};
 
-use crate::access::Reach;
-use crate::dial::LoopConnector;
 use crate::source::{Earlier, RaceSource};
-use crate::ticks::{Progress, RaceTicker};
 use futures::Future;
-use futures::task::Context;
 use he_addr::{Ip, Memory};
 use he_connect::{ConnectFault, ConnectRequest, HostAnswers, LookupFaults, OwnMachine, Setup};
 use he_kept::KeptAnswers;
 use he_kernel::asked::AskedWays;
 use he_live::{LiveTicker, Quiet, Steps};
+use he_loop::{LoopConnector, Progress, RaceTicker, Reach, SharedLoop};
 use he_resolver::Lookup;
 use he_settings::Wanted;
 use he_turns::ResolvingRace;
@@ -24,9 +20,7 @@ use std::alloc::{AllocGlobal, Global};
 use std::net::Net;
 use std::random::RandomSource;
 use std::rt::Files;
-use std::time::{Clock, Duration};
-use tokio::runtime::Handle;
-use tokio::time::Sleep;
+use std::time::Clock;
 
 /// The race on the sockets of the event loop.
 pub type SocketRace<'h, R> = ResolvingRace<
@@ -34,35 +28,6 @@ pub type SocketRace<'h, R> = ResolvingRace<
     RaceSource<'h, R>,
     RaceTicker<'h, R>,
 >;
-
-/// The event loop that all races share.
-#[derive(Clone, Copy)]
-pub struct SharedLoop<'h, R> {
-    pub rt: &'h R,
-    pub alloc: Global,
-    pub handle: &'h Handle,
-}
-
-impl<R: Clock> SharedLoop<'_, R> {
-    /// Makes places in the event loop for all sockets so far. For a socket without a place, the loop loses the events
-    /// before the socket's first poll, which is at the next tick: if a server greets and closes by then, its end
-    /// would be missed. Keep the returned timer: the task is woken once when it is dropped.
-    pub fn make_places(&self, cx: &mut Context<'_>) -> Option<Sleep>
-        ensures { Keeps cx.old cx.new }
-    {
-        // Places are made in the order of the sockets and timers, up to the one that is polled.
-        let mut last = self
-            .handle
-            .time()
-            .sleep(self.rt, Duration::from_secs(NEVER))
-            .ok()?;
-        let _ = last.poll_elapsed(cx);
-        Some(last)
-    }
-}
-
-// Seconds; longer than any race.
-const NEVER: u64 = 86_400;
 
 /// The notes of a running race.
 #[derive(Drop)]

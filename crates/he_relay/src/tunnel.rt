@@ -1,5 +1,5 @@
 //! Connects two connections to each other, a little at a time.
-ghost use Rattle.std.specs.Prelude.{◌≡◌, IfOk};
+ghost use Rattle.std.specs.Prelude.{◌≡◌, IfOk, IsTrue};
 ghost use Rattle.futures.specs.Poll.{OnPending};
 ghost use Rattle.futures.specs.Task.{IsArmed, Keeps};
 ghost use Rattle.tokio.specs.Io.Moved.{IfReadyErr, OnReadyOk};
@@ -36,6 +36,7 @@ pub struct Tunnel<A, B> {
 
 impl<A: AsyncRead + AsyncWrite, B: AsyncRead + AsyncWrite> Tunnel<A, B> {
     ghost use Rattle.he_relay.specs.Tunnels.{AreOver, HasGivenAll, IsBegun, MovesBoth};
+    ghost use Rattle.he_relay.specs.Ways.{IsOver};
 
     /// A tunnel that first writes the client's early data to the server.
     ///
@@ -120,6 +121,20 @@ impl<A: AsyncRead + AsyncWrite, B: AsyncRead + AsyncWrite> Tunnel<A, B> {
             broke: _,
         } = self;
         (client, server)
+    }
+
+    /// The client.
+    pub fn client(&self) -> &A
+        ensures { result.now ≡ self.now.client }
+    {
+        &self.client
+    }
+
+    /// Whether the server has ended its way, and all its bytes are written to the client, which was told of their end.
+    pub fn is_answered(&self) -> bool
+        ensures { IsTrue result → IsOver self.now.back }
+    {
+        self.back.is_over()
     }
 
     /// The number of bytes written: to the server, and to the client.

@@ -1,5 +1,5 @@
 //! One way of a polled relay: copies a reader to a writer, a little at a time.
-ghost use Rattle.std.specs.Prelude.{◌≡◌, ◌^◌, ◌<◌, ◌≤◌, true, length, IfOk, Ok};
+ghost use Rattle.std.specs.Prelude.{◌≡◌, ◌^◌, ◌<◌, ◌≤◌, true, length, IfOk, IsTrue, Ok};
 ghost use Rattle.futures.specs.Poll.{OnPending};
 ghost use Rattle.futures.specs.Task.{IsArmed, Keeps};
 ghost use Rattle.tokio.specs.Io.Moved.{IfReadyErr, OnReadyOk, bytes_moved, count_moved};
@@ -76,6 +76,13 @@ impl Way {
         ensures { result ≡ self.now.moved }
     {
         self.moved
+    }
+
+    /// Whether the reader has ended, all its bytes are written, and the writer is shut down.
+    pub fn is_over(&self) -> bool
+        ensures { IsTrue result → IsOver self.now }
+    {
+        self.is_shut
     }
 
     /// Reads and writes until it would have to wait, but only a few times, and then lets other tasks run. Ready once

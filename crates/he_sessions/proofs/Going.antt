@@ -1,30 +1,27 @@
 -- How a session goes from one state to the next.
-use Rattle.std.proofs.Common.{◌≡◌, ℕ, Bool, true, false, List, [], ◌∷◌, ◌++◌, take, drop, refl, sym, ap, ◌∙◌, subst, inl, inr, arith, append_assoc, append-nil}
+use Rattle.std.proofs.Common.{◌≡◌, ℕ, Bool, true, false, List, [], ◌++◌, take, drop, refl, sym, ap, ◌∙◌, subst, inr, arith, append_assoc, append-nil}
 use Rattle.std.proofs.lemmas.List.{take-append-drop}
-use Rattle.std.specs.Prelude.{Option, Some, Result, Ok}
+use Rattle.std.specs.Prelude.{Option, Result}
 use Rattle.std.specs.declared.alloc.Global.{Global}
 use Rattle.std.specs.declared.net.socket_addr.SocketAddr.{SocketAddr}
 use Rattle.tokio.specs.Io.Moved.{Passes}
 use Rattle.futures.specs.declared.future.Future.{Ghosts as FutureOf}
-use Rattle.httparse.specs.declared.spans.Span.{Span}
 use Rattle.he_front.specs.declared.asked.Asked.{Asked}
 use Rattle.he_front.specs.declared.replies.Ended.{Ended}
-use Rattle.he_front.specs.declared.replies.Ended.TheVariants as ends
 use Rattle.he_relay.specs.Tunnels.{IsBegun, MovesBoth}
 use Rattle.he_relay.specs.Ways.{held}
 use Rattle.he_relay.specs.declared.sockets.Cut.{Cut}
 use Rattle.he_relay.specs.declared.tunnel.Tunnel.{Tunnel}
 use Rattle.he_sessions.proofs.Talking.{talks_as, talks_heard, talks_more, talks_written}
-use Rattle.he_sessions.specs.Asks.{AsksPage, AsksTunnel, IsFailure, greets}
+use Rattle.he_sessions.specs.Asks.{IsFailure, greets, protocol_of}
 use Rattle.he_sessions.specs.Follows.{Follows}
 use Rattle.he_sessions.specs.Replies.{IsReply}
-use Rattle.he_sessions.specs.Sessions.{HasAsked, IsAnswering, IsAsking, IsAt, IsClosing, IsGreetedAfter, IsLast, IsRelaying, IsStep, IsWon, MayAnswer}
-use Rattle.he_sessions.specs.Talks.{AsksBy, HasGreeted, IsOpened, IsRefused, IsToldOf, Talks, welcome}
+use Rattle.he_sessions.specs.Sessions.{HasAsked, IsAnswering, IsAsking, IsAt, IsClosing, IsGreetedAfter, IsLast, IsRelaying, IsStep, MayAnswer}
+use Rattle.he_sessions.specs.Talks.{HasGreeted, Talks, welcome}
 use Rattle.he_sessions.specs.Went.{Hears, Lingers, Went, nothing, read, wrote}
-use Rattle.he_sessions.specs.declared.asking.Ask.{Ask}
 use Rattle.he_sessions.specs.declared.asking.Ask.TheVariants as asks
-use Rattle.he_sessions.specs.declared.asking.Extent.{Extent}
 use Rattle.he_sessions.specs.declared.asking.Protocol.{Protocol}
+use Rattle.he_sessions.specs.declared.asking.Wanted.{Wanted}
 use Rattle.he_sessions.specs.declared.ending.Ending.{Ending}
 use Rattle.he_sessions.specs.declared.ending.Ending.TheVariants as endings
 use Rattle.he_sessions.specs.declared.racer.Racer.{Ghosts as RacerOf}
@@ -36,7 +33,6 @@ use Rattle.he_sessions.specs.declared.states.Answering.{Answering}
 use Rattle.he_sessions.specs.declared.states.Asking.{Asking}
 use Rattle.he_sessions.specs.declared.states.Closing.{Closing}
 use Rattle.he_sessions.specs.declared.states.State.{State}
-use Rattle.he_sessions.specs.declared.states.State.TheVariants as states
 
 -- what comes after a state that comes after another one comes after that
 pub follows_on : {F S : Type 0} (a b c : State F S) → Follows a b → Follows b c → Follows a c
@@ -85,6 +81,13 @@ module _ {S : Type 0} (reads writes : Passes S) (first : S) where
   spoken asking protocol written greeted at =
       talks_as reads writes first _ _ _ _ _ _ _ _ refl refl written (ap welcome (sym greeted)) at.talks
 
+  -- the reply is of this protocol
+  pub as_protocol : (said : List ℕ) (client : S) (protocol other : Protocol) → protocol ≡ other
+      → Talks reads writes first said client [] (welcome (greets other))
+      → Talks reads writes first said client [] (welcome (greets protocol))
+  as_protocol said client protocol other same talks =
+      subst (λ (p : Protocol). Talks reads writes first said client [] (welcome (greets p))) (sym same) talks
+
   -- before any greeting it has said what has come, and was told nothing
   pub silent : (asking : Asking S) → asking.reply.items ≡ [] → asking.was_greeted ≡ false
       → IsAsking reads writes first asking
@@ -108,12 +111,12 @@ module _ {S : Type 0} (reads writes : Passes S) (first : S) where
             (talks_more reads writes first _ _ _ (welcome true) (silent asking may.told may.asks.0 at));
       }
 
-  -- the tunnel was asked for, and what came after the request came early
-  pub has_asked : (asking : Asking S) (protocol : Protocol) (tunnel : Asked Global) (len : ℕ) (early : List ℕ)
-      → MayAnswer asking (asks.Tunnel protocol tunnel len) → early ≡ drop len asking.come.items
+  -- the server was asked for, and what came after the request came early
+  pub has_asked : (asking : Asking S) (wanted : Wanted) (target : Asked Global) (len : ℕ) (early : List ℕ)
+      → MayAnswer asking (asks.Server wanted target len) → early ≡ drop len asking.come.items
       → IsAsking reads writes first asking
-      → HasAsked reads writes first tunnel asking.client early protocol
-  has_asked asking protocol tunnel len early may rest at =
+      → HasAsked reads writes first target asking.client early wanted
+  has_asked asking wanted target len early may rest at =
       let request = take len asking.come.items in
       let said : at.greeting ++ asking.come.items ≡ (at.greeting ++ request) ++ early =
       ap (λ xs. at.greeting ++ xs) (sym (take-append-drop len asking.come.items) ∙ ap (λ xs. request ++ xs) (sym rest))
@@ -127,13 +130,13 @@ module _ {S : Type 0} (reads writes : Passes S) (first : S) where
           requested = record { come = asking.come.items; len = len; begins = may.asks.1; front = refl };
           whole = refl;
         };
-        talks = talks_as reads writes first _ _ _ _ _ _ _ _ said refl refl refl (spoken asking protocol may.told may.asks.0 at);
+        talks = talks_as reads writes first _ _ _ _ _ _ _ _ said refl refl refl (spoken asking (protocol_of wanted) may.told may.asks.0 at);
       }
 
   -- more came early
-  pub early_heard : (asked : Asked Global) (old new : S) (early more : List ℕ) (protocol : Protocol) → Hears reads old new early more
-      → HasAsked reads writes first asked old early protocol → HasAsked reads writes first asked new more protocol
-  early_heard asked old new early more protocol hears has = record {
+  pub early_heard : (asked : Asked Global) (old new : S) (early more : List ℕ) (wanted : Wanted) → Hears reads old new early more
+      → HasAsked reads writes first asked old early wanted → HasAsked reads writes first asked new more wanted
+  early_heard asked old new early more wanted hears has = record {
     asks = has.asks;
     asked = has.asked;
     talks = talks_heard reads writes first has.asks early more old new _ _ hears has.talks;

@@ -1,4 +1,5 @@
 pub mod Failures
+pub mod Forwarded
 pub mod Going
 pub mod Talking
 pub mod Unlike

@@ -1,8 +1,8 @@
 -- What a client has said and was told adds up.
-use Rattle.std.proofs.Common.{◌≡◌, ℕ, List, [], ◌++◌, refl, sym, ap, ◌∙◌, subst, append_assoc, append-nil}
+use Rattle.std.proofs.Common.{◌≡◌, ℕ, List, [], ◌++◌, sym, ap, ◌∙◌, subst, append_assoc, append-nil}
 use Rattle.tokio.specs.Io.Moved.{Passes, TakesWritten}
 use Rattle.he_sessions.specs.Talks.{Talks}
-use Rattle.he_sessions.specs.Went.{Hears, Went, nothing, read, wrote}
+use Rattle.he_sessions.specs.Went.{Hears, Went, read, wrote}
 
 module _ {S : Type 0} (reads writes : Passes S) (first : S) where
   -- a part of what is to be written was written

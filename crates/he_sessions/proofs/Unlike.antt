@@ -9,10 +9,10 @@ use Rattle.he_front.specs.declared.replies.Ended.{Ended}
 use Rattle.he_front.specs.declared.replies.Ended.TheVariants as ends
 use Rattle.he_sessions.specs.Asks.{IsFailure}
 use Rattle.he_sessions.specs.Laws.{NoRefusalSucceeds}
-use Rattle.he_sessions.specs.Replies.{IsReply}
-use Rattle.he_sessions.specs.Talks.{AsksBy, IsFront, IsOpened, IsRefused, IsToldOf, IsTurnedAway}
+use Rattle.he_sessions.specs.Talks.{AsksBy, IsToldOf, IsTurnedAway}
 use Rattle.he_sessions.specs.declared.asking.Protocol.{Protocol}
 use Rattle.he_sessions.specs.declared.asking.Protocol.TheVariants as protocols
+use Rattle.he_sessions.specs.declared.asking.Wanted.TheVariants as wanteds
 
 -- the octet at this place
 abbrev at : List ℕ → ℕ → ℕ
@@ -61,7 +61,7 @@ abbrev Succeeds : List ℕ → Type 0
 Succeeds octets =
     ((at octets 0 ≡ 5) × (at octets 1 ≡ 0) × (at octets 3 ≡ 0)) ⊎ ((at octets 0 ≡ 72) × (at octets 9 ≡ 50))
 
-succeeds : (protocol : Protocol) (asked : Asked Global) (asks told more : List ℕ) → AsksBy protocol asked asks
+succeeds : (protocol : Protocol) (asked : Asked Global) (asks told more : List ℕ) → AsksBy (wanteds.Tunnel protocol) asked asks
     → IsToldOf protocol ends.Connected told → Succeeds (told ++ more)
 succeeds protocols.OldSocks asked asks told more by of = absurd by.requested.begins
 succeeds protocols.Socks asked asks told more by of = inl (rw (of.whole, of.replied) (refl, refl, refl))

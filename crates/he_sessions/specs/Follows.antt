@@ -4,12 +4,15 @@ use Rattle.he_sessions.specs.declared.states.State.{State}
 use Rattle.he_sessions.specs.declared.states.State.TheVariants as states
 
 -- the progress of a session: whether its client has made a request; whether its tunnel is being announced, is open or
--- has broken off; whether the last reply to the client is its final one
+-- has broken off, as the relay of a response is in progress or over; whether the last reply to the client is its final
+-- one
 abbrev pub come_to : {F S : Type 0} → State F S → ℕ × ℕ × ℕ
 come_to (states.Asking asking) = (0, 0, 0)
 come_to (states.Racing racing) = (1, 0, 0)
 come_to (states.Answering answering) = (1, 1, 0)
 come_to (states.Relaying relaying) = (1, 2, 0)
+come_to (states.Forwarding forwarding) = (1, 2, 0)
+come_to (states.Parting parting) = (1, 3, 0)
 come_to (states.Cutting cutting) = (1, 3, 0)
 come_to (states.Closing closing) = (1, 0, 1)
 come_to states.Over = (1, 3, 1)

@@ -1,7 +1,9 @@
 pub mod Asks
 pub mod Follows
+pub mod Forwarding
 pub mod Laws
 pub mod Replies
 pub mod Sessions
 pub mod Talks
 pub mod Went
+pub mod Won

@@ -1,5 +1,5 @@
 -- The progress of a session: the octets its client has sent and was sent, and the result of its race.
-use Rattle.std.specs.Prelude.{◌≡◌, ℕ, ⊤, List, [], ◌++◌, Option, Some, Result, Ok, drop, string_bytes, true}
+use Rattle.std.specs.Prelude.{◌≡◌, ◌⊎◌, ℕ, ⊤, List, [], ◌++◌, Option, Result, drop, string_bytes, true}
 use Rattle.std.specs.declared.alloc.Global.{Global}
 use Rattle.tokio.specs.Io.Moved.{Passes}
 use Rattle.futures.specs.Task.{IsArmed, Keeps}
@@ -8,18 +8,21 @@ use Rattle.futures.specs.declared.task.context.Context.{Context}
 use Rattle.httparse.specs.declared.spans.Span.{Span}
 use Rattle.he_front.specs.declared.asked.Asked.{Asked}
 use Rattle.he_front.specs.declared.replies.Ended.{Ended}
+use Rattle.he_bounded.specs.declared.bounded.Bounded.{Bounded}
 use Rattle.he_relay.specs.Ways.{held}
 use Rattle.he_relay.specs.declared.sockets.Cut.{Cut}
 use Rattle.he_relay.specs.declared.tunnel.Broke.{Broke}
 use Rattle.he_relay.specs.declared.tunnel.Broke.TheVariants as brokes
 use Rattle.he_relay.specs.declared.tunnel.Tunnel.{Tunnel}
-use Rattle.he_sessions.specs.Asks.{Asks, AsksPage, greets}
+use Rattle.he_sessions.specs.Asks.{Asks, AsksPage, greets, protocol_of}
 use Rattle.he_sessions.specs.Follows.{Follows}
+use Rattle.he_sessions.specs.Forwarding.{IsForwarding, IsParting}
 use Rattle.he_sessions.specs.Talks.{AsksBy, HasGreeted, IsOpened, IsTurnedAway, Talks, welcome}
 use Rattle.he_sessions.specs.Went.{Went}
+use Rattle.he_sessions.specs.Won.{IsWon}
 use Rattle.he_sessions.specs.declared.asking.Ask.{Ask}
 use Rattle.he_sessions.specs.declared.asking.Extent.{Extent}
-use Rattle.he_sessions.specs.declared.asking.Protocol.{Protocol}
+use Rattle.he_sessions.specs.declared.asking.Wanted.{Wanted}
 use Rattle.he_sessions.specs.declared.ending.Ending.{Ending}
 use Rattle.he_sessions.specs.declared.ending.Ending.TheVariants as endings
 use Rattle.he_sessions.specs.declared.racer.Racer.{Ghosts as RacerOf}
@@ -33,14 +36,13 @@ use Rattle.he_sessions.specs.declared.states.Asking.{Asking}
 use Rattle.he_sessions.specs.declared.states.Closing.{Closing}
 use Rattle.he_sessions.specs.declared.states.Cutting.{Cutting}
 use Rattle.he_sessions.specs.declared.states.Racing.{Racing}
-use Rattle.he_sessions.specs.declared.states.Relaying.{Relaying}
 use Rattle.he_sessions.specs.declared.states.State.{State}
 use Rattle.he_sessions.specs.declared.states.State.TheVariants as states
 
--- if one connection of a tunnel broke off, the session ends by that one, and the other one is reset
-abbrev pub IsCutOf : {S : Type 0} → (S → Cut → Type 0) → Tunnel S S → Broke → Cut → Ending → Type 0
-IsCutOf cuts tunnel brokes.Client cut how = (how ≡ endings.ClientBroke) × cuts tunnel.server cut
-IsCutOf cuts tunnel brokes.Server cut how = (how ≡ endings.ServerBroke) × cuts tunnel.client cut
+-- if one of these two connections broke off, the session ends by that one, and the other one is reset
+abbrev pub IsCutOf : {S : Type 0} → (S → Cut → Type 0) → S → S → Broke → Cut → Ending → Type 0
+IsCutOf cuts client server brokes.Client cut how = (how ≡ endings.ClientBroke) × cuts server cut
+IsCutOf cuts client server brokes.Server cut how = (how ≡ endings.ServerBroke) × cuts client cut
 
 -- the octets so far make this request, and everything due to the client before the answer is written
 pub record MayAnswer {S : Type 0} (asking : Asking S) (ask : Ask) : Type 0 where
@@ -60,11 +62,6 @@ IsLast endings.Page said told =
     (extent : Extent) × (path : Span) × (host : Option Span) × AsksPage said extent path host
 IsLast _ said told = IsTurnedAway told
 
--- a race that may end with this gave this connection, and its winner is recorded
-pub record IsWon {S : Type 0} (MayEnd : Result (Won S) Ended → Type 0) (result : Option (Result Winner Ended)) (won : Won S) : Type 0 where
-  pub given : MayEnd (Ok won)
-  pub noted : result ≡ Some (Ok won.winner)
-
 module _ {S : Type 0} (reads writes : Passes S) (first : S) where
   -- it has sent its greeting, if it has greeted, and the octets that have come, and is sent only the answer to the
   -- greeting
@@ -73,15 +70,15 @@ module _ {S : Type 0} (reads writes : Passes S) (first : S) where
     pub greeted : HasGreeted asking.was_greeted greeting
     pub talks : Talks reads writes first (greeting ++ asking.come.items) asking.client asking.reply.items (welcome asking.was_greeted)
 
-  -- it has requested this tunnel, by this protocol, and has sent the early octets after that
-  pub record HasAsked (tunnel : Asked Global) (client : S) (early : List ℕ) (protocol : Protocol) : Type 0 where
+  -- it has requested this of this host and port, and has sent the early octets after that
+  pub record HasAsked (target : Asked Global) (client : S) (early : List ℕ) (wanted : Wanted) : Type 0 where
     pub asks : List ℕ
-    pub asked : AsksBy protocol tunnel asks
-    pub talks : Talks reads writes first (asks ++ early) client [] (welcome (greets protocol))
+    pub asked : AsksBy wanted target asks
+    pub talks : Talks reads writes first (asks ++ early) client [] (welcome (greets (protocol_of wanted)))
 
   -- the race has only results that may be
   pub record IsRacing {F : Type 0} (race : FutureOf F (Result (Won S) Ended)) (MayEnd : Result (Won S) Ended → Type 0) (asked : Asked Global) (racing : Racing F S) : Type 0 where
-    pub has_asked : HasAsked asked racing.client racing.early.items racing.protocol
+    pub has_asked : HasAsked asked racing.client racing.early.items racing.wanted
     pub can : race.can_poll racing.race
     pub gives : (end : Result (Won S) Ended) → race.gives racing.race end → MayEnd end
 
@@ -115,12 +112,27 @@ module _ {S : Type 0} (reads writes : Passes S) (first : S) where
     pub last : IsLast closing.how asks told
     pub talks : Talks reads writes first (asks ++ later) closing.client closing.reply.items told
 
-  -- one connection of such a tunnel broke off, and the other one will be reset
-  pub record IsCutting (cuts : S → Cut → Type 0) (MayEnd : Result (Won S) Ended → Type 0) (asked : Asked Global) (result : Option (Result Winner Ended)) (cutting : Cutting) : Type 0 where
+  -- a tunnel was open between these two
+  pub record WasOpen (MayEnd : Result (Won S) Ended → Type 0) (asked : Asked Global) (result : Option (Result Winner Ended)) (client server : S) : Type 0 where
     pub tunnel : Tunnel S S
     pub was : IsRelaying MayEnd asked result tunnel
+    pub is_client : tunnel.client ≡ client
+    pub is_server : tunnel.server ≡ server
+
+  -- a request was being forwarded between these two
+  pub record WasForwarding (MayEnd : Result (Won S) Ended → Type 0) (asked : Asked Global) (result : Option (Result Winner Ended)) (client server : S) : Type 0 where
+    pub tunnel : Tunnel (Bounded S) S
+    pub was : IsForwarding reads writes first MayEnd asked result tunnel
+    pub is_client : tunnel.client.inner ≡ client
+    pub is_server : tunnel.server ≡ server
+
+  -- one of two such connections broke off, and the other one will be reset
+  pub record IsCutting (cuts : S → Cut → Type 0) (MayEnd : Result (Won S) Ended → Type 0) (asked : Asked Global) (result : Option (Result Winner Ended)) (cutting : Cutting) : Type 0 where
+    pub client : S
+    pub server : S
+    pub was : WasOpen MayEnd asked result client server ⊎ WasForwarding MayEnd asked result client server
     pub broke : Broke
-    pub is_cut : IsCutOf cuts tunnel broke cutting.cut cutting.how
+    pub is_cut : IsCutOf cuts client server broke cutting.cut cutting.how
 
 module _ {K Q S F P : Type 0} (racer : RacerOf Q S F P) (race : FutureOf F (Result (Won S) Ended)) (reads writes : Passes S) (cuts : S → Cut → Type 0) where
   -- a possible result of the race of the session's client for the host and the port of its request
@@ -138,6 +150,10 @@ module _ {K Q S F P : Type 0} (racer : RacerOf Q S F P) (race : FutureOf F (Resu
   IsAt first session (states.Closing closing) = IsClosing reads writes first closing
   IsAt first session (states.Relaying relaying) =
       IsRelaying reads writes first (MayEnd session) session.asked session.result relaying.tunnel
+  IsAt first session (states.Forwarding forwarding) =
+      IsForwarding reads writes first (MayEnd session) session.asked session.result forwarding.tunnel
+  IsAt first session (states.Parting parting) =
+      IsParting reads writes first (MayEnd session) session.asked session.result parting
   IsAt first session (states.Cutting cutting) =
       IsCutting reads writes first cuts (MayEnd session) session.asked session.result cutting
   IsAt first session states.Over = ⊤

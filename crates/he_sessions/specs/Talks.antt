@@ -6,10 +6,12 @@ use Rattle.he_front.specs.declared.asked.Asked.{Asked}
 use Rattle.he_front.specs.declared.replies.Ended.{Ended}
 use Rattle.he_front.specs.declared.replies.Ended.TheVariants as ends
 use Rattle.he_front.specs.Socks.{IsGreeting}
-use Rattle.he_sessions.specs.Asks.{AsksTunnel, IsFailure, greets}
+use Rattle.he_sessions.specs.Asks.{AsksServer, IsFailure, greets, protocol_of}
 use Rattle.he_sessions.specs.Replies.{IsReply}
 use Rattle.he_sessions.specs.Went.{Went}
 use Rattle.he_sessions.specs.declared.asking.Protocol.{Protocol}
+use Rattle.he_sessions.specs.declared.asking.Wanted.{Wanted}
+use Rattle.he_sessions.specs.declared.asking.Wanted.TheVariants as wanteds
 
 -- Since the client was accepted, as `first`, it has sent `said`; of `all` that it is sent, `rest` is not written yet.
 pub record Talks {S : Type 0} (reads writes : Passes S) (first : S) (said : List ℕ) (client : S) (rest all : List ℕ) : Type 0 where
@@ -34,12 +36,12 @@ abbrev pub welcome : Bool → List ℕ
 welcome true = 5 ∷ 0 ∷ []
 welcome false = []
 
--- all octets of a client's request for this tunnel: its greeting, if the protocol has one, and its request
-pub record AsksBy (protocol : Protocol) (asked : Asked Global) (octets : List ℕ) : Type 0 where
+-- all octets of a client's request for this: its greeting, if the protocol has one, and its request, without the body
+pub record AsksBy (wanted : Wanted) (asked : Asked Global) (octets : List ℕ) : Type 0 where
   pub greeting : List ℕ
-  pub greeted : HasGreeted (greets protocol) greeting
+  pub greeted : HasGreeted (greets (protocol_of wanted)) greeting
   pub request : List ℕ
-  pub requested : IsFront (λ come len. AsksTunnel come protocol asked len) request
+  pub requested : IsFront (λ come len. AsksServer come wanted asked len) request
   pub whole : octets ≡ greeting ++ request
 
 -- all octets sent to a client whose request ended like this: the answer to its greeting, and one reply
@@ -51,7 +53,7 @@ pub record IsToldOf (protocol : Protocol) (ended : Ended) (octets : List ℕ) : 
 -- it requested this tunnel like this, and is sent that it is open
 pub record IsOpened (asked : Asked Global) (asks told : List ℕ) : Type 0 where
   pub protocol : Protocol
-  pub asks_by : AsksBy protocol asked asks
+  pub asks_by : AsksBy (wanteds.Tunnel protocol) asked asks
   pub told_of : IsToldOf protocol ends.Connected told
 
 -- it is sent a failure

@@ -1,11 +1,15 @@
 //! Parses the request in a client's octets.
-ghost use Rattle.std.specs.Prelude.{◌≡◌, IfOk, IfSome, drop, false, true};
+ghost use Rattle.std.specs.Prelude.{◌≡◌, ℕ, IfOk, IfSome, List, drop, false, true};
 ghost use Rattle.httparse.specs.Spans.{span_bytes};
+ghost use Rattle.he_forward.specs.Requests.{Reads};
+ghost use Rattle.he_forward.specs.declared.forward.ReadForward.{ReadForward};
 ghost use Rattle.he_front.specs.Http.{HasHead};
 ghost use Rattle.he_front.specs.declared.http.Head.TheVariants as heads;
-ghost use Rattle.he_sessions.specs.Asks.{Asks, IsFailure, greets};
+ghost use Rattle.he_sessions.specs.Asks.{Asks, IsFailure, greets, protocol_of};
 
 use he_addr::Memory;
+use he_body::Framing;
+use he_forward::{Forward, ReadForward, read_forward};
 use he_front::{
     Asked, Ended, Head, Opening, Read, ReadHead, Refusal, opening_of, read_greeting, read_head,
     read_request,
@@ -33,6 +37,24 @@ pub enum Extent {
     Head,
 }
 
+/// A request of HTTP as the server gets it.
+#[derive(Drop)]
+pub struct Outgoing {
+    /// Its head.
+    pub head: Vec<u8>,
+    /// How its body is framed.
+    pub framing: Framing,
+}
+
+/// What a client wants of the connection to the server.
+#[derive(Drop)]
+pub enum Wanted {
+    /// A tunnel, by this protocol.
+    Tunnel(Protocol),
+    /// The response to this request.
+    Response(Outgoing),
+}
+
 /// The request in a client's octets.
 #[derive(Drop)]
 pub enum Ask {
@@ -42,8 +64,8 @@ pub enum Ask {
     Greeting(usize),
     /// A greeting without an acceptable method.
     NoMethod,
-    /// A tunnel, by a request of this number of octets.
-    Tunnel(Protocol, Asked, usize),
+    /// A connection to a server, by a request of this number of octets.
+    Server(Wanted, Asked, usize),
     /// A page, or only its head: the positions of its path and of the value of the field Host.
     Page(Extent, Span, Option<Span>),
     /// A refused request, and the end of its session.
@@ -92,7 +114,7 @@ fn read_socks(alloc: Global, octets: &[u8]) -> Result<Ask, Memory>
         }
     };
     match Asked::by_socks(alloc, &request) {
-        Ok(Some(asked)) => Ok(Ask::Tunnel(Protocol::Socks, asked, len)),
+        Ok(Some(asked)) => Ok(Ask::Server(Wanted::Tunnel(Protocol::Socks), asked, len)),
         Ok(None) => Ok(Ask::Refused(Protocol::Socks, Ended::Kind)),
         Err(refused) => Err(refused),
     }
@@ -115,6 +137,7 @@ fn read_http(alloc: Global, octets: &[u8]) -> Result<Ask, Memory>
         ReadHead::Whole(Head::Tunnel(target), len) => read_connect(alloc, octets, target, len),
         ReadHead::Whole(Head::Get(path, host), _) => Ok(Ask::Page(Extent::Whole, path, host)),
         ReadHead::Whole(Head::Head(path, host), _) => Ok(Ask::Page(Extent::Head, path, host)),
+        ReadHead::Whole(Head::Forward, _) => read_absolute(alloc, octets),
         ReadHead::Whole(Head::TwoHosts, _) => Ok(Ask::Refused(Protocol::Http, Ended::Kind)),
         ReadHead::Whole(Head::Other, _) => Ok(Ask::Refused(Protocol::Http, Ended::Command)),
         ReadHead::Partial => Ok(Ask::More),
@@ -131,14 +154,49 @@ fn read_connect(alloc: Global, octets: &[u8], target: Span, len: usize) -> Resul
         return Ok(Ask::Refused(Protocol::Http, Ended::Kind));
     };
     match Asked::by_connect(alloc, text) {
-        Ok(Some(asked)) => Ok(Ask::Tunnel(Protocol::Http, asked, len)),
+        Ok(Some(asked)) => Ok(Ask::Server(Wanted::Tunnel(Protocol::Http), asked, len)),
         Ok(None) => Ok(Ask::Refused(Protocol::Http, Ended::Kind)),
         Err(refused) => Err(refused),
     }
 }
 
+// The request whose target is in absolute form.
+fn read_absolute(alloc: Global, octets: &[u8]) -> Result<Ask, Memory>
+    ensures { IfOk result (Asks false octets.now) }
+{
+    match read_forward(alloc, octets) {
+        Ok(ReadForward::Whole(forward)) => Ok(ask_of(forward)),
+        Ok(ReadForward::Partial | ReadForward::Refused) => {
+            Ok(Ask::Refused(Protocol::Http, Ended::Kind))
+        }
+        Err(refused) => Err(refused),
+    }
+}
+
+fn ask_of(forward: Forward) -> Ask
+    ensures { (octets : List ℕ) → Reads octets (ReadForward.Whole forward) → Asks false octets result }
+{
+    let Forward {
+        asked,
+        head,
+        framing,
+        len,
+    } = forward;
+    Ask::Server(Wanted::Response(Outgoing { head, framing }), asked, len)
+}
+
+// The protocol of the reply.
+pub(crate) fn protocol_of(wanted: &Wanted) -> Protocol
+    ensures { result ≡ protocol_of wanted.now }
+{
+    match wanted {
+        Wanted::Tunnel(protocol) => *protocol,
+        Wanted::Response(_) => Protocol::Http,
+    }
+}
+
 // The client's protocol, if it is only known whether it was greeted.
-pub(crate) fn protocol_of(was_greeted: bool) -> Protocol
+pub(crate) fn greeted_by(was_greeted: bool) -> Protocol
     ensures { greets result ≡ was_greeted }
 {
     if was_greeted {

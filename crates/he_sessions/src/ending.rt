@@ -9,13 +9,13 @@ use std::net::SocketAddr;
 /// How a session ended.
 #[derive(Clone, Copy, Debug, PartialEq, Eq)]
 pub enum Ending {
-    /// Both directions of the tunnel ended.
+    /// Both directions of the tunnel ended, or the response to a forwarded request was written.
     Closed,
     /// The connection to the client broke off, and so the tunnel.
     ClientBroke,
     /// The connection to the server broke off, and so the tunnel.
     ServerBroke,
-    /// No byte moved for the idle time of a tunnel.
+    /// No byte moved for the idle time of a tunnel, or of a response for a second once the client asked again.
     Idle,
     /// The client left before its tunnel was open.
     Left,
@@ -62,7 +62,8 @@ pub struct SessionEnd<'a> {
     pub port: u16,
     /// How its race ended, or why it was refused; `None` if it ended before.
     pub result: Option<Result<Winner, Ended>>,
-    /// The method and the target of an HTTP request for a page or of a refused one; any octets.
+    /// The method and the target of an HTTP request for a page or of a refused one; of a forwarded one only the
+    /// method. They are any octets.
     pub request: Option<RequestLine<'a>>,
     /// Bytes written to the server.
     pub sent: u64,

@@ -1,15 +1,21 @@
 //! Sessions of a proxy: each reads one client's request, races for it, answers and relays, as a future.
 //!
 //! A [`Session`] is one client's connection from start to end. It reads the client's request: a tunnel by SOCKS 5
-//! (RFC 1928) or by CONNECT (RFC 9110 section 9.3.6), or a page by GET or HEAD. Until the first octet has come, the
-//! client may have to make room for another one ([`Place`]). A [`Racer`] races for the connection; meanwhile the
-//! session keeps what the client sends, at most 16 KiB, and ends the race if the client leaves. It answers in the
-//! client's protocol, and relays in both directions until both have ended. If one connection breaks off, the other
-//! one is reset once all earlier bytes are sent, after at most ten seconds. A refused client is sent the reason
-//! before the connection is closed. SOCKS 4 and other methods of HTTP are refused; a client whose first octet begins
-//! neither protocol is closed. A request has at most 8 KiB. Each session has one timer: it closes a request that is
-//! not complete within [`Limits::request`], and a tunnel in which no byte moves for [`Limits::idle`]. A race has the
-//! racer's own limit.
+//! (RFC 1928) or by CONNECT (RFC 9110 section 9.3.6), a request of HTTP to forward (RFC 9112 section 3.2.2), or a page
+//! by GET or HEAD. Until the first octet has come, the client may have to make room for another one ([`Place`]). A
+//! [`Racer`] races for the connection; meanwhile the session keeps what the client sends, at most 16 KiB, and ends the
+//! race if the client leaves. It answers in the client's protocol, and relays in both directions until both have
+//! ended. If one connection breaks off, the other one is reset once all earlier bytes are sent, after at most ten
+//! seconds. A refused client is sent the reason before the connection is closed. SOCKS 4 and other methods of HTTP are
+//! refused; a client whose first octet begins neither protocol is closed. A request has at most 16 KiB, beside its
+//! body. Each session has one timer: it closes a request that is not complete within [`Limits::request`], and a tunnel
+//! in which no byte moved for [`Limits::idle`]. A race has the racer's own limit.
+//!
+//! The server of a request to forward gets the head of `he_forward` in place of the client's, and then the body, which
+//! `he_bounded` bounds. The response goes to the client as it is, with all responses of 1xx, until the server ends it;
+//! then the connection to the server is closed, and the client's once it closes too, or after [`Limits::request`]. So
+//! a connection has one request. The server is not sent the end of the client's sending at the body's end, only if
+//! the client ends it.
 //!
 //! # What is proved
 //!
@@ -19,17 +25,21 @@
 //!   `specs/Went`), by the progress of the session (`IsAt` in `specs/Sessions`): the client has sent its greeting,
 //!   its request, and what came after these; it was sent the answer to its greeting and a part of one reply.
 //!   `Session::new` begins like this, and `Session::poll` keeps it (`IsStep`).
-//! - A race is begun only for the host and the port that the client's octets name, as `he_front` defines it
-//!   (`AsksTunnel` in `specs/Asks`), and for this client.
+//! - A race is begun only for the host and port that the client's octets name, as `he_front` and `he_forward` define
+//!   it (`AsksServer` in `specs/Asks`), and for this client.
 //! - Success is sent to the client only if such a race gave a connection, and once. From then on, the client is
 //!   written that connection's octets, in order, none twice and none left out except those held for it; that
 //!   connection is written the client's octets after its request likewise. The two are never exchanged, and the
 //!   recorded winner is that connection's (`IsRelaying`). The transfer of a tunnel is proved in `he_relay`.
-//! - A client without a tunnel is sent the reason, by its protocol's reply for an end other than a connection
+//! - The connection that such a race gave for a request to forward is written the new head and then octets of the
+//!   body, in order, none twice and none left out except those held for it, and never one that comes after the body
+//!   (`IsInBody`). The client is written that connection's octets likewise, and nothing else (`IsForwarding` in
+//!   `specs/Forwarding`).
+//! - A client without a server is sent the reason, by its protocol's reply for an end other than a connection
 //!   (`IsTurnedAway` in `specs/Talks`, `IsReply` in `specs/Replies`), whatever the racer returns, or a page that it
 //!   requested by GET or HEAD. No such reply begins with a success ([`laws::no_refusal_succeeds`]).
 //! - A session never goes back: it reads, races, answers and relays in this order, and a client that was sent a
-//!   success, even in part, is sent no failure (`Follows` in `specs/Follows`).
+//!   success or a response, even in part, is sent no failure (`Follows` in `specs/Follows`).
 //! - If one connection of a tunnel broke off, the other one is reset, and the session's end names the one that broke
 //!   (`IsCutOf`).
 //! - A waiting session has asked to be woken, and a race is polled only while it may be.
@@ -43,6 +53,7 @@ pub mod asking;
 mod closing;
 pub mod connection;
 pub mod ending;
+mod forwarding;
 mod hearing;
 pub mod laws;
 mod pages;

@@ -1,12 +1,12 @@
 //! The session's steps during its race.
 ghost use Rattle.std.specs.Prelude.{◌≡◌, Ok, string_bytes};
 ghost use Rattle.futures.specs.Task.{IsArmed, Keeps};
-ghost use Rattle.he_sessions.specs.Asks.{greets};
+ghost use Rattle.he_sessions.specs.Asks.{greets, protocol_of};
 ghost use Rattle.he_sessions.specs.Sessions.{HasAsked, IsAt, IsNext, IsPolled, IsStep, MayPoll, TellsOn};
 ghost use Rattle.he_sessions.specs.Talks.{welcome};
 ghost use Rattle.he_sessions.specs.declared.session.Next.{Next};
 
-use crate::asking::Protocol;
+use crate::asking::{Protocol, Wanted, protocol_of};
 use crate::ending::Ending;
 use crate::hearing::{Heard, poll_hear};
 use crate::racer::{Racer, Won};
@@ -40,7 +40,7 @@ impl<'q, K: Clock, Q: Racer> Session<'q, K, Q> {
             client,
             early,
             has_ended,
-            protocol,
+            wanted,
             mut race,
         } = racing;
         match race.poll(cx) {
@@ -49,18 +49,18 @@ impl<'q, K: Clock, Q: Racer> Session<'q, K, Q> {
                     client,
                     early,
                     has_ended,
-                    protocol,
+                    wanted,
                     race,
                 },
                 cx,
             ),
-            Poll::Ready(Ok(won)) => self.open(client, early, protocol, won),
-            Poll::Ready(Err(ended)) => self.lose(client, protocol, ended),
+            Poll::Ready(Ok(won)) => self.open(client, early, wanted, won),
+            Poll::Ready(Err(ended)) => self.lose(client, protocol_of(&wanted), ended),
         }
     }
 
-    // Keeps what the client sends before its tunnel is open, and notices if it leaves. A client that has sent
-    // something and then ends its direction still waits for the answer.
+    // Keeps what the client sends before its server is connected, and notices if it leaves. A client that has sent
+    // something for the server and then ends its direction still waits for the answer.
     fn hear_early(&mut self, mut racing: Racing<Q::Race, Q::Stream>, cx: &mut Context<'_>) -> Next
         requires over { self.old.state ≡ State.Over }
         requires can { Q.Race.can_poll racing.race }
@@ -83,7 +83,7 @@ impl<'q, K: Clock, Q: Racer> Session<'q, K, Q> {
                 self.state = State::Racing(racing);
                 Next::GoesOn
             }
-            Poll::Ready(Heard::End) if !racing.early.is_empty() => {
+            Poll::Ready(Heard::End) if has_said(&racing) => {
                 racing.has_ended = true;
                 self.state = State::Racing(racing);
                 Next::Waits
@@ -104,8 +104,32 @@ impl<'q, K: Clock, Q: Racer> Session<'q, K, Q> {
         Next::Ends(Ending::Left)
     }
 
-    // Sends the client that its race is won.
+    // Gives the client what it wants of the connection that its race gave.
     fn open(
+        &mut self,
+        client: Q::Stream,
+        early: Vec<u8>,
+        wanted: Wanted,
+        won: Won<Q::Stream>,
+    ) -> Next
+        requires won { Q.answers self.old.asker.racer.now self.old.asker.address (string_bytes self.old.asked.host)
+            self.old.asked.port (Ok won) }
+        requires over { self.old.state ≡ State.Over }
+        ensures asked { (first : Q.Stream)
+            → HasAsked Q.Stream.reads Q.Stream.writes first self.old.asked client early.items wanted
+            → IsAt Q.Racer Q.Race.Future Q.Stream.reads Q.Stream.writes Q.Stream.cuts first self.new
+            self.new.state }
+        ensures next { IsNext self.old self.new }
+        ensures on { result ≡ Next.Waits → ⊥ }
+    {
+        match wanted {
+            Wanted::Tunnel(protocol) => self.announce(client, early, protocol, won),
+            Wanted::Response(outgoing) => self.forward(client, early, outgoing, won),
+        }
+    }
+
+    // Sends the client that its race is won.
+    fn announce(
         &mut self,
         client: Q::Stream,
         early: Vec<u8>,
@@ -116,7 +140,7 @@ impl<'q, K: Clock, Q: Racer> Session<'q, K, Q> {
             self.old.asked.port (Ok won) }
         requires over { self.old.state ≡ State.Over }
         ensures asked { (first : Q.Stream)
-            → HasAsked Q.Stream.reads Q.Stream.writes first self.old.asked client early.items protocol
+            → HasAsked Q.Stream.reads Q.Stream.writes first self.old.asked client early.items (Wanted.Tunnel protocol)
             → IsAt Q.Racer Q.Race.Future Q.Stream.reads Q.Stream.writes Q.Stream.cuts first self.new
             self.new.state }
         ensures next { IsNext self.old self.new }
@@ -148,5 +172,13 @@ impl<'q, K: Clock, Q: Racer> Session<'q, K, Q> {
     {
         self.result = Some(Err(ended));
         self.refuse(client, protocol, failure_of(ended))
+    }
+}
+
+// Whether the client has sent something for the server: its request to forward, or octets for the tunnel.
+fn has_said<F, S>(racing: &Racing<F, S>) -> bool {
+    match &racing.wanted {
+        Wanted::Tunnel(_) => !racing.early.is_empty(),
+        Wanted::Response(_) => true,
     }
 }

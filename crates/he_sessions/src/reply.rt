@@ -61,7 +61,8 @@ fn reason_of(ended: Ended) -> &'static str {
         Ended::NoHost => "the host has no address that could be reached",
         Ended::Refused => "each address of the host refused the connection",
         Ended::TimedOut => "no address of the host answered in time",
-        Ended::Command => "this proxy makes tunnels alone, by SOCKS 5 or CONNECT",
+        Ended::Command =>
+            "this proxy makes tunnels, by SOCKS 5 or CONNECT, and forwards requests for http:// URLs",
         Ended::Kind => "the request is not one that this proxy can read",
     }
 }

@@ -6,7 +6,9 @@ ghost use Rattle.he_sessions.specs.Sessions.{IsGreetedAfter, IsPolled, IsStep, M
 ghost use Rattle.he_sessions.specs.declared.session.Next.{Next};
 ghost use Rattle.he_sessions.specs.declared.racer.Won.{Won};
 
-use crate::asking::{Ask, Extent, Protocol, piece, protocol_of, read_ask, rest_after};
+use crate::asking::{
+    Ask, Extent, Protocol, Wanted, greeted_by, piece, protocol_of, read_ask, rest_after,
+};
 use crate::connection::Connection;
 use crate::ending::Ending;
 use crate::hearing::{Heard, poll_hear};
@@ -17,14 +19,14 @@ use crate::states::{Asking, Racing, State};
 use bytes::BytesMut;
 use futures::task::{Context, Poll};
 use he_addr::Memory;
-use he_front::{Asked, Ended, method_reply};
+use he_front::{Asked, Ended, method_reply, request_line};
 use httparse::spans::Span;
 use std::alloc::Global;
 use std::time::Clock;
 use tokio::io::poll_write_all_buf;
 
-// The most octets of a request for a tunnel or a page.
-const MOST_HEAD: usize = 8_192;
+// The most octets of a request up to its body.
+const MOST_HEAD: usize = 16_384;
 
 impl<'q, K: Clock, Q: Racer> Session<'q, K, Q> {
     pub(crate) fn step_asking(
@@ -62,7 +64,7 @@ impl<'q, K: Clock, Q: Racer> Session<'q, K, Q> {
             Ok(Ask::More) => self.hear(asking, cx),
             Ok(Ask::Greeting(len)) => self.greet(asking, len),
             Ok(Ask::NoMethod) => self.refuse_methods(asking),
-            Ok(Ask::Tunnel(protocol, asked, len)) => self.begin(asking, protocol, asked, len),
+            Ok(Ask::Server(wanted, asked, len)) => self.begin(asking, wanted, asked, len),
             Ok(Ask::Page(extent, path, host)) => self.show(asking, extent, path, host),
             Ok(Ask::Refused(protocol, ended)) => self.refuse_request(asking, protocol, ended),
             Ok(Ask::Unknown) => Next::Ends(Ending::Unknown),
@@ -80,7 +82,7 @@ impl<'q, K: Clock, Q: Racer> Session<'q, K, Q> {
         ensures polled { IsPolled result cx.old cx.new }
     {
         if asking.come.len() >= MOST_HEAD {
-            let protocol = protocol_of(asking.was_greeted);
+            let protocol = greeted_by(asking.was_greeted);
             return self.refuse_request(asking, protocol, Ended::Kind);
         }
         match poll_hear(&mut asking.client, &mut asking.come, MOST_HEAD, cx) {
@@ -151,15 +153,9 @@ impl<'q, K: Clock, Q: Racer> Session<'q, K, Q> {
         self.refuse(client, protocol, ended)
     }
 
-    // Begins the race for the requested tunnel.
-    fn begin(
-        &mut self,
-        asking: Asking<Q::Stream>,
-        protocol: Protocol,
-        asked: Asked,
-        len: usize,
-    ) -> Next
-        requires asks { MayAnswer asking (Ask.Tunnel protocol asked len) }
+    // Begins the race for the connection to the requested server. The log gets the method of a request to forward.
+    fn begin(&mut self, asking: Asking<Q::Stream>, wanted: Wanted, asked: Asked, len: usize) -> Next
+        requires asks { MayAnswer asking (Ask.Server wanted asked len) }
         requires over { self.old.state ≡ State.Over }
         ensures step { IsStep Q.Racer Q.Race.Future Q.Stream.reads Q.Stream.writes Q.Stream.cuts self.old
             (State.Asking asking) self.new }
@@ -168,18 +164,19 @@ impl<'q, K: Clock, Q: Racer> Session<'q, K, Q> {
     {
         let Asking { client, come, .. } = asking;
         self.asked = asked;
+        self.request = logged(self.alloc, &wanted, &come);
         match self.race_for(&come, len) {
             Ok((race, early)) => {
                 self.state = State::Racing(Racing {
                     client,
                     early,
                     has_ended: false,
-                    protocol,
+                    wanted,
                     race,
                 });
                 Next::GoesOn
             }
-            Err(ended) => self.lose(client, protocol, ended),
+            Err(ended) => self.lose(client, protocol_of(&wanted), ended),
         }
     }
 
@@ -235,6 +232,14 @@ impl<'q, K: Clock, Q: Racer> Session<'q, K, Q> {
             Ok(out) => self.close(client, BytesMut::from(out), Ending::Page),
             Err(Memory) => Next::Ends(Ending::Failed),
         }
+    }
+}
+
+// What the log gets of the request in the octets: the method of one to forward, if there is memory for it.
+fn logged(alloc: Global, wanted: &Wanted, octets: &[u8]) -> Option<Vec<u8>> {
+    match wanted {
+        Wanted::Tunnel(_) => None,
+        Wanted::Response(_) => Vec::from_slice(alloc, request_line(octets).method).ok(),
     }
 }
 

@@ -1,5 +1,5 @@
-//! One client's connection: reads its request, races for it, answers and relays.
-ghost use Rattle.std.specs.Prelude.{◌≡◌, IfOk};
+//! One client's connection: reads its request, races for it, answers or forwards it, and relays.
+ghost use Rattle.std.specs.Prelude.{IfOk};
 ghost use Rattle.he_sessions.specs.Sessions.{IsAt, IsPolled, IsStep, MayPoll};
 
 use crate::ending::{Ending, SessionEnd};
@@ -49,7 +49,7 @@ pub struct Session<'q, K: Clock, Q: Racer> {
     pub(crate) place: Option<Q::Place>,
     // The target of the request; an empty host before.
     pub(crate) asked: Asked,
-    // The octets of an HTTP request that is not for a tunnel.
+    // The octets of an HTTP request that is not for a tunnel; of one to forward only the method.
     pub(crate) request: Option<Vec<u8>>,
     pub(crate) result: Option<Result<Winner, Ended>>,
     pub(crate) sent: u64,
@@ -126,6 +126,8 @@ impl<'q, K: Clock, Q: Racer> Session<'q, K, Q> {
             State::Answering(answering) => self.step_answering(answering, cx),
             State::Closing(closing) => self.step_closing(closing, cx),
             State::Relaying(relaying) => self.step_relaying(relaying, cx),
+            State::Forwarding(forwarding) => self.step_forwarding(forwarding, cx),
+            State::Parting(parting) => self.step_parting(parting, cx),
             State::Cutting(cutting) => self.step_cutting(cutting, cx),
             State::Over => Next::Ends(Ending::Closed),
         }

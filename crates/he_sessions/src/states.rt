@@ -1,9 +1,10 @@
 //! The states of a session.
 
-use crate::asking::Protocol;
+use crate::asking::Wanted;
 use crate::ending::Ending;
 use crate::racer::Won;
 use bytes::BytesMut;
+use he_bounded::Bounded;
 use he_relay::{Cut, Tunnel};
 use std::time::Instant;
 
@@ -20,7 +21,11 @@ pub enum State<F, S> {
     Closing(Closing<S>),
     /// The tunnel is open.
     Relaying(Relaying<S>),
-    /// One of its two connections broke off, and the other one will be reset.
+    /// The server is being sent the client's request, and the client the response.
+    Forwarding(Forwarding<S>),
+    /// The response is written, and the client is to close.
+    Parting(Parting<S>),
+    /// One of the two connections broke off, and the other one will be reset.
     Cutting(Cutting),
     /// The session has ended.
     Over,
@@ -48,8 +53,8 @@ pub struct Racing<F, S> {
     pub early: Vec<u8>,
     /// Whether the client has ended its direction.
     pub has_ended: bool,
-    /// The protocol of the reply.
-    pub protocol: Protocol,
+    /// What the client wants of the connection.
+    pub wanted: Wanted,
     /// The race.
     pub race: F,
 }
@@ -83,13 +88,36 @@ pub struct Closing<S> {
 pub struct Relaying<S> {
     /// The tunnel.
     pub tunnel: Tunnel<S, S>,
+    /// The bytes that it has moved.
+    pub progress: Progress,
+}
+
+/// A request is being forwarded, and its response relayed.
+#[derive(Drop)]
+pub struct Forwarding<S> {
+    /// The tunnel, which takes no more from the client than the body of the request.
+    pub tunnel: Tunnel<Bounded<S>, S>,
+    /// The bytes that it has moved.
+    pub progress: Progress,
+}
+
+/// The response is written.
+#[derive(Drop)]
+pub struct Parting<S> {
+    /// The client.
+    pub client: S,
+}
+
+/// The progress of a tunnel.
+#[derive(Drop)]
+pub struct Progress {
     /// The bytes moved in both directions at the last look.
     pub seen: u64,
     /// When the idle time ends, after the last byte that moved.
     pub until: Option<Instant>,
 }
 
-/// The tunnel broke off.
+/// One of the two connections broke off.
 #[derive(Drop)]
 pub struct Cutting {
     /// The connection that did not break off.

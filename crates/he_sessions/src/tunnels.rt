@@ -10,7 +10,7 @@ use crate::ending::Ending;
 use crate::racer::{Racer, Won};
 use crate::session::{Next, Session};
 use crate::states::{Answering, Cutting, Relaying, State};
-use crate::timing::{restart, restart_within, time_after};
+use crate::timing::{no_progress, poll_idle, restart, restart_within};
 use futures::Future;
 use futures::task::{Context, Poll};
 use he_addr::Memory;
@@ -62,8 +62,7 @@ impl<'q, K: Clock, Q: Racer> Session<'q, K, Q> {
                 restart_within(self.clock, &mut self.sleep, self.limits.idle);
                 self.state = State::Relaying(Relaying {
                     tunnel,
-                    seen: 0,
-                    until: None,
+                    progress: no_progress(),
                 });
                 Next::GoesOn
             }
@@ -89,7 +88,8 @@ impl<'q, K: Clock, Q: Racer> Session<'q, K, Q> {
             Poll::Pending => self.watch(relaying, sent.saturating_add(received), cx),
             Poll::Ready(Ok(())) => Next::Ends(Ending::Closed),
             Poll::Ready(Err(broke)) => {
-                self.state = State::Cutting(cutting_of(relaying.tunnel, broke));
+                let (client, server) = relaying.tunnel.into_ends();
+                self.state = State::Cutting(cutting_of(client, server, broke));
                 Next::GoesOn
             }
         }
@@ -104,23 +104,16 @@ impl<'q, K: Clock, Q: Racer> Session<'q, K, Q> {
         ensures armed { IsArmed cx.new }
         ensures kept { Keeps cx.old cx.new }
     {
-        let Some(limit) = self.limits.idle else {
-            self.state = State::Relaying(relaying);
-            return Next::Waits;
-        };
-        note_moved(self.clock, &mut relaying, moved, limit);
-        if self.sleep.poll_elapsed(cx).is_pending() {
-            self.state = State::Relaying(relaying);
-            return Next::Waits;
-        }
-        match relaying.until {
-            Some(until) if until > self.sleep.deadline() => {
-                self.sleep.reset(until);
-                self.state = State::Relaying(relaying);
-                Next::GoesOn
-            }
-            _ => Next::Ends(Ending::Idle),
-        }
+        let next = poll_idle(
+            self.clock,
+            &mut self.sleep,
+            self.limits.idle,
+            &mut relaying.progress,
+            moved,
+            cx,
+        );
+        self.state = State::Relaying(relaying);
+        next
     }
 
     // Resets the connection that did not break off, once all earlier bytes are sent.
@@ -144,21 +137,10 @@ impl<'q, K: Clock, Q: Racer> Session<'q, K, Q> {
     }
 }
 
-// Notes the bytes moved so far: if there are more, the idle time starts over.
-fn note_moved<K: Clock, S>(clock: &K, relaying: &mut Relaying<S>, moved: u64, limit: Duration)
-    ensures { relaying.new.tunnel ≡ relaying.old.tunnel }
+// The cut for two connections of which this one broke off.
+pub(crate) fn cutting_of<S: Connection>(client: S, server: S, broke: Broke) -> Cutting
+    ensures { IsCutOf S.cuts client server broke result.cut result.how }
 {
-    if moved != relaying.seen {
-        relaying.seen = moved;
-        relaying.until = time_after(clock, limit);
-    }
-}
-
-// The cut for a tunnel with a broken connection.
-fn cutting_of<S: Connection>(tunnel: Tunnel<S, S>, broke: Broke) -> Cutting
-    ensures { IsCutOf S.cuts tunnel broke result.cut result.how }
-{
-    let (client, server) = tunnel.into_ends();
     let (left, how) = match broke {
         Broke::Client => {
             drop(client);

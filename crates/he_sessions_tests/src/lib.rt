@@ -1,10 +1,12 @@
 //! Tests of `he_sessions` on real sockets, of loopback alone: the answers to clients of SOCKS 5 and of HTTP, the
-//! targets for which races are begun, that early octets are relayed first, how sessions end, and that all octets
-//! arrive.
+//! targets for which races are begun, that early octets are relayed first, what a server gets of a request that is
+//! forwarded, how sessions end, and that all octets arrive.
 #![tactic(auto)]
 
 #[cfg(test)]
 mod answers;
+#[cfg(test)]
+mod forwards;
 #[cfg(test)]
 mod homes;
 #[cfg(test)]

@@ -1,8 +1,8 @@
 use Rattle.std.proofs.Common.{◌≡◌, rules}
 use Rattle.he_addr.specs.declared.ip.Ip.{Ip}
 use Rattle.he_live.proofs.Records.{gives_heard}
-use Rattle.he_proxy.specs.Dials.{GoesTo}
-use Rattle.he_proxy.specs.declared.dial.Joined.{Joined}
+use Rattle.he_loop.specs.Dials.{GoesTo}
+use Rattle.he_loop.specs.declared.dial.Joined.{Joined}
 use Rattle.he_proxy.proofs.Runs.{runs_so}
 use Rattle.he_proxy.proofs.sockets.socket_race.Goals as goal
 

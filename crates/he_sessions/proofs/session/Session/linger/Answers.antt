@@ -1,4 +1,4 @@
-use Rattle.std.proofs.Common.{◌++◌, refl, [], rules}
+use Rattle.std.proofs.Common.{refl, rules}
 use Rattle.he_sessions.proofs.Going.{is_lingering}
 use Rattle.he_sessions.proofs.session.Session.linger.Goals as goal
 

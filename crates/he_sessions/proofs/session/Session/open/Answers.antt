@@ -1,16 +1,8 @@
-use Rattle.std.proofs.Common.{refl}
-use Rattle.he_sessions.proofs.Talking.{talks_more}
+use Rattle.std.proofs.Common.{subst}
+use Rattle.he_sessions.specs.Sessions.{HasAsked}
+use Rattle.he_sessions.specs.declared.asking.Wanted.{Wanted}
 use Rattle.he_sessions.proofs.session.Session.open.Goals as goal
 
-pub returns-in-Ok-clause-asked : goal.returns-in-Ok-clause-asked
-returns-in-Ok-clause-asked g c = λ first at. record {
-  asks = at.asks;
-  told = _;
-  opened = record {
-    protocol = c.args.protocol;
-    asks_by = at.asked;
-    told_of = record { reply = c.in-Ok.reply.items; replied = c.in-Ok.ensures; whole = refl };
-  };
-  is_won = record { given = c.requires.won; noted = refl };
-  talks = talks_more _ _ first _ _ _ _ at.talks;
-}
+pub returns-in-Response-clause-asked : goal.returns-in-Response-clause-asked
+returns-in-Response-clause-asked g c = λ first at.
+    c.forward.ensures.asked first (subst (λ (w : Wanted). HasAsked g.Q.Stream.AsyncRead.reads g.Q.Stream.AsyncWrite.writes first c.args.self.now.asked c.args.client c.args.early.items w) c.in-Response.is at)

@@ -17,6 +17,16 @@ returns-in-Relaying-clause-step g c =
     step_from _ _ _ _ _ _ _ _ (sym c.replace.ensures.value ∙ c.in-Relaying.is) c.step_relaying.ensures.step.goes_on c.step_relaying.ensures.step.follows
     c.step_relaying.ensures.step.same
 
+pub returns-in-Forwarding-clause-step : goal.returns-in-Forwarding-clause-step
+returns-in-Forwarding-clause-step g c =
+    step_from _ _ _ _ _ _ _ _ (sym c.replace.ensures.value ∙ c.in-Forwarding.is) c.step_forwarding.ensures.step.goes_on c.step_forwarding.ensures.step.follows
+    c.step_forwarding.ensures.step.same
+
+pub returns-in-Parting-clause-step : goal.returns-in-Parting-clause-step
+returns-in-Parting-clause-step g c =
+    step_from _ _ _ _ _ _ _ _ (sym c.replace.ensures.value ∙ c.in-Parting.is) c.step_parting.ensures.step.goes_on c.step_parting.ensures.step.follows
+    c.step_parting.ensures.step.same
+
 pub returns-in-Cutting-clause-step : goal.returns-in-Cutting-clause-step
 returns-in-Cutting-clause-step g c =
     step_from _ _ _ _ _ _ _ _ (sym c.replace.ensures.value ∙ c.in-Cutting.is) c.step_cutting.ensures.step.goes_on c.step_cutting.ensures.step.follows

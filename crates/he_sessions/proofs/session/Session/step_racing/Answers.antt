@@ -1,4 +1,5 @@
 use Rattle.std.proofs.Common.{rules}
+use Rattle.he_sessions.proofs.Going.{as_protocol}
 use Rattle.he_sessions.proofs.session.Session.step_racing.Goals as goal
 
 pub returns-in-Pending-clause-step : goal.returns-in-Pending-clause-step
@@ -21,7 +22,7 @@ returns-in-Ready-Ok-clause-step g c = record {
 
 pub returns-in-Ready-Err-clause-step : goal.returns-in-Ready-Err-clause-step
 returns-in-Ready-Err-clause-step g c = record {
-  goes_on = λ first at. c.lose.ensures.told first _ at.has_asked.talks;
+  goes_on = λ first at. c.lose.ensures.told first _ (as_protocol _ _ first _ _ _ _ c.protocol_of.ensures at.has_asked.talks);
   follows = c.lose.ensures.next.follows c.args.racing;
   same = search rules;
 }

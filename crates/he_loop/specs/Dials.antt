@@ -6,9 +6,9 @@ use Rattle.tokio.specs.declared.net.stream.TcpStream.{TcpStream}
 use Rattle.he_addr.specs.declared.ip.Ip.{Ip}
 use Rattle.he_live.specs.Dials.{IsSocketOf}
 use Rattle.he_live.specs.declared.endpoint.Endpoint.{Endpoint}
-use Rattle.he_proxy.specs.Access.{Reaches}
-use Rattle.he_proxy.specs.declared.access.Reach.{Reach}
-use Rattle.he_proxy.specs.declared.dial.Joined.{Joined}
+use Rattle.he_loop.specs.Access.{Reaches}
+use Rattle.he_loop.specs.declared.access.Reach.{Reach}
+use Rattle.he_loop.specs.declared.dial.Joined.{Joined}
 
 -- the connection was made to the address and the endpoint's port, which the client's races may reach by the kernel's
 -- answer for this address

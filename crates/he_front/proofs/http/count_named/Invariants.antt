@@ -1,6 +1,6 @@
 use Rattle.std.proofs.Common.{◌≡◌, ◌+◌, ◌≤◌, drop}
 use Rattle.he_front.specs.Http.{count_named}
-use Rattle.he_front.proofs.http.has_two.Given as goal
+use Rattle.he_front.proofs.http.count_named.Given as goal
 
 -- those that were counted and those among the fields that are left are all of this name
 abbrev pub invariant-loop-field : goal.invariant-loop-field

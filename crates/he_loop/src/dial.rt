@@ -3,10 +3,10 @@ ghost use Rattle.std.specs.Prelude.{◌≡◌, IfOk};
 ghost use Rattle.futures.specs.Poll.{IfReady, OnPending};
 ghost use Rattle.futures.specs.Task.{Covers, Keeps};
 ghost use Rattle.tokio.specs.Net.{stream_writable};
-ghost use Rattle.he_proxy.specs.Dials.{DialNeeds};
+ghost use Rattle.he_loop.specs.Dials.{DialNeeds};
 
 use crate::access::{Reach, ip_of};
-use crate::sockets::SharedLoop;
+use crate::shared::SharedLoop;
 use futures::task::{Context, Poll};
 use he_addr::Ip;
 use he_kernel::asked::AskedWays;
@@ -18,7 +18,6 @@ use std::net::{Net, SocketAddr};
 use std::os::fd::OwnedFd;
 use std::{io, net};
 use tokio::net::TcpStream;
-use tokio::reactor::Handle;
 
 /// A connection, with the address, port and interface that it was made to, and the kernel's answer for that address.
 #[derive(Drop)]
@@ -45,8 +44,7 @@ impl Joined {
 /// Connects to each reachable address at one endpoint, and notes the steps of each attempt.
 #[derive(Drop)]
 pub struct LoopConnector<'h, N: Net> {
-    net: &'h N,
-    reactor: &'h Handle,
+    shared: SharedLoop<'h, N>,
     to: Endpoint,
     reach: Reach<'h>,
     steps: Steps,
@@ -54,6 +52,7 @@ pub struct LoopConnector<'h, N: Net> {
 }
 
 impl<'h, N: Net> LoopConnector<'h, N> {
+    /// A connector for one race, whose attempts are noted in `steps`.
     pub fn new(
         shared: SharedLoop<'h, N>,
         to: Endpoint,
@@ -65,17 +64,14 @@ impl<'h, N: Net> LoopConnector<'h, N> {
         ensures reach { result.reach ≡ reach.entry }
     {
         LoopConnector {
-            net: shared.rt,
-            reactor: shared.handle.reactor(),
+            shared,
             to,
             reach,
             steps,
             asked,
         }
     }
-}
 
-impl<'h, N: Net> LoopConnector<'h, N> {
     // Notes that the proxy forbids the attempt, if there is memory for it.
     fn note_forbidden(&self, place: usize, ip: Ip, now: u64) {
         if let Ok(steps) = self.steps.for_attempt() {
@@ -95,7 +91,7 @@ impl<'h, N: Net> Connector for LoopConnector<'h, N> {
     type Run = LoopTrial;
 
     ghost use Rattle.std.specs.Prelude.{⊤};
-    ghost use Rattle.he_proxy.specs.Dials.{GoesTo};
+    ghost use Rattle.he_loop.specs.Dials.{GoesTo};
 
     ghost begins = { λ _ _ _ _ _ _. ⊤ };
 
@@ -103,7 +99,7 @@ impl<'h, N: Net> Connector for LoopConnector<'h, N> {
 
     // An attempt at an address out of reach can't begin.
     fn begin(&mut self, place: usize, ip: Ip, now: u64) -> Result<LoopTrial, AttemptFault> {
-        let way = self.asked.way(self.net, ip, self.to.scope);
+        let way = self.asked.way(self.shared.rt, ip, self.to.scope);
         if !self.reach.has(way, self.to.port) {
             self.note_forbidden(place, ip, now);
             return Err(AttemptFault::Begin);
@@ -116,7 +112,7 @@ impl<'h, N: Net> Connector for LoopConnector<'h, N> {
             place,
             way,
             to,
-            dialing: Some(begin_dialing(self.net, self.reactor, to)),
+            dialing: Some(begin_dialing(&self.shared, to)),
             steps,
         };
         trial.note(now, StepKind::Began);
@@ -150,7 +146,7 @@ impl Trial for LoopTrial {
     type Conn = Joined;
 
     ghost use Rattle.std.specs.Prelude.{⊤, None, ◌≡◌};
-    ghost use Rattle.he_proxy.specs.Dials.{DialNeeds};
+    ghost use Rattle.he_loop.specs.Dials.{DialNeeds};
 
     ghost needs = { λ trial. DialNeeds trial.dialing };
 
@@ -184,11 +180,11 @@ impl Trial for LoopTrial {
 }
 
 // Begins a connection with keepalive, which notices if the remote vanishes.
-fn begin_dialing<N: Net>(net: &N, reactor: &Handle, to: SocketAddr) -> io::Result<TcpStream> {
-    let socket = mio::net::TcpStream::connect(net, to)?;
+fn begin_dialing<N: Net>(shared: &SharedLoop<'_, N>, to: SocketAddr) -> io::Result<TcpStream> {
+    let socket = mio::net::TcpStream::connect(shared.rt, to)?;
     keep_alive(&socket);
     let socket = net::TcpStream::from(OwnedFd::from(socket));
-    TcpStream::from_std(socket, reactor)
+    TcpStream::from_std(socket, shared.handle.reactor())
 }
 
 fn poll_dialing(

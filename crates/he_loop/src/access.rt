@@ -3,7 +3,7 @@ ghost use Rattle.std.specs.Prelude.{◌≡◌, IsTrue};
 ghost use Rattle.std.specs.Net.Socket.{socket_ip};
 ghost use Rattle.he_addr.specs.Text.{ip_of};
 ghost use Rattle.he_access.specs.Tests.{is_here};
-ghost use Rattle.he_proxy.specs.Access.{Reaches, is_wide};
+ghost use Rattle.he_loop.specs.Access.{Reaches, is_wide};
 
 use he_access::reach::{Place, is_here, is_loopback, may_reach};
 use he_addr::Ip;

@@ -3,7 +3,7 @@ use Rattle.std.specs.Prelude.{ℕ, ◌≡◌, ◌||◌, Bool, true, false, is_so
 use Rattle.he_access.specs.Reaching.{IsReached}
 use Rattle.he_access.specs.Tests.{is_here}
 use Rattle.he_kernel.specs.declared.ways.Way.{Way}
-use Rattle.he_proxy.specs.declared.access.Reach.{Reach}
+use Rattle.he_loop.specs.declared.access.Reach.{Reach}
 
 -- the client reaches everything but the proxy itself: it is a program of this machine, or private addresses are
 -- allowed

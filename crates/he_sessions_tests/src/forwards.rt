@@ -1,0 +1,118 @@
+// Requests that are forwarded, and what the server gets of them.
+
+use crate::homes::{Course, Lender, Outcome, Part, WINNER, run};
+use he_front::Ended;
+use he_sessions::Ending;
+use std::io;
+use std::net::{Net, TcpListener, TcpStream};
+use std::test::Fail;
+
+const TARGET: (&str, u16) = ("example.org", 8080);
+
+const SECOND: &[u8] = b"GET http://other.example/ HTTP/1.1\r\nHost: other.example\r\n\r\n";
+
+const GETS: &[u8] =
+    b"GET http://example.org:8080/a?b HTTP/1.1\r\nHost: other\r\nConnection: x\r\nX: 1\r\nAccept: */*\r\n\r\n";
+
+const GOT: &[u8] =
+    b"GET /a?b HTTP/1.1\r\nHost: example.org:8080\r\nAccept: */*\r\nVia: 1.1 he\r\nConnection: close\r\n\r\n";
+
+const POSTS: &[u8] =
+    b"POST http://example.org:8080 HTTP/1.1\r\nHost: a\r\nTransfer-Encoding: chunked\r\nExpect: 100-continue\r\n\r\n";
+
+const POSTED: &[u8] =
+    b"POST / HTTP/1.1\r\nHost: example.org:8080\r\nTransfer-Encoding: chunked\r\nExpect: 100-continue\r\nVia: 1.1 he\r\nConnection: close\r\n\r\n";
+
+const CHUNKS: &[u8] = b"5;a=b\r\nhello\r\n00c\r\n GET / HTTP/\r\n0\r\nTrailer: x\r\n\r\n";
+
+const BROKEN: &[u8] = b"5\r\nhello\r\n0x1\r\n";
+
+const RESPONSE: &[u8] =
+    b"HTTP/1.1 103 Early Hints\r\n\r\nHTTP/1.1 200 OK\r\nConnection: close\r\n\r\nbody\n";
+
+// The outcome for a client that sends these parts one after the other, in pieces of `piece` octets, to a server that
+// answers at once and ends once it has got `count` octets.
+fn outcome<R: Lender + Net<Listener = TcpListener, Stream = TcpStream>>(
+    rt: &R,
+    course: Course,
+    parts: &[&[u8]],
+    piece: usize,
+    count: usize,
+) -> io::Result<Outcome> {
+    let mut sends = Vec::new(rt.alloc());
+    for part in parts {
+        sends.extend_from_slice(part)?;
+    }
+    let client = Part {
+        sends,
+        piece,
+        ends_after: usize::MAX,
+    };
+    let server = Part {
+        sends: Vec::from_slice(rt.alloc(), RESPONSE)?,
+        piece: usize::MAX,
+        ends_after: count,
+    };
+    run(rt, TARGET, course, None, client, server)
+}
+
+// Whether the server gets this head and this body and nothing else, and the client the whole response.
+fn is_forwarded(outcome: &Outcome, head: &[u8], body: &[u8]) -> bool {
+    let got = outcome.server_got.as_slice();
+    let is_told = match outcome.told {
+        Some(told) => {
+            told.how == Ending::Closed
+                && told.result == Some(Ok(WINNER))
+                && told.port == TARGET.1
+                && told.sent == got.len() as u64
+                && told.received == RESPONSE.len() as u64
+        }
+        None => false,
+    };
+    is_told && got.strip_prefix(head) == Some(body) && outcome.client_got.as_slice() == RESPONSE
+}
+
+#[test]
+fn only_the_first_request_reaches_its_server(rt: HostRuntime) -> Result<(), Fail> {
+    for piece in [usize::MAX, 7] {
+        let parts = [GETS, SECOND, SECOND];
+        let outcome = outcome(&rt, Course::Wins, &parts, piece, GOT.len())?;
+        assert!(rt; is_forwarded(&outcome, GOT, b""));
+    }
+    Ok(())
+}
+
+#[test]
+fn a_body_is_forwarded_to_its_end(rt: HostRuntime) -> Result<(), Fail> {
+    let count = POSTED.len().saturating_add(CHUNKS.len());
+    for piece in [usize::MAX, 5] {
+        let outcome = outcome(&rt, Course::Wins, &[POSTS, CHUNKS, SECOND], piece, count)?;
+        assert!(rt; is_forwarded(&outcome, POSTED, CHUNKS));
+    }
+    Ok(())
+}
+
+#[test]
+fn a_request_without_a_server_is_answered(rt: HostRuntime) -> Result<(), Fail> {
+    for (ended, line) in [
+        (Ended::Refused, b"HTTP/1.1 502 Bad Gateway\r\n".as_slice()),
+        (Ended::TimedOut, b"HTTP/1.1 504 Gateway Timeout\r\n"),
+        (Ended::Forbidden, b"HTTP/1.1 403 Forbidden\r\n"),
+    ] {
+        let outcome = outcome(&rt, Course::Ends(ended), &[GETS], usize::MAX, 0)?;
+        assert!(rt; outcome.client_got.starts_with(line));
+    }
+    Ok(())
+}
+
+#[test]
+fn a_malformed_body_is_refused(rt: HostRuntime) -> Result<(), Fail> {
+    let outcome = outcome(&rt, Course::Wins, &[POSTS, BROKEN, SECOND], usize::MAX, 0)?;
+    assert!(rt;
+        outcome
+            .client_got
+            .starts_with(b"HTTP/1.1 400 Bad Request\r\n")
+    );
+    assert!(rt; outcome.server_got.is_empty());
+    Ok(())
+}
