@@ -1,3 +1,4 @@
 mod Forms
 mod Grouped
+mod Summed
 mod Tables

@@ -1,15 +1,14 @@
 -- Races in groups, and the report on each group.
-use Rattle.std.specs.Prelude.{ℕ, ◌≡◌, ◌==◌, ◌+◌, ◌++◌, ◌<◌, if◌then◌else◌, All, List, [], ◌∷◌, codes, filter, length, map, string_bytes}
-use Rattle.std.specs.List.{Contains}
+use Rattle.std.specs.Prelude.{ℕ, ◌≡◌, ◌==◌, ◌++◌, ◌<◌, if◌then◌else◌, All, List, [], ◌∷◌, codes, filter, length, map, string_bytes}
+use Rattle.std.specs.List.{Contains, sum_by}
 use Rattle.std.specs.Option.{unwrap_or}
 use Rattle.he_addr.specs.declared.ip.Family.TheVariants.{V4, V6}
 use Rattle.he_print.specs.Escaping.{string_text}
 use Rattle.he_print.specs.Parts.{States}
 use Rattle.he_print.specs.declared.part.Fact.{Fact}
 use Rattle.he_print.specs.declared.part.Fact.TheVariants as facts
-use Rattle.he_summary.specs.Figures.{total_of, totals_facts}
+use Rattle.he_summary.specs.Json.{totals_json}
 use Rattle.he_summary.specs.Totals.{AreTotals, is_kind}
-use Rattle.he_summary.specs.Tries.{saturated}
 use Rattle.he_summary.specs.Written.{HasWords, name_at}
 use Rattle.he_summary.specs.declared.figures.Form.{Form}
 use Rattle.he_summary.specs.declared.figures.Form.TheVariants as forms
@@ -37,6 +36,7 @@ abbrev pub key_by : By → List (List ℕ) → Kept → ℕ
 key_by by.File names race = race.place.file
 key_by by.Hour names race = hour_key (name_at names race.place.file)
 key_by by.Family names race = family_key race
+key_by by.Host names race = race.place.file
 
 -- the criterion that divides races, and the names of their files
 pub record Division : Type 0 where
@@ -57,6 +57,7 @@ abbrev pub label_by : By → List (List ℕ) → ℕ → List ℕ
 label_by by.File names key = name_at names key
 label_by by.Hour names key = if key == NO_HOUR then codes "other" else hour_text key
 label_by by.Family names key = family_text key
+label_by by.Host names key = name_at names key
 
 -- the label of a group
 abbrev pub label_of : Division → ℕ → List ℕ
@@ -82,27 +83,26 @@ pub record AreGroups (division : Division) (kept : List Kept) (groups : List Gro
   pub counted : All (IsCounted division kept) groups
   pub each : All (λ race. Contains (map (λ group. group.key) groups) (key_of division race)) kept
 
--- the time that was lost to failed and to silent addresses
-abbrev pub lost : Totals → ℕ
-lost totals = saturated (total_of totals.lost_to_failed + total_of totals.lost_to_silent)
+-- the share of the won races that IPv6 won, and the time of all races that waited for the names, and that was lost
+abbrev pub share_facts : Totals → List (Fact Said)
+share_facts totals =
+    share_cell totals.counts.by_v6 totals.counts.won
+    ++ facts.Number totals.sums.names ∷ facts.Number totals.sums.lost ∷ []
 
--- the number of races, the share of them that was won, their times to connect, their attempts in the mean, the share
--- of the won ones that IPv6 won, and the time that was lost
+-- the number of races, the share of them that was won, their times to connect, their attempts in the mean, and these
 abbrev pub cell_facts : Totals → List (Fact Said)
 cell_facts totals =
     facts.Number totals.counts.races
     ∷ (share_cell totals.counts.won totals.counts.races
     ++ (times_facts totals.times
-    ++ (mean_facts totals.attempts
-    ++ (share_cell totals.counts.by_v6 totals.counts.won ++ facts.Number (lost totals) ∷ []))))
+    ++ (mean_facts totals.attempts ++ share_facts totals)))
 
 -- a line of the table, which its label ends; or an object, which has all figures of a summary of the races
 abbrev pub IsGroupText : Form → Totals → List ℕ → List ℕ → Type 0
 IsGroupText forms.Text totals label text =
     (cells : List ℕ) × States (cell_facts totals) cells × (text ≡ cells ++ (codes "  " ++ (label ++ codes "\n")))
 IsGroupText _ totals label text =
-    (told : List ℕ) × States (totals_facts forms.Json totals) told
-    × (text ≡ told ++ (codes ",\"group\":" ++ (string_text label ++ codes "}\n")))
+    text ≡ totals_json totals ++ (codes ",\"group\":" ++ (string_text label ++ codes "}\n"))
 
 -- the text of each of these groups has been appended
 abbrev pub AreGroupTexts : Form → Division → List Group → List ℕ → List ℕ → Type 0
@@ -116,3 +116,10 @@ abbrev pub IsGroupTable : Form → Division → List Kept → List ℕ → List 
 IsGroupTable form division kept old new =
     (groups : List Group) × (between : List ℕ) × AreGroups division kept groups × HasWords old between
     × AreGroupTexts form division groups between new
+
+-- whatever is summed over races, as the time that they lost: over the races of each group, and these over all groups
+abbrev pub GroupsAddUp : Type 0
+GroupsAddUp =
+    (division : Division) (kept : List Kept) (groups : List Group) → AreGroups division kept groups
+    → (ms : Kept → ℕ)
+    → sum_by (λ (group : Group). sum_by ms (members division group.key kept)) groups ≡ sum_by ms kept

@@ -4,3 +4,4 @@ pub mod Lines
 pub mod Rows
 pub mod Table
 pub mod Verdicts
+pub mod Worst

@@ -12,12 +12,13 @@ use Rattle.he_compare.specs.Verdicts.{counts_of, verdicts_on}
 use Rattle.he_compare.specs.declared.row.Row.{Row}
 use Rattle.he_compare.specs.declared.row.Said.{Said}
 use Rattle.he_compare.specs.declared.row.Said.TheVariants.{NoTime}
+use Rattle.he_compare.specs.declared.verdict.Finish.TheVariants.{NotWon}
 use Rattle.he_compare.specs.declared.verdict.Verdicts.{Verdicts}
 
 -- the counts of the races that are kept with the settings of a row
 pub record IsRow (place : ℕ) (kept : List Kept) (row : Row) : Type 0 where
   pub totals : AreTotals (filter (λ race. race.row == place) kept) row.totals
-  pub verdicts : row.verdicts ≡ counts_of (verdicts_on place None kept)
+  pub verdicts : row.verdicts ≡ counts_of (verdicts_on place NotWon kept)
 
 abbrev pub times_facts : Option Spread → List (Fact Said)
 times_facts None = facts.Said NoTime ∷ []
@@ -46,7 +47,7 @@ share_cell number (suc of) =
 abbrev pub verdict_facts : Verdicts → List (Fact Said)
 verdict_facts verdicts =
     facts.Number verdicts.sooner ∷ facts.Number verdicts.later ∷ facts.Number verdicts.same
-    ∷ facts.Number verdicts.only_with ∷ facts.Number verdicts.only_without ∷ []
+    ∷ facts.Number verdicts.only_with ∷ facts.Number verdicts.only_without ∷ facts.Number verdicts.unknown ∷ []
 
 abbrev pub row_facts : Row → List (Fact Said)
 row_facts row =

@@ -2,7 +2,7 @@
 ghost use Rattle.std.specs.Prelude.{ℕ, ◌≡◌, ◌++◌, List, OnOk};
 ghost use Rattle.std.specs.List.{flat_map};
 ghost use Rattle.he_print.specs.Parts.{fact_of};
-ghost use Rattle.he_compare.specs.Groups.{IsGroupTable, IsGroupText, cell_facts, division_of, label_of, lost};
+ghost use Rattle.he_compare.specs.Groups.{IsGroupTable, IsGroupText, cell_facts, division_of, label_of, share_facts};
 ghost use Rattle.he_summary.specs.declared.figures.Form.TheVariants as forms;
 
 use crate::grouping::{By, Grouping, label_of};
@@ -10,8 +10,7 @@ use crate::groups::{Group, groups_of};
 use crate::row::{Said, push_mean, push_share, push_times};
 use he_addr::Memory;
 use he_print::{Part, push_parts, write_parts, write_string};
-use he_summary::figures::{push_totals, total_of};
-use he_summary::{Form, Kept, Totals};
+use he_summary::{Form, Kept, Totals, write_totals};
 use std::alloc::Allocator;
 
 /// Appends a table of the groups of these races: a row for each group that has a race, in order. As JSON each row is
@@ -41,11 +40,13 @@ fn heading(form: Form, by: By) -> &'static [u8] {
     match (form, by) {
         (Form::Json | Form::Metrics, _) => b"",
         (Form::Text, By::File) =>
-            b"  races     won    p50    p90    p99  attempts    IPv6   lost ms  file\n",
+            b"  races  connected  p50 ms  p90 ms  p99 ms  attempts       IPv6  names ms   lost ms  file\n",
         (Form::Text, By::Hour) =>
-            b"  races     won    p50    p90    p99  attempts    IPv6   lost ms  hour\n",
+            b"  races  connected  p50 ms  p90 ms  p99 ms  attempts       IPv6  names ms   lost ms  hour\n",
         (Form::Text, By::Family) =>
-            b"  races     won    p50    p90    p99  attempts    IPv6   lost ms  family\n",
+            b"  races  connected  p50 ms  p90 ms  p99 ms  attempts       IPv6  names ms   lost ms  family\n",
+        (Form::Text, By::Host) =>
+            b"  races  connected  p50 ms  p90 ms  p99 ms  attempts       IPv6  names ms   lost ms  host\n",
     }
 }
 
@@ -62,7 +63,7 @@ fn write_group<A: Allocator + Copy>(
     let label = label_of(alloc, grouping, group.key)?;
     match form {
         Form::Text => write_line(alloc, group.totals, label.as_slice(), text),
-        Form::Json | Form::Metrics => write_object(alloc, group.totals, label.as_slice(), text),
+        Form::Json | Form::Metrics => write_object(group.totals, label.as_slice(), text),
     }
 }
 
@@ -85,7 +86,6 @@ fn write_line<A: Allocator + Copy>(
 }
 
 fn write_object<A: Allocator + Copy>(
-    alloc: A,
     totals: Totals,
     label: &[u8],
     text: &mut Vec<u8, A>,
@@ -93,9 +93,7 @@ fn write_object<A: Allocator + Copy>(
     ensures { OnOk result ((told : List ℕ) × IsGroupText forms.Json totals label.now told
         × (text.new.items ≡ text.old.items ++ told)) }
 {
-    let mut parts = Vec::new(alloc);
-    push_totals(Form::Json, totals, &mut parts)?;
-    write_parts(parts.as_slice(), text)?;
+    write_totals(totals, text)?;
     text.extend_from_slice(b",\"group\":")?;
     write_string(label, text)?;
     text.extend_from_slice(b"}\n")?;
@@ -111,13 +109,19 @@ fn push_cells<A: Allocator>(totals: Totals, cells: &mut Vec<Part<Said>, A>) -> R
     push_share(counts.won, counts.races, cells)?;
     push_times(totals.times, cells)?;
     push_mean(totals.attempts, cells)?;
-    push_share(counts.by_v6, counts.won, cells)?;
-    push_parts(&[Part::Aligned(10, lost(totals))], cells)
+    push_shares(totals, cells)
 }
 
-// The milliseconds that were lost to failed and to silent addresses.
-fn lost(totals: Totals) -> u64
-    ensures { result ≡ lost totals }
+// The share of the won races that IPv6 won, and the time of all races that waited for the names, and that was lost.
+fn push_shares<A: Allocator>(totals: Totals, cells: &mut Vec<Part<Said>, A>) -> Result<(), Memory>
+    ensures { OnOk result (flat_map fact_of cells.new.items ≡ flat_map fact_of cells.old.items ++ share_facts totals) }
 {
-    total_of(totals.lost_to_failed).saturating_add(total_of(totals.lost_to_silent))
+    push_share(totals.counts.by_v6, totals.counts.won, cells)?;
+    push_parts(
+        &[
+            Part::Aligned(10, totals.sums.names),
+            Part::Aligned(10, totals.sums.lost),
+        ],
+        cells,
+    )
 }

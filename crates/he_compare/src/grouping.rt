@@ -23,9 +23,11 @@ pub enum By {
     Hour,
     /// The family of the address that won: IPv6, then IPv4, then the races that none won.
     Family,
+    /// The requested host: the races have the place of it among the names, in place of that of their file.
+    Host,
 }
 
-/// A division of races into groups. `names` has the names of their files by place, as they may be shown.
+/// A division of races into groups. `names` has the names of their files by place.
 #[derive(Clone, Copy)]
 pub struct Grouping<'n> {
     pub by: By,
@@ -37,7 +39,7 @@ pub(crate) fn key_of(grouping: Grouping<'_>, race: &Kept) -> u64
     ensures { result ≡ key_of (division_of grouping.entry) race.now }
 {
     match grouping.by {
-        By::File => race.place.file as u64,
+        By::File | By::Host => race.place.file as u64,
         By::Hour => hour_key(name_of(race.place.file, grouping.names)),
         By::Family => family_key(race),
     }
@@ -71,7 +73,9 @@ pub(crate) fn label_of<A: Allocator>(
 {
     let mut label = Vec::new(alloc);
     match grouping.by {
-        By::File => label.extend_from_slice(name_of(key as usize, grouping.names).as_bytes())?,
+        By::File | By::Host => {
+            label.extend_from_slice(name_of(key as usize, grouping.names).as_bytes())?;
+        }
         By::Hour if key == NO_HOUR => label.extend_from_slice(b"other")?,
         By::Hour => push_hour(key, &mut label)?,
         By::Family => label.extend_from_slice(family_text(key))?,

@@ -1,11 +1,18 @@
-//! A law of comparisons: the contract of an empty function.
+//! Laws of comparisons and of groups. Each is the contract of an empty function.
 ghost use Rattle.std.specs.Prelude.{◌≡◌, None};
 ghost use Rattle.he_timeline.specs.Changes.{changed};
 ghost use Rattle.he_timeline.specs.Race.{Race};
 ghost use Rattle.he_timeline.specs.Timeline.{IsRace};
 ghost use Rattle.he_plan.specs.Transcript.{IsTranscript, Report};
+ghost use Rattle.he_compare.specs.Groups.{GroupsAddUp};
 
 use he_plan::laws::one_transcript;
+
+/// What is summed over the races of each group is over all groups what it is over all races: the lost time of all
+/// files, hours, families or hosts is that of all races.
+pub fn groups_add_up()
+    ensures { GroupsAddUp }
+{}
 
 /// Without changes the two transcripts of a race are equal, so its two lines report one result.
 pub fn no_changes_no_difference()

@@ -1,16 +1,16 @@
 //! The races of a comparison, line by line.
-ghost use Rattle.std.specs.Prelude.{◌≡◌, ◌++◌, [], ◌∷◌, None, OnOk};
+ghost use Rattle.std.specs.Prelude.{◌≡◌, ◌++◌, [], ◌∷◌, OnOk};
 ghost use Rattle.std.specs.List.{flat_map};
 ghost use Rattle.he_print.specs.Parts.{fact_of};
 ghost use Rattle.he_print.specs.declared.part.Fact.TheVariants as facts;
 ghost use Rattle.he_compare.specs.declared.lines.Told.TheVariants.{Won};
 ghost use Rattle.he_summary.specs.Written.{Tells};
 ghost use Rattle.he_compare.specs.Lines.{AreLines, ending_facts, line_facts};
+ghost use Rattle.he_compare.specs.declared.verdict.Finish.TheVariants.{NotWon};
 
-use crate::verdict::{Verdict, stands_after};
-use he_addr::{Ip, Memory};
+use crate::verdict::{Finish, Verdict, own_after};
+use he_addr::{Family, Ip, Memory};
 use he_print::{Part, push_parts, write_parts};
-use he_summary::totals::{Value, value_of};
 use he_summary::{Ending, Form, Kept, name_of, place_parts, write_name};
 use std::alloc::Allocator;
 
@@ -24,7 +24,7 @@ pub enum Told {
 }
 
 /// Appends a line for each race with the settings of each row: how it ends, and the verdict. `names` has the names of
-/// the files by place, and those of the settings by row, all as they may be shown; a missing one is `-`.
+/// the files by place, and those of the settings by row; a missing one is `-`. In text a terminal may show them.
 ///
 /// # Errors
 ///
@@ -36,18 +36,18 @@ pub fn write_lines<A: Allocator + Copy>(
     names: (&[String], &[String]),
     text: &mut Vec<u8, A>,
 ) -> Result<(), Memory>
-    ensures { OnOk result (AreLines form None kept.now text.old.items text.new.items) }
+    ensures { OnOk result (AreLines form NotWon kept.now text.old.items text.new.items) }
 {
     let (files, settings) = names;
     let (begin, before, end): (&[u8], &[u8], &[u8]) = match form {
         Form::Text => (b"", b" (", b")\n"),
         Form::Json | Form::Metrics => (b"{\"file\":", b",\"settings\":", b"}\n"),
     };
-    let mut stands = None;
+    let mut own = Finish::NotWon;
     for race in kept {
-        stands = stands_after(stands, race);
+        own = own_after(own, race);
         write_name(form, begin, name_of(race.place.file, files), b"", text)?;
-        write_line(alloc, form, race, stands, text)?;
+        write_line(alloc, form, race, own, text)?;
         write_name(form, before, name_of(race.row, settings), end, text)?;
     }
     Ok(())
@@ -57,26 +57,26 @@ fn write_line<A: Allocator + Copy>(
     alloc: A,
     form: Form,
     race: &Kept,
-    stands: Option<u64>,
+    own: Finish,
     text: &mut Vec<u8, A>,
 ) -> Result<(), Memory>
-    ensures { OnOk result (Tells (line_facts form stands race.now) text.old.items text.new.items) }
+    ensures { OnOk result (Tells (line_facts form own race.now) text.old.items text.new.items) }
 {
     let mut parts = Vec::new(alloc);
-    push_line(form, race, stands, &mut parts)?;
+    push_line(form, race, own, &mut parts)?;
     write_parts(parts.as_slice(), text)
 }
 
 fn push_line<A: Allocator>(
     form: Form,
     race: &Kept,
-    stands: Option<u64>,
+    own: Finish,
     text: &mut Vec<Part<Told>, A>,
 ) -> Result<(), Memory>
     ensures { OnOk result (flat_map fact_of text.new.items ≡ flat_map fact_of text.old.items
-        ++ line_facts form stands race.now) }
+        ++ line_facts form own race.now) }
 {
-    let verdict = Verdict::of(stands, value_of(Value::Time, race));
+    let verdict = Verdict::of(own, Finish::of(race));
     push_parts(&place_parts(form, race.place), text)?;
     push_ending(form, race.ending, text)?;
     push_parts(
@@ -109,9 +109,14 @@ fn push_won<A: Allocator>(
     ensures { OnOk result (flat_map fact_of text.new.items ≡ flat_map fact_of text.old.items
         ++ facts.Said Won ∷ facts.Ip ip ∷ facts.Number tick ∷ []) }
 {
-    let words: [&'static [u8]; 3] = match form {
-        Form::Text => [b": connected to ", b" after ", b" ms"],
-        Form::Json | Form::Metrics => [b",\"ended\":\"won\",\"address\":\"", b"\",\"ms\":", b""],
+    let words: [&'static [u8]; 3] = match (form, ip.family()) {
+        (Form::Text, Family::V6) => [b": connected by IPv6 (", b") in ", b" ms"],
+        (Form::Text, Family::V4) => [b": connected by IPv4 (", b") in ", b" ms"],
+        (Form::Json | Form::Metrics, _) => [
+            b",\"ended\":\"won\",\"address\":\"",
+            b"\",\"ms\":",
+            b"",
+        ],
     };
     push_parts(
         &[
@@ -135,12 +140,12 @@ fn push_end<A: Allocator>(
         ++ facts.Said said ∷ facts.Number tick ∷ []) }
 {
     let (before, after): (&'static [u8], &'static [u8]) = match (form, said) {
-        (Form::Text, Told::Won) => (b": connected after ", b" ms"),
+        (Form::Text, Told::Won) => (b": connected in ", b" ms"),
         (Form::Text, Told::Exhausted) => (
             b": not connected: nothing is left to try after ",
             b" ms",
         ),
-        (Form::Text, _) => (b": not connected by the limit of ", b" ms"),
+        (Form::Text, _) => (b": not connected: timed out after ", b" ms"),
         (_, Told::Won) => (b",\"ended\":\"won\",\"ms\":", b""),
         (_, Told::Exhausted) => (b",\"ended\":\"exhausted\",\"ms\":", b""),
         (_, _) => (b",\"ended\":\"limit\",\"ms\":", b""),
@@ -160,14 +165,16 @@ fn verdict_words(form: Form, verdict: Verdict) -> &'static [u8] {
         (Form::Text, Verdict::Sooner) => b", sooner",
         (Form::Text, Verdict::Later) => b", later",
         (Form::Text, Verdict::Same) => b", the same",
-        (Form::Text, Verdict::OnlyWith) => b", won only with",
-        (Form::Text, Verdict::OnlyWithout) => b", won only without",
-        (Form::Text, Verdict::Neither) => b", not won either way",
+        (Form::Text, Verdict::OnlyWith) => b", connected only with",
+        (Form::Text, Verdict::OnlyWithout) => b", connected only without",
+        (Form::Text, Verdict::Neither) => b", connected in neither case",
+        (Form::Text, Verdict::Unknown) => b", unknown",
         (_, Verdict::Sooner) => b",\"verdict\":\"sooner\"",
         (_, Verdict::Later) => b",\"verdict\":\"later\"",
         (_, Verdict::Same) => b",\"verdict\":\"same\"",
         (_, Verdict::OnlyWith) => b",\"verdict\":\"only with\"",
         (_, Verdict::OnlyWithout) => b",\"verdict\":\"only without\"",
         (_, Verdict::Neither) => b",\"verdict\":\"neither\"",
+        (_, Verdict::Unknown) => b",\"verdict\":\"unknown\"",
     }
 }

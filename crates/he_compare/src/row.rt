@@ -75,13 +75,16 @@ pub(crate) fn push_times<A: Allocator>(
     match times {
         Some(times) => push_parts(
             &[
-                Part::Aligned(7, times.median),
-                Part::Aligned(7, times.p90),
-                Part::Aligned(7, times.p99),
+                Part::Aligned(8, times.median),
+                Part::Aligned(8, times.p90),
+                Part::Aligned(8, times.p99),
             ],
             text,
         ),
-        None => push_parts(&[Part::Says(Said::NoTime, b"      -      -      -")], text),
+        None => push_parts(
+            &[Part::Says(Said::NoTime, b"       -       -       -")],
+            text,
+        ),
     }
 }
 
@@ -124,12 +127,12 @@ pub(crate) fn push_share<A: Allocator>(
     ensures { OnOk result (flat_map fact_of text.new.items ≡ flat_map fact_of text.old.items ++ share_cell number of) }
 {
     if of == 0 {
-        return push_parts(&[Part::Says(Said::NoTime, b"       -")], text);
+        return push_parts(&[Part::Says(Said::NoTime, b"          -")], text);
     }
     let tenths = share(number, of);
     push_parts(
         &[
-            Part::Aligned(4, tenths / 10),
+            Part::Aligned(7, tenths / 10),
             Part::Words(b"."),
             Part::Number(tenths % 10),
             Part::Words(b" %"),
@@ -152,6 +155,7 @@ fn push_verdicts<A: Allocator>(
             Part::Aligned(8, verdicts.same),
             Part::Aligned(11, verdicts.only_with),
             Part::Aligned(14, verdicts.only_without),
+            Part::Aligned(9, verdicts.unknown),
         ],
         text,
     )
@@ -169,7 +173,7 @@ pub(crate) fn push_object<A: Allocator>(
         &[
             Part::Words(b"{\"races\":"),
             Part::Number(counts.races),
-            Part::Words(b",\"won\":"),
+            Part::Words(b",\"connected\":"),
             Part::Number(counts.won),
             Part::Words(b",\"ipv6\":"),
             Part::Number(counts.by_v6),
@@ -204,6 +208,8 @@ fn push_attempt_members<A: Allocator>(
             Part::Number(verdicts.only_with),
             Part::Words(b",\"only_without\":"),
             Part::Number(verdicts.only_without),
+            Part::Words(b",\"unknown\":"),
+            Part::Number(verdicts.unknown),
         ],
         text,
     )

@@ -12,7 +12,7 @@ use he_summary::{Form, Kept, write_name};
 use std::alloc::Allocator;
 
 const HEADING: &[u8] =
-    b"    p50    p90    p99  attempts    IPv6  sooner   later    same  only with  only without  settings\n";
+    b"  p50 ms  p90 ms  p99 ms  attempts       IPv6  sooner   later    same  only with  only without  unknown  settings\n";
 
 /// Appends the table of a comparison: a row for each of these settings; the first row is that of the races with their
 /// own settings. As JSON it is an object on one line.

@@ -1,6 +1,7 @@
 //! The effect of other settings on a race.
-ghost use Rattle.std.specs.Prelude.{◌≡◌, count_by, None, IfOk};
-ghost use Rattle.he_compare.specs.Verdicts.{counts_of, is_like, stands_after, verdict_of, verdicts_on};
+ghost use Rattle.std.specs.Prelude.{◌≡◌, count_by, IfOk};
+ghost use Rattle.he_compare.specs.Verdicts.{counts_of, finish_of, is_like, own_after, verdict_of, verdicts_on};
+ghost use Rattle.he_compare.specs.declared.verdict.Finish.TheVariants.{NotWon};
 
 use he_addr::Memory;
 use he_summary::Kept;
@@ -18,6 +19,18 @@ pub enum Verdict {
     OnlyWith,
     OnlyWithout,
     Neither,
+    /// Not known: one of both ways has an attempt at an address that no client tried.
+    Unknown,
+}
+
+/// The result of a race with some settings.
+#[derive(Clone, Copy, Debug, PartialEq, Eq)]
+pub enum Finish {
+    /// It is won at this tick.
+    Won(u64),
+    NotWon,
+    /// Not known: an attempt was at an address that no client tried.
+    Unknown,
 }
 
 /// The number of races of each verdict.
@@ -29,20 +42,37 @@ pub struct Verdicts {
     pub only_with: u64,
     pub only_without: u64,
     pub neither: u64,
+    pub unknown: u64,
 }
 
 impl Verdict {
-    /// The verdict, by the race's time to connect with its own settings, and with the other ones.
-    pub fn of(stands: Option<u64>, with: Option<u64>) -> Verdict
-        ensures { result ≡ verdict_of stands with }
+    /// The verdict, by the race's results with its own settings, and with the other ones.
+    pub fn of(own: Finish, with: Finish) -> Verdict
+        ensures { result ≡ verdict_of own with }
     {
-        match (stands, with) {
-            (Some(own), Some(other)) if other < own => Verdict::Sooner,
-            (Some(own), Some(other)) if own < other => Verdict::Later,
-            (Some(_), Some(_)) => Verdict::Same,
-            (Some(_), None) => Verdict::OnlyWithout,
-            (None, Some(_)) => Verdict::OnlyWith,
-            (None, None) => Verdict::Neither,
+        match (own, with) {
+            (Finish::Won(own), Finish::Won(other)) if other < own => Verdict::Sooner,
+            (Finish::Won(own), Finish::Won(other)) if own < other => Verdict::Later,
+            (Finish::Won(_), Finish::Won(_)) => Verdict::Same,
+            (Finish::Won(_), Finish::NotWon) => Verdict::OnlyWithout,
+            (Finish::NotWon, Finish::Won(_)) => Verdict::OnlyWith,
+            (Finish::NotWon, Finish::NotWon) => Verdict::Neither,
+            _ => Verdict::Unknown,
+        }
+    }
+}
+
+impl Finish {
+    /// The result of the race.
+    pub fn of(race: &Kept) -> Finish
+        ensures { result ≡ finish_of race.now }
+    {
+        if race.has_untried {
+            return Finish::Unknown;
+        }
+        match value_of(Value::Time, race) {
+            Some(tick) => Finish::Won(tick),
+            None => Finish::NotWon,
         }
     }
 }
@@ -54,28 +84,24 @@ pub(crate) fn verdicts_on<A: Allocator>(
     row: usize,
     kept: &[Kept],
 ) -> Result<Vec<Verdict, A>, Memory>
-    ensures { IfOk result (λ verdicts. verdicts.items ≡ verdicts_on row None kept.now) }
+    ensures { IfOk result (λ verdicts. verdicts.items ≡ verdicts_on row NotWon kept.now) }
 {
     let mut verdicts = Vec::new(alloc);
-    let mut stands = None;
+    let mut own = Finish::NotWon;
     for race in kept {
-        stands = stands_after(stands, race);
+        own = own_after(own, race);
         if race.row == row {
-            verdicts.push(Verdict::of(stands, value_of(Value::Time, race)))?;
+            verdicts.push(Verdict::of(own, Finish::of(race)))?;
         }
     }
     Ok(verdicts)
 }
 
-// The time to connect of the last race with its own settings.
-pub(crate) fn stands_after(stands: Option<u64>, race: &Kept) -> Option<u64>
-    ensures { result ≡ stands_after stands race.now }
+// The result of the last race with its own settings.
+pub(crate) fn own_after(own: Finish, race: &Kept) -> Finish
+    ensures { result ≡ own_after own race.now }
 {
-    if race.row == 0 {
-        value_of(Value::Time, race)
-    } else {
-        stands
-    }
+    if race.row == 0 { Finish::of(race) } else { own }
 }
 
 pub(crate) fn counts_of(verdicts: &[Verdict]) -> Verdicts
@@ -88,6 +114,7 @@ pub(crate) fn counts_of(verdicts: &[Verdict]) -> Verdicts
         only_with: count(verdicts, Verdict::OnlyWith),
         only_without: count(verdicts, Verdict::OnlyWithout),
         neither: count(verdicts, Verdict::Neither),
+        unknown: count(verdicts, Verdict::Unknown),
     }
 }
 

@@ -1,5 +1,8 @@
+mod Hosted
+mod Joined
 pub mod Loops
 pub mod Percentiles
+pub mod Sums
 pub mod Tallied
 pub mod Told
 pub mod Walked

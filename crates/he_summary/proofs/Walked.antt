@@ -1,13 +1,13 @@
 -- One race more of an input is summed, and how its reading ends.
-use Rattle.std.proofs.Common.{ℕ, ◌≡◌, ◌+◌, Bool, true, false, List, [], ◌∷◌, ◌++◌, length, Option, Some, None, Ok, Err, inl, inr, refl, sym, ◌∙◌, ap, subst, append_assoc, arith, length-append}
+use Rattle.std.proofs.Common.{ℕ, ◌≡◌, ◌+◌, Bool, false, List, [], ◌∷◌, ◌++◌, length, map, Option, Some, None, Ok, Err, inl, inr, refl, sym, ◌∙◌, ap, subst, append_assoc, arith, length-append, sum}
 use Rattle.std.proofs.lemmas.Grind.{flat_map-append}
 use Rattle.std.proofs.lemmas.List.{append-nil, map-append}
 use Rattle.he_timeline.specs.Changes.{ChangeValues}
 use Rattle.he_timeline.specs.Race.{Race}
 use Rattle.he_stream.specs.declared.stream.InputStream as inputs
-use Rattle.he_stream.specs.Input.{Gives, GivesSoFar}
+use Rattle.he_stream.specs.Input.{Gives}
 use Rattle.he_inputs.specs.Inputs.{HasRaces, line_count}
-use Rattle.he_inputs.specs.RaceStreams.{EndsRaces, HandsNext, StopsRaces, StreamState, at_start}
+use Rattle.he_inputs.specs.RaceStreams.{EndsRaces, HandsNext, StreamState, at_start}
 use Rattle.he_inputs.specs.StreamFaults.{fault_of_reader}
 use Rattle.he_inputs.specs.declared.input_fault.InputFault.{InputFault}
 use Rattle.he_inputs.specs.declared.input_fault.InputFault.TheVariants as faults
@@ -17,9 +17,18 @@ use Rattle.he_inputs.specs.Recorded.{IsRecordedText}
 use Rattle.he_inputs.proofs.RaceReadingLaws.{line_count-append}
 use Rattle.he_inputs.proofs.RaceStreamLaws.{none_handed}
 use Rattle.he_record.specs.Said.{Said}
-use Rattle.he_summary.specs.Kept.{Run, kept_of}
+use Rattle.he_summary.specs.Hosts.{AreNamed}
+use Rattle.he_addr.specs.declared.ip.Ip.{Ip}
+use Rattle.he_course.proofs.AccountLaws.{account_times}
+use Rattle.he_course.specs.Accounts.{IsAccount, end_of}
+use Rattle.he_course.specs.Amounts.{lost_of, times_of}
+use Rattle.he_course.specs.declared.accounts.Account.{Account}
+use Rattle.he_course.specs.declared.owners.Owner.TheVariants as owners
+use Rattle.he_plan.specs.Transcript.{Report}
+use Rattle.he_record.specs.Given.{untried_given}
+use Rattle.he_summary.specs.Kept.{IsCharged, Run, kept_of}
 use Rattle.he_summary.specs.Steps.{AddsNext, AddsRace, AddsRuns, HasRead}
-use Rattle.he_summary.specs.Summed.{AddsAll, AreRows, AreRuns, HasAdded, HasSummed, IsRow, Sums, all_servers, all_tries}
+use Rattle.he_summary.specs.Summed.{AddsAll, AreRows, AreRuns, HasAdded, HasSummed, IsRow, Sums, all_servers, all_tries, host_of}
 use Rattle.he_summary.specs.Tries.{AreTallies, Try, servers_of, tries_of}
 use Rattle.he_summary.specs.declared.kept.Kept.{Kept}
 use Rattle.he_summary.specs.declared.kept.Place.{Place}
@@ -29,12 +38,12 @@ pub rows_on : (said : List Said) (race : Race) (place : Place) (row : ℕ) (sett
     → IsRow said race place (row + length settings) changes run → AreRows said race place row (settings ++ changes ∷ []) (runs ++ run ∷ [])
 rows_on said race place row [] runs changes run none is =
     subst (λ (rest : List Run). AreRows said race place row (changes ∷ []) (rest ++ run ∷ [])) (sym none)
-    (record { row_is = let at = is.row_is in omega arith; place_is = is.place_is; said_is = is.said_is; race_is = is.race_is; transcript = is.transcript }, refl)
+    (record { row_is = let at = is.row_is in omega arith; place_is = is.place_is; said_is = is.said_is; race_is = is.race_is; transcript = is.transcript; account = is.account }, refl)
 rows_on said race place row (one ∷ settings) [] changes run none is = absurd none
 rows_on said race place row (one ∷ settings) (first ∷ runs) changes run are is = (
   are.0,
   rows_on said race place (row + 1) settings runs changes run are.1
-      (record { row_is = let at = is.row_is in omega arith; place_is = is.place_is; said_is = is.said_is; race_is = is.race_is; transcript = is.transcript }),
+      (record { row_is = let at = is.row_is in omega arith; place_is = is.place_is; said_is = is.said_is; race_is = is.race_is; transcript = is.transcript; account = is.account }),
 )
 
 -- the rows of one race more after those of the others
@@ -69,11 +78,25 @@ runs_on settings file before lines (one ∷ races) text runs (first, more, front
       runs_on settings file (before + 1) (lines + line_count first) races more later rest race last is number line rows next behind are,
     )
 
+-- the account of a run
+pub charged_run : {A : Type 0} (row : ℕ) (place : Place) (said : List Said) (race : Race) (report : Report) (untried : List Ip) (account : Account A) → untried ≡ untried_given said
+    → IsAccount race report untried account → account.lost ≡ lost_of account
+    → IsCharged (record { row = row; place = place; said = said; race = race; report = report; charges = account.tried.items; times = times_of (end_of report) account })
+charged_run {A} row place said race report untried account same is lost =
+    let own : IsAccount race report (untried_given said) account = subst (λ (ips : List Ip). IsAccount race report ips account) same is in
+    record {
+      as_many = own.as_many;
+      each = λ at lt. own.each (owners.Tried at) lt;
+      times = account_times race report (untried_given said) account own lost;
+      lost = lost ∙ ap (λ n. sum account.tried.items + n) (own.each owners.Nobody tt);
+    }
+
 -- one run more
 pub summed_on : (old new : Sums) (run : Run) (kept : Kept) (before : List Run) → new.kept ≡ old.kept ++ kept ∷ [] → kept ≡ kept_of run
     → ((tries : List Try) → AreTallies tries old.tallies → AreTallies (tries ++ tries_of run) new.tallies)
-    → ((tries : List Try) → AreTallies tries old.servers → AreTallies (tries ++ servers_of run) new.servers) → HasSummed old before → HasSummed new (before ++ run ∷ [])
-summed_on old new run kept before pushed is tallied served had =
+    → ((tries : List Try) → AreTallies tries old.servers → AreTallies (tries ++ servers_of run) new.servers)
+    → ((texts : List (List ℕ)) → AreNamed texts old.hosts → AreNamed (texts ++ host_of run ∷ []) new.hosts) → HasSummed old before → HasSummed new (before ++ run ∷ [])
+summed_on old new run kept before pushed is tallied served hosted had =
     let servers : all_servers (before ++ run ∷ []) ≡ all_servers before ++ servers_of run =
     flat_map-append servers_of before (run ∷ []) ∙ ap (λ (t : List Try). all_servers before ++ t) (append-nil (servers_of run)) in
     let tries : all_tries (before ++ run ∷ []) ≡ all_tries before ++ tries_of run =
@@ -82,6 +105,7 @@ summed_on old new run kept before pushed is tallied served had =
       kept = pushed ∙ (λ i. had.kept i ++ is i ∷ []) ∙ sym (map-append kept_of before (run ∷ []));
       tallies = subst (λ (t : List Try). AreTallies t new.tallies) (sym tries) (tallied (all_tries before) had.tallies);
       servers = subst (λ (t : List Try). AreTallies t new.servers) (sym servers) (served (all_servers before) had.servers);
+      hosts = subst (λ (t : List (List ℕ)). AreNamed t new.hosts) (sym (map-append host_of before (run ∷ []))) (hosted (map host_of before) had.hosts);
     }
 
 pub nothing_added : (sums : Sums) → AddsRuns [] sums sums

@@ -1,5 +1,10 @@
 pub mod Figures
+pub mod Hosts
+pub mod Json
 pub mod Kept
+pub mod Laws
+pub mod Members
+pub mod Metrics
 pub mod Steps
 pub mod Summed
 pub mod Times

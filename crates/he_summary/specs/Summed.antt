@@ -12,7 +12,8 @@ use Rattle.he_inputs.specs.declared.input_fault.InputFault.TheVariants as inputs
 use Rattle.he_inputs.specs.declared.stream_fault.StreamFault.{StreamFault}
 use Rattle.he_inputs.specs.declared.stream_fault.StreamFault.TheVariants.{Text, Read, Write, Memory}
 use Rattle.he_inputs.specs.Recorded.{IsRecordedText}
-use Rattle.he_summary.specs.Kept.{Run, kept_of}
+use Rattle.he_summary.specs.Hosts.{AreNamed, Named, host_said}
+use Rattle.he_summary.specs.Kept.{IsCharged, Run, kept_of}
 use Rattle.he_summary.specs.Tries.{AreTallies, Try, servers_of, tries_of}
 use Rattle.he_summary.specs.declared.kept.Kept.{Kept}
 use Rattle.he_summary.specs.declared.kept.Place.{Place}
@@ -24,6 +25,7 @@ pub record Sums : Type 0 where
   pub kept : List Kept
   pub tallies : List (Ip × Tally)
   pub servers : List (Ip × Tally)
+  pub hosts : Named
 
 -- all attempts of races
 abbrev pub all_tries : List Run → List Try
@@ -33,13 +35,18 @@ all_tries runs = flat_map tries_of runs
 abbrev pub all_servers : List Run → List Try
 all_servers runs = flat_map servers_of runs
 
+-- the requested host and port of a race, by its record
+abbrev pub host_of : Run → List ℕ
+host_of run = host_said run.said
+
 -- these races are summed
 pub record HasSummed (sums : Sums) (runs : List Run) : Type 0 where
   pub kept : sums.kept ≡ map kept_of runs
   pub tallies : AreTallies (all_tries runs) sums.tallies
   pub servers : AreTallies (all_servers runs) sums.servers
+  pub hosts : AreNamed (map host_of runs) sums.hosts
 
--- a race with a row's changes of its settings, its record, and its transcript
+-- a race with a row's changes of its settings, its record, its transcript and its account
 pub record IsRow (said : List Said) (race : Race) (place : Place) (row : ℕ) (changes : ChangeValues)
     (run : Run) : Type 0 where
   pub row_is : run.row ≡ row
@@ -47,6 +54,7 @@ pub record IsRow (said : List Said) (race : Race) (place : Place) (row : ℕ) (c
   pub said_is : run.said ≡ said
   pub race_is : run.race ≡ changed changes race
   pub transcript : IsTranscript run.race run.report
+  pub account : IsCharged run
 
 -- one for each of these rows, from this one on
 abbrev pub AreRows : List Said → Race → Place → ℕ → List ChangeValues → List Run → Type 0

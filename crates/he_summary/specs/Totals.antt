@@ -1,23 +1,23 @@
--- The counts of races.
-use Rattle.std.specs.Prelude.{ℕ, ◌≡◌, ◌&&◌, ◌==◌, if◌then◌else◌, Bool, true, false, List, length, count_by, nat_lt, Option, Some, None}
+-- The counts and the sums of races.
+use Rattle.std.specs.Prelude.{ℕ, ◌≡◌, ◌==◌, Bool, true, false, List, length, count_by, map, nat_lt, Option, Some, None}
 use Rattle.std.specs.List.{filter_map}
 use Rattle.he_addr.specs.Ip.{family_of}
 use Rattle.he_addr.specs.declared.ip.Family.{Family}
 use Rattle.he_addr.specs.declared.ip.Family.TheVariants as families
+use Rattle.he_course.specs.declared.accounts.Times.{Times}
 use Rattle.he_record.specs.declared.reasons.ClientEnd.{ClientEnd}
 use Rattle.he_record.specs.declared.reasons.ClientEnd.TheVariants as ends
 use Rattle.he_record.specs.declared.reasons.LookupReason.{LookupReason}
 use Rattle.he_record.specs.declared.reasons.LookupReason.TheVariants as reasons
-use Rattle.he_summary.specs.Kept.{is_loss}
-use Rattle.he_summary.specs.Times.{IsSpread}
+use Rattle.he_summary.specs.Times.{IsSpread, total}
 use Rattle.he_summary.specs.declared.kept.Ending.{Ending}
 use Rattle.he_summary.specs.declared.kept.Ending.TheVariants as endings
 use Rattle.he_summary.specs.declared.kept.Kept.{Kept}
-use Rattle.he_summary.specs.declared.kept.Loss.{Loss}
-use Rattle.he_summary.specs.declared.kept.Loss.TheVariants as losses
 use Rattle.he_summary.specs.declared.totals.Counts.{Counts}
 use Rattle.he_summary.specs.declared.totals.Kind.{Kind}
 use Rattle.he_summary.specs.declared.totals.Kind.TheVariants as kinds
+use Rattle.he_summary.specs.declared.totals.Share.{Share}
+use Rattle.he_summary.specs.declared.totals.Share.TheVariants as shares
 use Rattle.he_summary.specs.declared.totals.Totals.{Totals}
 use Rattle.he_summary.specs.declared.totals.Value.{Value}
 use Rattle.he_summary.specs.declared.totals.Value.TheVariants as values
@@ -27,13 +27,15 @@ same_family families.V4 families.V4 = true
 same_family families.V6 families.V6 = true
 same_family _ _ = false
 
-abbrev pub is_so : Kind → Ending → Bool → Bool
-is_so kinds.Won (endings.Won ip time) waited = true
-is_so (kinds.WonBy family) (endings.Won (Some ip) time) waited = same_family (family_of ip) family
-is_so kinds.Exhausted (endings.Exhausted time) waited = true
-is_so kinds.Limit (endings.Limit time) waited = true
-is_so kinds.Waited ending waited = waited
-is_so _ _ _ = false
+-- a race that ended so, after this number of attempts, waited for the AAAA answer or not
+abbrev pub is_so : Kind → Ending → ℕ → Bool → Bool
+is_so kinds.Won (endings.Won ip time) attempts waited = true
+is_so (kinds.WonBy family) (endings.Won (Some ip) time) attempts waited = same_family (family_of ip) family
+is_so kinds.TimedOut (endings.Limit time) attempts waited = true
+is_so kinds.AllFailed (endings.Exhausted time) attempts waited = nat_lt 0 attempts
+is_so kinds.NoAddress (endings.Exhausted time) attempts waited = attempts == 0
+is_so kinds.Waited ending attempts waited = waited
+is_so _ _ _ _ = false
 
 -- the recorded client connected, gave up or failed
 abbrev pub client_is : Kind → Option ClientEnd → Bool
@@ -51,6 +53,7 @@ reason_place reasons.Refused = 3
 reason_place reasons.Failed = 4
 reason_place reasons.Malformed = 5
 reason_place reasons.NotAsked = 6
+reason_place reasons.Nat64 = 7
 
 abbrev pub has_reason : LookupReason → Option LookupReason → Bool
 has_reason reason None = false
@@ -65,12 +68,26 @@ is_kind (kinds.Lookup family reason) race = has_reason reason (lookup_of family 
 is_kind kinds.Connected race = client_is kinds.Connected race.client
 is_kind kinds.GaveUp race = client_is kinds.GaveUp race.client
 is_kind kinds.Failed race = client_is kinds.Failed race.client
-is_kind kind race = is_so kind race.ending race.has_waited
+is_kind kind race = is_so kind race.ending race.attempts race.has_waited
 
--- the time lost, if more than 0, in a race that lost to an attempt of this kind
-abbrev pub lost_to : Loss → Option ℕ → Option Loss → Option ℕ
-lost_to loss (Some time) dead = if nat_lt 0 time && is_loss loss dead then Some time else None
-lost_to loss None dead = None
+-- what went into this, of a race
+abbrev pub share_of : Share → Times → ℕ
+share_of shares.All times = times.all
+share_of shares.Names times = times.names
+share_of shares.Lost times = times.lost
+share_of shares.Unknown times = times.unknown
+share_of shares.Machine times = times.machine
+share_of shares.Connecting times = times.connecting
+
+-- the time, if the race was won; or if it was not
+abbrev pub if_won : Ending → ℕ → Option ℕ
+if_won (endings.Won ip time) share = Some share
+if_won _ share = None
+
+abbrev pub if_not_won : Ending → Option ℕ
+if_not_won (endings.Won ip time) = None
+if_not_won (endings.Exhausted time) = Some time
+if_not_won (endings.Limit time) = Some time
 
 abbrev pub time_of : Ending → Option ℕ
 time_of (endings.Won ip time) = Some time
@@ -87,7 +104,8 @@ time_beside _ time = None
 
 abbrev pub value_of : Value → Kept → Option ℕ
 value_of values.Time race = time_of race.ending
-value_of (values.LostTo loss) race = lost_to loss race.lost race.dead
+value_of (values.OfIt share) race = if_won race.ending (share_of share race.times)
+value_of values.GivenUp race = if_not_won race.ending
 value_of values.Attempts race = Some race.attempts
 value_of values.Client race = connected_at race.client
 value_of values.ByRules race = time_beside race.client (time_of race.ending)
@@ -99,16 +117,34 @@ counts_of kept =
       won = count_by (is_kind kinds.Won) kept;
       by_v6 = count_by (is_kind (kinds.WonBy families.V6)) kept;
       by_v4 = count_by (is_kind (kinds.WonBy families.V4)) kept;
-      exhausted = count_by (is_kind kinds.Exhausted) kept;
-      limit = count_by (is_kind kinds.Limit) kept;
+      timed_out = count_by (is_kind kinds.TimedOut) kept;
+      all_failed = count_by (is_kind kinds.AllFailed) kept;
+      no_address = count_by (is_kind kinds.NoAddress) kept;
       waited = count_by (is_kind kinds.Waited) kept;
+    }
+
+-- what went into this, of all races
+abbrev pub sum_of : Share → List Kept → ℕ
+sum_of share kept = total (map (λ race. share_of share race.times) kept)
+
+abbrev pub sums_of : List Kept → Times
+sums_of kept =
+    record {
+      all = sum_of shares.All kept;
+      names = sum_of shares.Names kept;
+      lost = sum_of shares.Lost kept;
+      unknown = sum_of shares.Unknown kept;
+      machine = sum_of shares.Machine kept;
+      connecting = sum_of shares.Connecting kept;
     }
 
 pub record AreTotals (kept : List Kept) (totals : Totals) : Type 0 where
   pub counts : totals.counts ≡ counts_of kept
+  pub sums : totals.sums ≡ sums_of kept
   pub times : IsSpread (filter_map (value_of values.Time) kept) totals.times
-  pub lost_to_failed : IsSpread (filter_map (value_of (values.LostTo losses.Failed)) kept) totals.lost_to_failed
-  pub lost_to_silent : IsSpread (filter_map (value_of (values.LostTo losses.Silent)) kept) totals.lost_to_silent
+  pub names : IsSpread (filter_map (value_of (values.OfIt shares.Names)) kept) totals.names
+  pub lost : IsSpread (filter_map (value_of (values.OfIt shares.Lost)) kept) totals.lost
+  pub given_up : IsSpread (filter_map (value_of values.GivenUp) kept) totals.given_up
   pub attempts : IsSpread (filter_map (value_of values.Attempts) kept) totals.attempts
   pub clients : IsSpread (filter_map (value_of values.Client) kept) totals.clients
   pub by_rules : IsSpread (filter_map (value_of values.ByRules) kept) totals.by_rules

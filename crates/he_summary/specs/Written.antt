@@ -1,5 +1,5 @@
 -- The text on the races that are summed.
-use Rattle.std.specs.Prelude.{ℕ, zero, suc, ◌≡◌, ◌++◌, List, [], ◌∷◌, codes, filter, map, slice_get, take, IsPermutation, Option, Some}
+use Rattle.std.specs.Prelude.{ℕ, zero, suc, ◌≡◌, ◌++◌, List, [], ◌∷◌, codes, filter, map, slice_get, take, IsPermutation, Some}
 use Rattle.std.specs.List.Sorted.{IsSortedByKey}
 use Rattle.std.specs.Option.{unwrap_or}
 use Rattle.std.specs.Ordering.{nat_cmp, ordering_then}
@@ -8,14 +8,17 @@ use Rattle.he_addr.specs.declared.ip.Ip.{Ip}
 use Rattle.he_print.specs.Parts.{States}
 use Rattle.he_print.specs.declared.part.Fact.{Fact}
 use Rattle.he_print.specs.declared.part.Fact.TheVariants as facts
-use Rattle.he_summary.specs.Figures.{record_facts, summary_facts}
+use Rattle.he_course.specs.declared.accounts.Times.{Times}
+use Rattle.he_summary.specs.Figures.{text_facts}
+use Rattle.he_summary.specs.Json.{summary_json}
+use Rattle.he_summary.specs.Metrics.{metrics_text}
 use Rattle.he_summary.specs.Kept.{Run, kept_of}
 use Rattle.he_summary.specs.Summed.{all_servers, all_tries}
 use Rattle.he_summary.specs.Totals.{AreTotals, is_kind, time_of}
 use Rattle.he_summary.specs.Tries.{AreFailing}
 use Rattle.he_summary.specs.declared.figures.Form.{Form}
 use Rattle.he_summary.specs.declared.figures.Form.TheVariants as forms
-use Rattle.he_summary.specs.declared.figures.Said.{Said}
+use Rattle.he_summary.specs.declared.text.Said.{Said}
 use Rattle.he_summary.specs.declared.kept.Ending.{Ending}
 use Rattle.he_summary.specs.declared.kept.Ending.TheVariants as endings
 use Rattle.he_summary.specs.declared.kept.Kept.{Kept}
@@ -51,14 +54,14 @@ abbrev pub place_facts : {S : Type 0} → Form → Place → List (Fact S)
 place_facts forms.Text place = facts.Number place.line ∷ facts.Number place.number ∷ []
 place_facts _ place = facts.Number place.number ∷ facts.Number place.line ∷ []
 
--- the time to connect, the address, and the time that the race lost
-abbrev pub won_facts : Option ℕ → Ending → List (Fact Said)
-won_facts lost (endings.Won (Some ip) time) =
-    facts.Number time ∷ facts.Ip ip ∷ facts.Number (unwrap_or lost 0) ∷ []
-won_facts lost _ = []
+-- the time to connect, the address, and what of the time went into the names and was lost
+abbrev pub won_facts : Times → Ending → List (Fact Said)
+won_facts times (endings.Won (Some ip) time) =
+    facts.Number time ∷ facts.Ip ip ∷ facts.Number times.names ∷ facts.Number times.lost ∷ []
+won_facts times _ = []
 
 abbrev pub slow_facts : Form → Kept → List (Fact Said)
-slow_facts form race = place_facts form race.place ++ won_facts race.lost race.ending
+slow_facts form race = place_facts form race.place ++ won_facts race.times race.ending
 
 -- words have been appended
 abbrev pub HasWords : List ℕ → List ℕ → Type 0
@@ -76,10 +79,17 @@ TellsSlowest form zero kept old new = HasWords old new
 TellsSlowest form (suc most) kept old new =
     (slow : List Kept) × AreSlowest (suc most) kept slow × TellsEach (map (slow_facts form) slow) old new
 
+-- the report on these races with these tables of addresses and name servers, up to the slowest ones
+abbrev pub IsReport : Form → Totals → List Kept → List (Ip × Tally) × List (Ip × Tally) → List ℕ → List ℕ → Type 0
+IsReport forms.Text totals kept tables old new = Tells (text_facts totals kept tables.0 tables.1) old new
+IsReport forms.Json totals kept tables old new = new ≡ old ++ summary_json totals kept tables.0 tables.1
+IsReport forms.Metrics totals kept tables old new = new ≡ old ++ metrics_text totals
+
 -- the text on these races, with the `most` slowest ones
 abbrev pub IsWritten : Form → List Run → ℕ → List ℕ → List ℕ → Type 0
 IsWritten form runs most old new =
     (totals : Totals) × (failing servers : List (Ip × Tally)) × (between : List ℕ)
     × AreTotals (map kept_of runs) totals × AreFailing (all_tries runs) failing
     × AreFailing (all_servers runs) servers
-    × Tells (summary_facts form totals failing ++ record_facts form totals (map kept_of runs) servers) old between × TellsSlowest form most (map kept_of runs) between new
+    × IsReport form totals (map kept_of runs) (failing, servers) old between
+    × TellsSlowest form most (map kept_of runs) between new

@@ -1,10 +1,11 @@
 //! The record of a race.
 ghost use Rattle.std.specs.Prelude.{◌≡◌};
-ghost use Rattle.std.specs.List.{list_any};
-ghost use Rattle.he_summary.specs.Kept.{dead_before, ending_of, has_waited, is_loss, kept_of, lines_before, loss_of, time_before};
+ghost use Rattle.he_course.specs.Accounts.{end_of};
+ghost use Rattle.he_course.specs.Amounts.{times_of};
+ghost use Rattle.he_summary.specs.Kept.{ending_of, has_untried, has_waited, kept_of, loss_of};
 
 use he_addr::{Family, Ip};
-use he_course::{Ended, is_delay_over};
+use he_course::{Account, Ended, Times, end_tick, is_delay_over};
 use he_plan::{Line, Mark, Outcome3, Transcript};
 use he_record::{ClientEnd, LookupReason, Record};
 use he_timeline::Timeline;
@@ -30,13 +31,12 @@ pub enum Ending {
     Limit(u64),
 }
 
-/// How an attempt was lost.
+/// How an attempt ended that did not connect.
 #[derive(Clone, Copy, Debug, PartialEq, Eq)]
 pub enum Loss {
     Failed,
-    /// At the end of the race it had been under way for the Connection Attempt Delay or longer, and its address has
-    /// no outcome, although a client tried it.
-    Silent,
+    /// At the end of the race it had been under way for the Connection Attempt Delay or longer.
+    NoAnswer,
 }
 
 /// The record of a race that ran with the settings of one row.
@@ -47,13 +47,12 @@ pub struct Kept {
     pub place: Place,
     pub ending: Ending,
     pub attempts: usize,
-    /// The milliseconds that a won race lost: from when the winner's answer was seen to the start of the winner's
-    /// attempt.
-    pub lost: Option<u64>,
-    /// `Silent` if one of the attempts before the winner's was silent; else `Failed` if one failed.
-    pub dead: Option<Loss>,
+    /// Its milliseconds, by what they went into.
+    pub times: Times,
     /// Whether the Resolution Delay ended before the first attempt, without an AAAA answer.
     pub has_waited: bool,
+    /// Whether an attempt was at an address that no client tried, so that its outcome is not known.
+    pub has_untried: bool,
     /// The recorded client's own result.
     pub client: Option<ClientEnd>,
     /// The reasons that the AAAA and the A look-up have no address.
@@ -62,35 +61,34 @@ pub struct Kept {
 }
 
 impl Kept {
-    // The record of the race at this place, with these record lines and this transcript.
-    pub(crate) fn of<A: Allocator, B: Allocator, C: Allocator>(
-        row: usize,
-        place: Place,
+    // The record of the race of this row and place, with these record lines, this transcript and this account.
+    pub(crate) fn of<A: Allocator, B: Allocator, C: Allocator, D: Allocator>(
+        at: (usize, Place),
         told: &Record<'_, C>,
         race: &Timeline<A>,
         transcript: &Transcript<B>,
+        account: &Account<D>,
     ) -> Kept
         ensures { result ≡ kept_of (record {
-          row = row;
-          place = place;
+          row = at.0;
+          place = at.1;
           said = told.now;
           race = race.now;
           report = transcript.now;
+          charges = account.now.tried.items;
+          times = times_of (end_of transcript.now) account.now;
         }) }
     {
+        let (row, place) = at;
         let ended = Ended::of(transcript);
         Kept {
             row,
             place,
             ending: Ending::of(ended),
             attempts: ended.attempts,
-            lost: time_before(race, ended.winner),
-            dead: dead_before(
-                told,
-                race,
-                lines_before(transcript.attempts(), ended.winner),
-            ),
+            times: account.times(end_tick(transcript.result())),
             has_waited: has_waited(race, transcript),
+            has_untried: has_untried(told, transcript.attempts()),
             client: told.end(),
             aaaa: told.lookup(Family::V6),
             a: told.lookup(Family::V4),
@@ -110,48 +108,8 @@ impl Ending {
     }
 }
 
-// `Silent` if one of the attempts was silent; else `Failed` if one failed.
-fn dead_before<A: Allocator, C: Allocator>(
-    told: &Record<'_, C>,
-    race: &Timeline<A>,
-    lines: &[Line],
-) -> Option<Loss>
-    ensures { result ≡ dead_before told.now race.now lines.now }
-{
-    if has_loss(told, race, lines, Loss::Silent) {
-        Some(Loss::Silent)
-    } else if has_loss(told, race, lines, Loss::Failed) {
-        Some(Loss::Failed)
-    } else {
-        None
-    }
-}
-
-fn has_loss<A: Allocator, C: Allocator>(
-    told: &Record<'_, C>,
-    race: &Timeline<A>,
-    lines: &[Line],
-    loss: Loss,
-) -> bool
-    ensures { result ≡ list_any (λ line. is_loss loss (loss_of told.now race.now line)) lines.now }
-{
-    lines
-        .iter()
-        .any(|line| is_loss(loss, loss_of(told, race, line)))
-}
-
-fn is_loss(loss: Loss, lost: Option<Loss>) -> bool
-    ensures { result ≡ is_loss loss lost }
-{
-    match (loss, lost) {
-        (Loss::Failed, Some(Loss::Failed)) => true,
-        (Loss::Silent, Some(Loss::Silent)) => true,
-        _ => false,
-    }
-}
-
-// Whether an attempt failed or was silent: at the end of the race it had been under way for the Connection Attempt
-// Delay or longer, and its address has no outcome. An attempt to an untried address did neither.
+// Whether an attempt failed or gave no answer: at the end of the race it had been under way for the Connection Attempt
+// Delay or longer. An attempt to an untried address did neither.
 pub(crate) fn loss_of<A: Allocator, C: Allocator>(
     told: &Record<'_, C>,
     race: &Timeline<A>,
@@ -166,32 +124,12 @@ pub(crate) fn loss_of<A: Allocator, C: Allocator>(
         Mark::Won(_) => None,
         Mark::Failed(_) => Some(Loss::Failed),
         Mark::Cancelled(end) => {
-            let is_long = line.tick as u128 + race.settings().attempt() as u128 <= end as u128;
-            if race.outcome(line.ip).is_none() && is_long {
-                Some(Loss::Silent)
+            if line.tick as u128 + race.settings().attempt() as u128 <= end as u128 {
+                Some(Loss::NoAnswer)
             } else {
                 None
             }
         }
-    }
-}
-
-// The milliseconds from when the winner's answer was seen to the start of the winner's attempt.
-fn time_before<A: Allocator>(race: &Timeline<A>, winner: Option<Line>) -> Option<u64>
-    ensures { result ≡ time_before race.now winner }
-{
-    let line = winner?;
-    let (tick, _) = race.answer(line.ip.family())?;
-    Some(line.tick.saturating_sub(race.seen(tick)))
-}
-
-// The attempts before the winner's.
-fn lines_before(lines: &[Line], winner: Option<Line>) -> &[Line]
-    ensures { result.now ≡ lines_before lines.now winner }
-{
-    match winner {
-        Some(line) => &lines[..line.place.min(lines.len())],
-        None => &[],
     }
 }
 
@@ -200,4 +138,11 @@ fn has_waited<A: Allocator, B: Allocator>(race: &Timeline<A>, transcript: &Trans
     ensures { result ≡ has_waited race.now transcript.now }
 {
     is_delay_over(race, transcript) && !transcript.attempts().is_empty()
+}
+
+// Whether one of the attempts was at an address that no client tried.
+fn has_untried<C: Allocator>(told: &Record<'_, C>, lines: &[Line]) -> bool
+    ensures { result ≡ has_untried told.now lines.now }
+{
+    lines.iter().any(|line| told.is_untried(line.ip))
 }

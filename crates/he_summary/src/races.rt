@@ -1,15 +1,20 @@
 //! The races of inputs, each with the settings of one or more rows.
-ghost use Rattle.std.specs.Prelude.{◌≡◌, ◌<◌, [], ◌∷◌, length, slice_get, Some, IfOk, OnOk};
+ghost use Rattle.std.specs.Prelude.{◌≡◌, ◌<◌, [], ◌∷◌, length, map, slice_get, string_bytes, Some, IfOk, OnOk};
+ghost use Rattle.he_course.specs.Accounts.{end_of};
+ghost use Rattle.he_course.specs.Amounts.{times_of};
 ghost use Rattle.he_stream.specs.Input.{Gives, GivesSoFar};
+ghost use Rattle.he_summary.specs.Hosts.{at_hosts};
 ghost use Rattle.he_summary.specs.Steps.{AddsRace, AddsRuns};
 ghost use Rattle.he_summary.specs.Summed.{Adds, HasSummed};
 ghost use Rattle.he_summary.specs.Tries.{AreRanked};
 
 use crate::adding::add_next;
+use crate::hosts::Hosts;
 use crate::kept::{Kept, Place};
 use crate::tallies::{Tallies, Tally};
 use bumpalo::Bump;
 use he_addr::{Ip, Memory};
+use he_course::Account;
 use he_inputs::{RaceStream, StreamFault};
 use he_plan::{Transcript, transcript_of};
 use he_record::Record;
@@ -33,6 +38,7 @@ pub struct Races<A: Allocator> {
     tallies: Tallies<A>,
     // The name servers that did not answer.
     servers: Tallies<A>,
+    hosts: Hosts<A>,
 }
 
 impl<A: Allocator> Model for Races<A> {
@@ -45,6 +51,7 @@ impl<A: Allocator> Model for Races<A> {
       kept = s.kept.items;
       tallies = s.tallies;
       servers = s.servers;
+      hosts = s.hosts;
     } };
 }
 
@@ -60,6 +67,7 @@ impl<A: Allocator + Copy> Races<A> {
             kept: Vec::new(alloc),
             tallies: Tallies::none(alloc),
             servers: Tallies::none(alloc),
+            hosts: Hosts::none(alloc),
         }
     }
 
@@ -109,10 +117,12 @@ impl<A: Allocator + Copy> Races<A> {
     ) -> Result<(), Memory>
         ensures { OnOk result (AddsRace told.now race.now place self.old self.new) }
     {
+        let untried = told.untried(arena)?;
         for row in 0..self.settings.len() {
             let changed = race.copy(arena)?.with_changes(self.settings_of(row));
             let transcript = transcript_of(arena, &changed)?;
-            self.add_run(row, place, told, &changed, &transcript)?;
+            let account = Account::of(arena, &changed, &transcript, untried.as_slice())?;
+            self.add_run((row, place), told, &changed, &transcript, &account)?;
         }
         Ok(())
     }
@@ -124,27 +134,31 @@ impl<A: Allocator + Copy> Races<A> {
         self.settings[row]
     }
 
-    // Adds a race that runs with the settings of a row, by its transcript.
-    fn add_run<B: Allocator, C: Allocator, D: Allocator>(
+    // Adds a race that runs with the settings of a row, by its transcript and its account.
+    fn add_run<B: Allocator, C: Allocator, D: Allocator, E: Allocator>(
         &mut self,
-        row: usize,
-        place: Place,
+        at: (usize, Place),
         told: &Record<'_, D>,
         race: &Timeline<B>,
         transcript: &Transcript<C>,
+        account: &Account<E>,
     ) -> Result<(), Memory>
+        requires { length account.now.tried.items ≡ length transcript.now.lines }
         ensures { OnOk result (AddsRuns (record {
-          row = row;
-          place = place;
+          row = at.0;
+          place = at.1;
           said = told.now;
           race = race.now;
           report = transcript.now;
+          charges = account.now.tried.items;
+          times = times_of (end_of transcript.now) account.now;
         } ∷ []) self.old self.new) }
     {
         self.kept
-            .push(Kept::of(row, place, told, race, transcript))?;
+            .push(Kept::of(at, told, race, transcript, account))?;
+        self.hosts.add_host(told)?;
         self.servers.add_servers(told)?;
-        self.tallies.add(told, race, transcript)
+        self.tallies.add(told, race, transcript.attempts(), account.tried.as_slice())
     }
 
     /// The records, in the order in which the races were added, and for one race in the order of the rows.
@@ -152,6 +166,29 @@ impl<A: Allocator + Copy> Races<A> {
         ensures { result.now ≡ self.now.kept }
     {
         self.kept.as_slice()
+    }
+
+    /// The hosts and ports that races were for, as `www.example.com 443`, each once, in the order in which they first
+    /// came; `no host` for races whose records have none.
+    ///
+    /// # Errors
+    ///
+    /// `Memory` if an allocation was refused.
+    pub fn hosts(&self) -> Result<Vec<String<A>, A>, Memory>
+        ensures { IfOk result (λ names. map string_bytes names.items ≡ self.now.hosts.names) }
+    {
+        self.hosts.names(self.alloc)
+    }
+
+    /// The records, each with the place of its host among [`hosts`](Races::hosts) in place of that of its file.
+    ///
+    /// # Errors
+    ///
+    /// `Memory` if an allocation was refused.
+    pub fn kept_by_host(&self) -> Result<Vec<Kept, A>, Memory>
+        ensures { IfOk result (λ kept. kept.items ≡ at_hosts self.now.hosts.places self.now.kept) }
+    {
+        self.hosts.places_of(self.alloc, self.kept.as_slice())
     }
 
     /// The ten name servers that most often did not answer.
@@ -165,7 +202,7 @@ impl<A: Allocator + Copy> Races<A> {
         self.servers.ranked(self.alloc)
     }
 
-    /// The ten addresses with the most failed or silent attempts.
+    /// The ten addresses with the most lost time.
     ///
     /// # Errors
     ///

@@ -1,12 +1,13 @@
-//! The counts of races.
+//! The counts and the sums of races.
 ghost use Rattle.std.specs.Prelude.{◌≡◌, count_by, IfOk};
 ghost use Rattle.std.specs.List.{filter_map};
 ghost use Rattle.he_summary.specs.Times.{IsSpread};
-ghost use Rattle.he_summary.specs.Totals.{AreTotals, client_is, connected_at, counts_of, has_reason, is_kind, lookup_of, reason_place, time_beside, time_of, value_of};
+ghost use Rattle.he_summary.specs.Totals.{AreTotals, client_is, connected_at, counts_of, has_reason, if_not_won, if_won, is_kind, lookup_of, reason_place, share_of, sum_of, sums_of, time_beside, time_of, value_of};
 
-use crate::kept::{Ending, Kept, Loss};
+use crate::kept::{Ending, Kept};
 use crate::times::{Spread, spread_of};
 use he_addr::{Family, Memory};
+use he_course::Times;
 use he_record::{ClientEnd, LookupReason};
 use std::alloc::Allocator;
 
@@ -17,8 +18,11 @@ pub struct Counts {
     pub won: u64,
     pub by_v6: u64,
     pub by_v4: u64,
-    pub exhausted: u64,
-    pub limit: u64,
+    /// The races that were not won: those at their limit, those whose attempts all failed, and those without an
+    /// address to try.
+    pub timed_out: u64,
+    pub all_failed: u64,
+    pub no_address: u64,
     /// The races in which the Resolution Delay ended without an AAAA answer.
     pub waited: u64,
 }
@@ -27,11 +31,15 @@ pub struct Counts {
 #[derive(Clone, Copy, Debug, PartialEq, Eq)]
 pub struct Totals {
     pub counts: Counts,
-    /// The times to connect of the races that were won, in milliseconds.
+    /// The milliseconds of all races, by what they went into, each at most 2^64 - 1.
+    pub sums: Times,
+    /// The times to connect of the races that were won, in milliseconds; and what of each went into the names, and was
+    /// lost.
     pub times: Option<Spread>,
-    /// The milliseconds that races lost to addresses that failed, and to silent ones.
-    pub lost_to_failed: Option<Spread>,
-    pub lost_to_silent: Option<Spread>,
+    pub names: Option<Spread>,
+    pub lost: Option<Spread>,
+    /// The milliseconds after which the other races were given up.
+    pub given_up: Option<Spread>,
     /// The number of attempts of each race.
     pub attempts: Option<Spread>,
     /// The times after which recorded clients connected, by their own rules, in milliseconds.
@@ -45,8 +53,9 @@ pub struct Totals {
 pub enum Kind {
     Won,
     WonBy(Family),
-    Exhausted,
-    Limit,
+    TimedOut,
+    AllFailed,
+    NoAddress,
     Waited,
     /// The recorded client connected, gave up or failed.
     Connected,
@@ -56,13 +65,26 @@ pub enum Kind {
     Lookup(Family, LookupReason),
 }
 
+/// What the milliseconds of a race went into (he_course).
+#[derive(Clone, Copy, Debug, PartialEq, Eq)]
+pub enum Share {
+    All,
+    Names,
+    Lost,
+    Unknown,
+    Machine,
+    Connecting,
+}
+
 /// A number that some races have.
 #[derive(Clone, Copy, Debug, PartialEq, Eq)]
 pub enum Value {
     /// The time to connect, in milliseconds.
     Time,
-    /// The milliseconds that the race lost to an address of this kind.
-    LostTo(Loss),
+    /// What of it went into this, in milliseconds.
+    OfIt(Share),
+    /// The time after which a race was given up, in milliseconds.
+    GivenUp,
     Attempts,
     /// The time after which the recorded client connected, in milliseconds.
     Client,
@@ -81,9 +103,11 @@ impl Totals {
     {
         Ok(Totals {
             counts: counts_of(kept),
+            sums: sums_of(kept),
             times: spread(alloc, kept, Value::Time)?,
-            lost_to_failed: spread(alloc, kept, Value::LostTo(Loss::Failed))?,
-            lost_to_silent: spread(alloc, kept, Value::LostTo(Loss::Silent))?,
+            names: spread(alloc, kept, Value::OfIt(Share::Names))?,
+            lost: spread(alloc, kept, Value::OfIt(Share::Lost))?,
+            given_up: spread(alloc, kept, Value::GivenUp)?,
             attempts: spread(alloc, kept, Value::Attempts)?,
             clients: spread(alloc, kept, Value::Client)?,
             by_rules: spread(alloc, kept, Value::ByRules)?,
@@ -99,9 +123,46 @@ fn counts_of(kept: &[Kept]) -> Counts
         won: count(kept, Kind::Won),
         by_v6: count(kept, Kind::WonBy(Family::V6)),
         by_v4: count(kept, Kind::WonBy(Family::V4)),
-        exhausted: count(kept, Kind::Exhausted),
-        limit: count(kept, Kind::Limit),
+        timed_out: count(kept, Kind::TimedOut),
+        all_failed: count(kept, Kind::AllFailed),
+        no_address: count(kept, Kind::NoAddress),
         waited: count(kept, Kind::Waited),
+    }
+}
+
+fn sums_of(kept: &[Kept]) -> Times
+    ensures { result ≡ sums_of kept.now }
+{
+    Times {
+        all: sum_of(Share::All, kept),
+        names: sum_of(Share::Names, kept),
+        lost: sum_of(Share::Lost, kept),
+        unknown: sum_of(Share::Unknown, kept),
+        machine: sum_of(Share::Machine, kept),
+        connecting: sum_of(Share::Connecting, kept),
+    }
+}
+
+fn sum_of(share: Share, kept: &[Kept]) -> u64
+    ensures { result ≡ sum_of share kept.now }
+{
+    let mut sum = 0u64;
+    for race in kept {
+        sum = sum.saturating_add(share_of(share, race.times));
+    }
+    sum
+}
+
+fn share_of(share: Share, times: Times) -> u64
+    ensures { result ≡ share_of share times }
+{
+    match share {
+        Share::All => times.all,
+        Share::Names => times.names,
+        Share::Lost => times.lost,
+        Share::Unknown => times.unknown,
+        Share::Machine => times.machine,
+        Share::Connecting => times.connecting,
     }
 }
 
@@ -118,8 +179,9 @@ pub fn is_kind(kind: Kind, race: &Kept) -> bool
     match (kind, race.ending) {
         (Kind::Won, Ending::Won(_, _)) => true,
         (Kind::WonBy(family), Ending::Won(Some(ip), _)) => ip.family() == family,
-        (Kind::Exhausted, Ending::Exhausted(_)) => true,
-        (Kind::Limit, Ending::Limit(_)) => true,
+        (Kind::TimedOut, Ending::Limit(_)) => true,
+        (Kind::AllFailed, Ending::Exhausted(_)) => race.attempts > 0,
+        (Kind::NoAddress, Ending::Exhausted(_)) => race.attempts == 0,
         (Kind::Waited, _) => race.has_waited,
         (Kind::Connected, _) => client_is(kind, race.client),
         (Kind::GaveUp, _) => client_is(kind, race.client),
@@ -170,6 +232,7 @@ fn reason_place(reason: LookupReason) -> u8
         LookupReason::Failed => 4,
         LookupReason::Malformed => 5,
         LookupReason::NotAsked => 6,
+        LookupReason::Nat64 => 7,
     }
 }
 
@@ -196,13 +259,31 @@ fn values_of<A: Allocator>(alloc: A, kept: &[Kept], value: Value) -> Result<Vec<
 pub fn value_of(value: Value, race: &Kept) -> Option<u64>
     ensures { result ≡ value_of value race.now }
 {
-    match (value, race.ending, race.lost, race.dead) {
-        (Value::Time, Ending::Won(_, time), _, _) => Some(time),
-        (Value::LostTo(loss), _, Some(time), Some(dead)) if time > 0 && dead == loss => Some(time),
-        (Value::Attempts, _, _, _) => Some(race.attempts as u64),
-        (Value::Client, _, _, _) => connected_at(race.client),
-        (Value::ByRules, ending, _, _) => time_beside(race.client, time_of(ending)),
+    match value {
+        Value::Time => time_of(race.ending),
+        Value::OfIt(share) => if_won(race.ending, share_of(share, race.times)),
+        Value::GivenUp => if_not_won(race.ending),
+        Value::Attempts => Some(race.attempts as u64),
+        Value::Client => connected_at(race.client),
+        Value::ByRules => time_beside(race.client, time_of(race.ending)),
+    }
+}
+
+fn if_won(ending: Ending, share: u64) -> Option<u64>
+    ensures { result ≡ if_won ending share }
+{
+    match ending {
+        Ending::Won(_, _) => Some(share),
         _ => None,
+    }
+}
+
+fn if_not_won(ending: Ending) -> Option<u64>
+    ensures { result ≡ if_not_won ending }
+{
+    match ending {
+        Ending::Won(_, _) => None,
+        Ending::Exhausted(time) | Ending::Limit(time) => Some(time),
     }
 }
 

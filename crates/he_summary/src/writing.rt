@@ -3,18 +3,20 @@ ghost use Rattle.std.specs.Prelude.{◌≡◌, ◌++◌, filter, IfOk, IsPermuta
 ghost use Rattle.std.specs.List.{flat_map};
 ghost use Rattle.std.specs.List.Sorted.{IsSortedByKey};
 ghost use Rattle.he_print.specs.Parts.{fact_of};
+ghost use Rattle.he_summary.specs.Figures.{text_facts};
 ghost use Rattle.he_summary.specs.Kept.{Run};
-ghost use Rattle.he_summary.specs.Figures.{summary_facts, tally_facts};
 ghost use Rattle.he_summary.specs.Summed.{HasSummed};
 ghost use Rattle.he_summary.specs.Totals.{is_kind};
-ghost use Rattle.he_summary.specs.Written.{AreSlowest, HasWords, IsWritten, Tells, TellsEach, TellsSlowest, name_at, place_facts, slow_facts, slow_key, slowest_first};
+ghost use Rattle.he_summary.specs.Written.{AreSlowest, HasWords, IsReport, IsWritten, Tells, TellsEach, TellsSlowest, name_at, place_facts, slow_facts, slow_key, slowest_first};
 ghost use Rattle.he_summary.specs.declared.totals.Kind.TheVariants.{Won};
 
-use crate::figures::{Form, Said, push_metrics, push_tally, push_totals};
+use crate::figures::Form;
+use crate::json::write_summary;
 use crate::kept::{Ending, Kept, Place};
+use crate::metrics::write_metrics;
 use crate::races::Races;
-use crate::recorded::push_record;
 use crate::tallies::Tally;
+use crate::text::{Said, push_text};
 use crate::totals::{Kind, Totals, Value, is_kind, value_of};
 use he_addr::{Ip, Memory};
 use he_print::{Part, push_parts, write_parts, write_string};
@@ -23,7 +25,7 @@ use std::cmp::Reverse;
 
 impl<A: Allocator + Copy> Races<A> {
     /// Appends a summary with the `slowest` slowest races, each with the name of its file: `names` has these by
-    /// place, as they may be shown; a file without a name is `-`.
+    /// place, in text as a terminal may show them; a file without a name is `-`.
     ///
     /// # Errors
     ///
@@ -40,11 +42,9 @@ impl<A: Allocator + Copy> Races<A> {
     {
         let totals = Totals::of(self.alloc, self.kept())?;
         let failing = self.failing()?;
-        let mut parts = Vec::new(self.alloc);
-        push_summary(form, totals, failing.as_slice(), &mut parts)?;
         let servers = self.failing_servers()?;
-        push_record(form, totals, self.kept(), servers.as_slice(), &mut parts)?;
-        write_parts(parts.as_slice(), text)?;
+        let tables = (failing.as_slice(), servers.as_slice());
+        write_report(form, totals, self.kept(), tables, text)?;
         self.write_rest(form, slowest, names, text)
     }
 
@@ -72,45 +72,35 @@ impl<A: Allocator + Copy> Races<A> {
     }
 }
 
-fn push_summary<A: Allocator>(
+// Appends the report on races, up to the slowest ones.
+fn write_report<A: Allocator + Copy>(
     form: Form,
     totals: Totals,
-    failing: &[(Ip, Tally)],
-    text: &mut Vec<Part<Said>, A>,
+    kept: &[Kept],
+    tables: (&[(Ip, Tally)], &[(Ip, Tally)]),
+    text: &mut Vec<u8, A>,
 ) -> Result<(), Memory>
-    ensures { OnOk result (flat_map fact_of text.new.items ≡ flat_map fact_of text.old.items
-        ++ summary_facts form totals failing.now) }
+    ensures { OnOk result (IsReport form totals kept.now (tables.entry.0.now, tables.entry.1.now) text.old.items text.new.items) }
 {
     match form {
-        Form::Metrics => push_metrics(totals, text),
-        Form::Text | Form::Json => {
-            push_totals(form, totals, text)?;
-            push_failing(form, failing, text)
-        }
+        Form::Text => write_text(totals, kept, tables, text),
+        Form::Json => write_summary(totals, kept, tables, text),
+        Form::Metrics => write_metrics(totals, text),
     }
 }
 
-fn push_failing<A: Allocator>(
-    form: Form,
-    failing: &[(Ip, Tally)],
-    text: &mut Vec<Part<Said>, A>,
+fn write_text<A: Allocator + Copy>(
+    totals: Totals,
+    kept: &[Kept],
+    tables: (&[(Ip, Tally)], &[(Ip, Tally)]),
+    text: &mut Vec<u8, A>,
 ) -> Result<(), Memory>
-    ensures { OnOk result (flat_map fact_of text.new.items ≡ flat_map fact_of text.old.items
-        ++ flat_map (tally_facts form) failing.now) }
+    ensures { OnOk result (Tells (text_facts totals kept.now tables.entry.0.now tables.entry.1.now) text.old.items text.new.items) }
 {
-    let (begin, between, end): (&'static [u8], &'static [u8], &'static [u8]) = match form {
-        Form::Text if failing.is_empty() => (b"", b"", b"\n"),
-        Form::Text => (b"\nfailed or silent most often:\n", b"", b""),
-        Form::Json if failing.is_empty() => (b"", b"", b",\"failing\":[]"),
-        Form::Json | Form::Metrics => (b",\"failing\":[", b",", b"]"),
-    };
-    let mut before = begin;
-    for tallied in failing {
-        push_parts(&[Part::Words(before)], text)?;
-        push_tally(form, *tallied, text)?;
-        before = between;
-    }
-    push_parts(&[Part::Words(end)], text)
+    let mut parts = Vec::new(*text.allocator());
+    push_text(totals, kept, tables, &mut parts)?;
+    push_parts(&[Part::Words(b"\n")], &mut parts)?;
+    write_parts(parts.as_slice(), text)
 }
 
 // The `most` slowest races that were won: the longest time first, equal ones in the order in which they were read.
@@ -181,7 +171,7 @@ pub fn name_of(place: usize, names: &[String]) -> &str
     }
 }
 
-/// Appends a name, which is as it may be shown, between words; in JSON as a string.
+/// Appends a name between words: in text as it is, in JSON as a string.
 pub fn write_name<A: Allocator>(
     form: Form,
     before: &[u8],
@@ -214,7 +204,7 @@ fn write_slow<A: Allocator + Copy>(
     write_parts(parts.as_slice(), text)
 }
 
-// FILE:LINE race NUMBER: TIME ms to ADDRESS, LOST ms lost
+// FILE:LINE race NUMBER: TIME ms to ADDRESS, NAMES ms names, LOST ms lost
 fn push_slow<A: Allocator>(
     form: Form,
     race: &Kept,
@@ -233,8 +223,10 @@ fn push_slow<A: Allocator>(
                 Part::Words(words[1]),
                 Part::Ip(ip),
                 Part::Words(words[2]),
-                Part::Number(race.lost.unwrap_or(0)),
+                Part::Number(race.times.names),
                 Part::Words(words[3]),
+                Part::Number(race.times.lost),
+                Part::Words(words[4]),
             ],
             text,
         ),
@@ -242,10 +234,16 @@ fn push_slow<A: Allocator>(
     }
 }
 
-fn slow_words(form: Form) -> [&'static [u8]; 4] {
+fn slow_words(form: Form) -> [&'static [u8]; 5] {
     match form {
-        Form::Text => [b": ", b" ms to ", b", ", b" ms lost\n"],
-        Form::Json | Form::Metrics => [b",\"ms\":", b",\"address\":\"", b"\",\"lost_ms\":", b"}"],
+        Form::Text => [b": ", b" ms to ", b", names ", b" ms, lost ", b" ms\n"],
+        Form::Json | Form::Metrics => [
+            b",\"ms\":",
+            b",\"address\":\"",
+            b"\",\"names_ms\":",
+            b",\"lost_ms\":",
+            b"}",
+        ],
     }
 }
 

@@ -6,6 +6,6 @@ use Rattle.he_compare.proofs.lines.write_line.Goals as goal
 pub returns : goal.returns
 returns g c =
     on_ok_weaker c.write_parts.result
-    (λ done. told_parts c.new-parts.result.items c.push_line.new.text.items (line_facts c.args.form c.args.stands c.args.race.now) c.args.text.now.items c.write_parts.new.text.items
+    (λ done. told_parts c.new-parts.result.items c.push_line.new.text.items (line_facts c.args.form c.args.own c.args.race.now) c.args.text.now.items c.write_parts.new.text.items
     c.new-parts.ensures.items c.in_ok-push_line.ensures (rw c.as_slice.ensures.value at done))
     c.write_parts.ensures

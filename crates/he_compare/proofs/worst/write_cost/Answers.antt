@@ -1,0 +1,11 @@
+use Rattle.std.proofs.lemmas.Result.{on_ok_weaker}
+use Rattle.he_summary.proofs.Told.{told_parts}
+use Rattle.he_compare.specs.Worst.{cost_facts}
+use Rattle.he_compare.proofs.worst.write_cost.Goals as goal
+
+pub returns : goal.returns
+returns g c =
+    on_ok_weaker c.write_parts.result
+    (λ done. told_parts c.new-parts.result.items c.push_cost.new.parts.items (cost_facts c.args.totals) c.args.text.now.items c.write_parts.new.text.items
+    c.new-parts.ensures.items c.in_ok-push_cost.ensures (rw c.as_slice.ensures.value at done))
+    c.write_parts.ensures

@@ -1,0 +1,5 @@
+use Rattle.std.proofs.lemmas.Result.{on_ok_weaker}
+use Rattle.he_summary.proofs.json.write_counts.Goals as goal
+
+pub returns : goal.returns
+returns g c = on_ok_weaker c.write_members.result (λ done. rw c.saturating_sub.ensures at done) c.write_members.ensures

@@ -1,0 +1,47 @@
+-- The hosts and ports that races were for, each once, and the place of each race among them.
+use Rattle.std.specs.Cmp.Lexicographic.{pointwise}
+use Rattle.std.specs.List.{fold, list_any, zip}
+use Rattle.std.specs.Prelude.{ℕ, ◌≡◌, ◌++◌, ⊤, if◌then◌else◌, List, [], ◌∷◌, codes, decimal, map, nat_eq, slice_get, Option, Some, None}
+use Rattle.he_record.specs.Given.{to_given}
+use Rattle.he_record.specs.Said.{Said}
+use Rattle.he_summary.specs.declared.kept.Kept.{Kept}
+
+-- the requested host and port, as in a record line; other words for a race without one
+abbrev pub target_text : Option (List ℕ × ℕ) → List ℕ
+target_text None = codes "no host"
+target_text (Some (host, port)) = host ++ 32 ∷ decimal port
+
+abbrev pub host_said : List Said → List ℕ
+host_said said = target_text (to_given said)
+
+-- names, and places among them
+pub record Named : Type 0 where
+  pub names : List (List ℕ)
+  pub places : List ℕ
+
+-- a text goes last among the names, if it is not there
+abbrev pub with_name : List (List ℕ) → List ℕ → List (List ℕ)
+with_name names text = if list_any (pointwise nat_eq text) names then names else names ++ text ∷ []
+
+-- the texts, each once, in the order in which they first come
+abbrev pub names_of : List (List ℕ) → List (List ℕ)
+names_of texts = fold with_name [] texts
+
+-- these are the places of the texts among the names
+abbrev pub ArePlaces : List (List ℕ) → List ℕ → List (List ℕ) → Type 0
+ArePlaces names [] [] = ⊤
+ArePlaces names (place ∷ places) (text ∷ texts) = (slice_get names place ≡ Some text) × ArePlaces names places texts
+ArePlaces names _ _ = ⊥
+
+-- the names are those of the texts, and these are the places of the texts among them
+pub record AreNamed (texts : List (List ℕ)) (named : Named) : Type 0 where
+  pub names : named.names ≡ names_of texts
+  pub each : ArePlaces named.names named.places texts
+
+-- the record of a race, with the place of its host in place of that of its file
+unfoldable pub at_host : ℕ → Kept → Kept
+at_host host race = record race { place = record race.place { file = host } }
+
+-- each record at the place of its host
+abbrev pub at_hosts : List ℕ → List Kept → List Kept
+at_hosts places kept = map (λ (placed : ℕ × Kept). at_host placed.0 placed.1) (zip places kept)
