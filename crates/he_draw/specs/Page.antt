@@ -49,17 +49,24 @@ page_row_facts end row =
 abbrev pub anchor_facts : ℕ → ℕ → List (Fact Words)
 anchor_facts file number = if file == 0 then Number number ∷ [] else Number number ∷ Place file ∷ []
 
--- a link to the section, its name and its end, by which sections are sorted, and a link to itself, with its end
-abbrev pub opening_facts : {A : Type 0} → Course A → ℕ → List (Fact Words)
-opening_facts course file =
+-- the link to the section, with the time that the race lost, if any
+abbrev pub index_facts : {A : Type 0} → Course A → ℕ → List (Fact Words)
+index_facts course file =
     anchor_facts file course.number
     ++ ((Number course.number ∷ [])
+    ++ (if course.account.lost == 0 then [] else Number course.account.lost ∷ []))
+
+-- that link, the section's name and its end, by which sections are sorted, and a link to itself,
+-- with its end
+abbrev pub opening_facts : {A : Type 0} → Course A → ℕ → List (Fact Words)
+opening_facts course file =
+    index_facts course file
     ++ (anchor_facts file course.number
-    ++ ((Number (end_of course) ∷ []) ++ (anchor_facts file course.number ++ Number (end_of course) ∷ []))))
+    ++ ((Number (end_of course) ∷ []) ++ (anchor_facts file course.number ++ Number (end_of course) ∷ [])))
 
 -- its rows
-unfoldable pub section_facts : {A : Type 0} → Course A → List (Fact Words)
-section_facts course = flat_map (page_row_facts (end_of course)) (rows_of course)
+unfoldable pub section_facts : {A : Type 0} → List RecordSaid → Course A → List (Fact Words)
+section_facts said course = flat_map (page_row_facts (end_of course)) (rows_of said course)
 
 -- a race's part of a page: its links, the heading of its story, its rows, and its story; nothing of the heading and
 -- the story is read as a tag
@@ -71,7 +78,7 @@ pub record IsSection {A : Type 0} (said : List RecordSaid) (course : Course A) (
   pub last : List ℕ
   pub opened : States (opening_facts course file) links
   pub headed : States (race_facts said course) heading
-  pub drawn : States (section_facts course) rows
+  pub drawn : States (section_facts said course) rows
   pub told : Tells said course [] story
   pub parts : text ≡ links ++ (flat_map escaped heading ++ (rows ++ (flat_map escaped story ++ last)))
 

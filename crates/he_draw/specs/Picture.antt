@@ -73,4 +73,4 @@ row_facts columns end row =
 unfoldable pub picture_facts : {A : Type 0} → ℕ → List RecordSaid → Course A → List (Fact Words)
 picture_facts columns said course =
     race_facts said course
-    ++ (flat_map (row_facts columns (end_of course)) (rows_of course) ++ Number (end_of course) ∷ [])
+    ++ (flat_map (row_facts columns (end_of course)) (rows_of said course) ++ Number (end_of course) ∷ [])

@@ -13,8 +13,8 @@ use Rattle.he_course.specs.declared.events.Event.{Event}
 use Rattle.he_course.specs.declared.events.EventKind.{EventKind}
 use Rattle.he_course.specs.declared.events.EventKind.TheVariants as kinds
 use Rattle.he_course.specs.Events.{end_event}
-use Rattle.he_story.specs.declared.said.Said.{Said}
-use Rattle.he_story.specs.declared.said.Said.TheVariants as says
+use Rattle.he_record.specs.Said.{Said as RecordSaid}
+use Rattle.he_story.specs.Ends.{end_said}
 use Rattle.he_draw.specs.declared.rows.Row.{Row}
 use Rattle.he_draw.specs.declared.rows.What.TheVariants.{Answer, Wait, Missing, Pause, Attempt}
 
@@ -54,24 +54,21 @@ abbrev pub pause_rows : ℕ → EventKind → List Row
 pause_rows tick (kinds.Paused until) = record { what = Pause; from = tick; to = until } ∷ []
 pause_rows tick _ = []
 
--- the outcome of an attempt, and its tick
-abbrev pub became : Mark → Said
-became (marks.Won tick) = says.Won
-became (marks.Failed tick) = says.Failed
-became (marks.Cancelled tick) = says.Cancelled
-
+-- the tick at which an attempt ended
 abbrev pub stop_of : Mark → ℕ
 stop_of (marks.Won tick) = tick
 stop_of (marks.Failed tick) = tick
 stop_of (marks.Cancelled tick) = tick
 
-abbrev pub attempt_row : Line → Row
-attempt_row line = record { what = Attempt line.ip (became line.mark); from = line.tick; to = stop_of line.mark }
+-- an attempt, and the word for its end
+abbrev pub attempt_row : List RecordSaid → ℕ → Line → Row
+attempt_row said delay line =
+    record { what = Attempt line.ip (end_said said delay line); from = line.tick; to = stop_of line.mark }
 
 -- the answers, the pauses, and each attempt once, by place
-unfoldable pub rows_of : {A : Type 0} → Course A → List Row
-rows_of course =
+unfoldable pub rows_of : {A : Type 0} → List RecordSaid → Course A → List Row
+rows_of said course =
     (answer_row (end_of course) families.V6 course.aaaa
     ∷ a_row (end_of course) course.aaaa (wait_in course.events.items) course.a
     ∷ flat_map (λ event. pause_rows event.tick event.kind) course.events.items)
-    ++ map attempt_row course.transcript.lines
+    ++ map (attempt_row said course.delay) course.transcript.lines

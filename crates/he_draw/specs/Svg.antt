@@ -50,8 +50,8 @@ image_rows_facts end place (row ∷ more) =
 -- and the rows
 unfoldable pub svg_facts : {A : Type 0} → List RecordSaid → Course A → List (Fact Words)
 svg_facts said course =
-    let top = Number (top_of (length (rows_of course))) in
+    let top = Number (top_of (length (rows_of said course))) in
     (top ∷ [])
     ++ (outcome_facts said course
     ++ (outcome_facts said course
-    ++ ((top ∷ top ∷ Number (end_of course) ∷ []) ++ image_rows_facts (end_of course) 0 (rows_of course))))
+    ++ ((top ∷ top ∷ Number (end_of course) ∷ []) ++ image_rows_facts (end_of course) 0 (rows_of said course))))

@@ -8,11 +8,11 @@
 //! alone. Ticks are milliseconds.
 //!
 //! ```text
-//! race 1, line 1: connected to 198.51.100.1 after 340 ms
+//! race 1, line 1: connected by IPv4 (198.51.100.1) in 340 ms
 //! AAAA answer   |      o                                 | 60 ms, 1 usable
 //! A answer      |  o~~~~                                 | 25-60 ms wait, 1 usable
 //! 2001:db8:1::1 |      =====================x            | 60-240 ms failed
-//! 198.51.100.1  |                                   ====*| 310-340 ms won
+//! 198.51.100.1  |                                   ====*| 310-340 ms connected
 //!                0                                 340 ms
 //! ```
 //!

@@ -25,7 +25,7 @@ pub(crate) struct Signs {
     pub(crate) answer: &'static [u8],
     pub(crate) won: &'static [u8],
     pub(crate) failed: &'static [u8],
-    pub(crate) cancelled: &'static [u8],
+    pub(crate) over: &'static [u8],
     pub(crate) wait: Run,
     pub(crate) pause: Run,
     /// An attempt is under way.
@@ -40,7 +40,7 @@ pub(crate) fn signs_of(look: Look) -> Signs {
             answer: b"o",
             won: b"*",
             failed: b"x",
-            cancelled: b">",
+            over: b">",
             wait: (b"~", b"~~~~~~~~"),
             pause: (b"#", b"########"),
             attempt: (b"=", b"========"),
@@ -51,7 +51,7 @@ pub(crate) fn signs_of(look: Look) -> Signs {
             answer: "●".as_bytes(),
             won: "✓".as_bytes(),
             failed: "✕".as_bytes(),
-            cancelled: "▸".as_bytes(),
+            over: "▸".as_bytes(),
             wait: ("┄".as_bytes(), "┄┄┄┄┄┄┄┄".as_bytes()),
             pause: ("░".as_bytes(), "░░░░░░░░".as_bytes()),
             attempt: ("━".as_bytes(), "━━━━━━━━".as_bytes()),
@@ -60,12 +60,12 @@ pub(crate) fn signs_of(look: Look) -> Signs {
 }
 
 impl Signs {
-    /// The sign of an attempt's outcome.
+    /// The sign of an attempt's end.
     pub(crate) fn of(self, became: Said) -> &'static [u8] {
         match became {
             Said::Won => self.won,
             Said::Failed => self.failed,
-            _ => self.cancelled,
+            _ => self.over,
         }
     }
 }

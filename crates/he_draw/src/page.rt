@@ -15,10 +15,10 @@ use std::alloc::Allocator;
 // or on their race's own.
 const HEAD: &[u8] = b"<!DOCTYPE html>\n<html lang='en'>\n<head>\n<meta charset='utf-8'>\n\
 <meta name='viewport' content='width=device-width,initial-scale=1'>\n<title>Races</title>\n<style>\n\
-:root{color-scheme:light dark;--bg:#fff;--fg:#222;--dim:#666;--line:#ddd;--won:#171;--failed:#b22;--cancelled:#999;\
+:root{color-scheme:light dark;--bg:#fff;--fg:#222;--dim:#666;--line:#ddd;--won:#171;--failed:#b22;--stopped:#767676;\
 --dot:#24a}\n\
 @media(prefers-color-scheme:dark){:root{--bg:#1d1f21;--fg:#ddd;--dim:#9aa;--line:#3a3d40;--won:#4c4;--failed:#f66;\
---cancelled:#777;--dot:#8af}}\n\
+--stopped:#8a8a8a;--dot:#8af}}\n\
 body{display:flex;flex-direction:column;margin:0 auto;max-width:75rem;padding:1rem;background:var(--bg);\
 color:var(--fg);font:.95rem/1.4 system-ui,sans-serif}\n\
 header{order:-1}h1{margin:0}header p{display:flex;flex-wrap:wrap;gap:.5rem 1.5rem;color:var(--dim);font-size:.8rem}\n\
@@ -28,11 +28,12 @@ nav i{display:inline-block;width:1.2rem;height:.7rem;border-radius:2px}nav .dot{
 article{display:flex;flex-flow:row wrap;gap:0 .8rem}h2{flex:0 0 100%;order:-9999999;margin:.6rem 0}\n\
 article>a{display:none;order:-9999998;color:inherit}body:has(#index:checked) article>a{display:block}\n\
 section{flex:0 0 100%;min-width:0;order:calc(0 - var(--t));--e:max(1,var(--end,1));padding:.6rem 0;\
-border-top:1px solid var(--line)}\n\
+border-top:1px solid var(--line);content-visibility:auto;contain-intrinsic-size:auto 10rem}\n\
+body:has(#bad:checked) .connected,body:has(#slow:checked) .unlost{display:none}\n\
 body:has(#turn:checked) section{order:0}body:has(#own:checked) section{--e:max(1,var(--t))}\n\
 body:has(#own:checked) .scale{visibility:hidden}\n\
 section:target{background:color-mix(in srgb,var(--dot) 12%,transparent)}\n\
-h3{margin:.1rem 0 .4rem;font-size:1.05rem}h3 a{color:inherit;text-decoration:none}\n\
+h1,h2,h3{overflow-wrap:anywhere}h3{margin:.1rem 0 .4rem;font-size:1.05rem}h3 a{color:inherit;text-decoration:none}\n\
 small{color:var(--dim);font-weight:400}\n\
 section div{display:grid;grid-template-columns:16rem 1fr 15rem;gap:.8rem;align-items:center;\
 font:.85rem ui-monospace,monospace}\n\
@@ -42,7 +43,7 @@ no-repeat}\n\
 section i{position:absolute;top:0;bottom:0;min-width:2px;border-radius:2px;left:calc(100%*var(--s)/var(--e));\
 width:calc(100%*var(--l)/var(--e))}\n\
 section .dot{width:6px;margin-left:-3px}\n\
-.won{background:var(--won)}.failed{background:var(--failed)}.cancelled{background:var(--cancelled)}\
+.won{background:var(--won)}.failed,.silent{background:var(--failed)}.stopped{background:var(--stopped)}\
 .dot{background:var(--dot)}\n\
 .wait{background:repeating-linear-gradient(90deg,var(--dot) 0 2px,transparent 2px 5px)}\
 .pause{background:repeating-linear-gradient(45deg,var(--dim) 0 1px,transparent 1px 4px)}\n\
@@ -50,13 +51,16 @@ summary{margin-top:.3rem;color:var(--dim);font-size:.85rem;cursor:pointer}\n\
 pre{font-size:.78rem;white-space:pre-wrap;overflow-wrap:anywhere}\n\
 @media(max-width:48rem){section div{grid-template-columns:1fr auto;gap:.1rem .6rem;margin:.35rem 0}\
 section p{grid-column:1/3;grid-row:2}small{font-size:.78rem}}\n\
+@media print{nav label{display:none}section{content-visibility:visible;break-inside:avoid}i{print-color-adjust:exact}}\n\
 </style>\n</head>\n<body>\n<nav>\
 <label><input type='checkbox' id='turn'> in order, not slowest first</label>\
 <label><input type='checkbox' id='own'> own scale</label>\
-<label><input type='checkbox' id='index'> index of races</label>\n\
+<label><input type='checkbox' id='index'> index of races</label>\
+<label><input type='checkbox' id='bad'> only those not connected</label>\
+<label><input type='checkbox' id='slow'> only those that lost time</label>\n\
 <span><i class='dot'></i> answer</span><span><i class='wait'></i> wait for the AAAA answer</span>\
-<span><i class='pause'></i> pause</span><span><i class='won'></i> won</span><span><i class='failed'></i> failed</span>\
-<span><i class='cancelled'></i> cancelled</span></nav>\n<main><article>\n";
+<span><i class='pause'></i> pause</span><span><i class='won'></i> connected</span>\
+<span><i class='failed'></i> failed, or no answer</span><span><i class='stopped'></i> stopped</span></nav>\n<main><article>\n";
 
 /// Appends the beginning of a page: its layout, switches and colours. After `Memory` the vector holds a first part of
 /// it too.

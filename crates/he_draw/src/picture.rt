@@ -47,7 +47,7 @@ fn picture<A: Allocator + Copy, B: Allocator, C: Allocator>(
     ensures { IfOk result (λ text. (columns : ℕ) × (LEAST_COLUMNS ≤ columns)
         × States (picture_facts columns recorded.now course.now) text.items) }
 {
-    let rows = collect_rows(alloc, course)?;
+    let rows = collect_rows(alloc, course, recorded)?;
     let (frame, labels) = frame_of(alloc, look, width, course.end(), &rows)?;
     let mut parts = heading_parts(alloc, course, recorded)?;
     push_parts(&[Part::Words(b"\n")], &mut parts)?;

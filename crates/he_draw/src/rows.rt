@@ -2,12 +2,13 @@
 
 ghost use Rattle.std.specs.Prelude.{◌≡◌, ◌++◌, map, IfOk, OnOk};
 ghost use Rattle.std.specs.List.{flat_map};
-ghost use Rattle.he_draw.specs.Rows.{a_row, answer_row, attempt_row, pause_rows, rows_of, wait_end, wait_in};
+ghost use Rattle.he_draw.specs.Rows.{a_row, answer_row, attempt_row, pause_rows, rows_of, stop_of, wait_end, wait_in};
 
 use he_addr::{Family, Ip, Memory};
 use he_course::{Course, Event, EventKind, Seen};
 use he_plan::{Line, Mark};
-use he_story::Said;
+use he_record::Record;
+use he_story::{Said, end_said};
 use std::alloc::Allocator;
 
 /// A row of a picture, with the ticks of its start and its end, in milliseconds.
@@ -33,7 +34,7 @@ pub enum What {
     /// The client sees and starts nothing.
     Pause,
 
-    /// An attempt at this address, and its outcome.
+    /// An attempt at this address, and the word for its end ([`he_story::end_said`]).
     Attempt(Ip, Said),
 }
 
@@ -43,11 +44,12 @@ const ANSWER_ROWS: usize = 2;
 /// The rows of a race: the AAAA answer, the A answer, the pauses that begin before the end of the race, and the
 /// attempts by place.
 #[tactic(auto, unfolding(crate::specs::Rows::rows_of))]
-pub fn collect_rows<A: Allocator, B: Allocator>(
+pub fn collect_rows<A: Allocator, B: Allocator, C: Allocator>(
     alloc: A,
     course: &Course<B>,
+    recorded: &Record<'_, C>,
 ) -> Result<Vec<Row, A>, Memory>
-    ensures { IfOk result (λ rows. rows.items ≡ rows_of course.now) }
+    ensures { IfOk result (λ rows. rows.items ≡ rows_of recorded.now course.now) }
 {
     // Each pause and each attempt's start is an event.
     let most = course.events.len().saturating_add(ANSWER_ROWS);
@@ -56,7 +58,12 @@ pub fn collect_rows<A: Allocator, B: Allocator>(
     rows.push(answer_row(end, Family::V6, course.aaaa))?;
     rows.push(a_row(end, course.aaaa, wait_in(&course.events), course.a))?;
     push_pauses(&mut rows, &course.events)?;
-    push_attempts(&mut rows, course.transcript.attempts())?;
+    push_attempts(
+        &mut rows,
+        recorded,
+        course.delay,
+        course.transcript.attempts(),
+    )?;
     Ok(rows)
 }
 
@@ -124,26 +131,34 @@ fn push_pauses<A: Allocator>(rows: &mut Vec<Row, A>, events: &[Event]) -> Result
     Ok(())
 }
 
-fn push_attempts<A: Allocator>(rows: &mut Vec<Row, A>, lines: &[Line]) -> Result<(), Memory>
-    ensures { OnOk result (rows.new.items ≡ rows.old.items ++ map attempt_row lines.now) }
+fn push_attempts<A: Allocator, C: Allocator>(
+    rows: &mut Vec<Row, A>,
+    recorded: &Record<'_, C>,
+    delay: u64,
+    lines: &[Line],
+) -> Result<(), Memory>
+    ensures { OnOk result (rows.new.items ≡ rows.old.items ++ map (attempt_row recorded.now delay) lines.now) }
 {
     for line in lines {
-        rows.push(attempt_row(line))?;
+        rows.push(attempt_row(recorded, delay, *line))?;
     }
     Ok(())
 }
 
-fn attempt_row(line: &Line) -> Row
-    ensures { result ≡ attempt_row line.now }
+fn attempt_row<C: Allocator>(recorded: &Record<'_, C>, delay: u64, line: Line) -> Row
+    ensures { result ≡ attempt_row recorded.now delay line }
 {
-    let (became, to) = match line.mark {
-        Mark::Won(tick) => (Said::Won, tick),
-        Mark::Failed(tick) => (Said::Failed, tick),
-        Mark::Cancelled(tick) => (Said::Cancelled, tick),
-    };
     Row {
-        what: What::Attempt(line.ip, became),
+        what: What::Attempt(line.ip, end_said(recorded, delay, line)),
         from: line.tick,
-        to,
+        to: stop_of(line.mark),
+    }
+}
+
+fn stop_of(mark: Mark) -> u64
+    ensures { result ≡ stop_of mark }
+{
+    match mark {
+        Mark::Won(tick) | Mark::Failed(tick) | Mark::Cancelled(tick) => tick,
     }
 }

@@ -5,13 +5,14 @@ ghost use Rattle.std.specs.List.{flat_map};
 ghost use Rattle.he_print.specs.Parts.{States, fact_of};
 ghost use Rattle.he_story.specs.Story.{Tells, race_facts};
 ghost use Rattle.he_draw.specs.Picture.{Prints, told};
-ghost use Rattle.he_draw.specs.Page.{WritesSection, anchor_facts, opening_facts, page_row_facts, section_facts, track_facts};
+ghost use Rattle.he_draw.specs.Page.{WritesSection, anchor_facts, index_facts, opening_facts, page_row_facts, section_facts, track_facts};
 
 use crate::escaping::write_escaped;
 use crate::rows::{Row, What, collect_rows};
-use crate::words::{became_word, label, push_words};
+use crate::words::{class_of, label, push_words};
 use he_addr::Memory;
 use he_course::Course;
+use he_plan::Outcome3;
 use he_print::{Part, push_parts, write_parts};
 use he_record::Record;
 use he_story::{Said, heading_parts, write_story};
@@ -32,7 +33,7 @@ pub fn write_section<A: Allocator + Copy, B: Allocator, C: Allocator>(
     write_links(alloc, course, file, text)?;
     let heading = heading(alloc, course, recorded)?;
     write_escaped(&heading, text)?;
-    write_rows(alloc, course, text)?;
+    write_rows(alloc, course, recorded, text)?;
     let story = story(alloc, course, recorded)?;
     write_escaped(&story, text)?;
     text.extend_from_slice(b"</pre></details></section>\n")?;
@@ -79,25 +80,27 @@ fn write_links<A: Allocator + Copy, B: Allocator>(
 }
 
 // The rows after the heading.
-fn write_rows<A: Allocator + Copy, B: Allocator>(
+fn write_rows<A: Allocator + Copy, B: Allocator, C: Allocator>(
     alloc: A,
     course: &Course<B>,
+    recorded: &Record<'_, C>,
     text: &mut Vec<u8, A>,
 ) -> Result<(), Memory>
-    ensures { OnOk result (Prints (section_facts course.now) text.old.items text.new.items) }
+    ensures { OnOk result (Prints (section_facts recorded.now course.now) text.old.items text.new.items) }
 {
-    let parts = row_parts(alloc, course)?;
+    let parts = row_parts(alloc, course, recorded)?;
     write_parts(&parts, text)
 }
 
 #[tactic(auto, unfolding(crate::specs::Page::section_facts))]
-fn row_parts<A: Allocator + Copy, B: Allocator>(
+fn row_parts<A: Allocator + Copy, B: Allocator, C: Allocator>(
     alloc: A,
     course: &Course<B>,
+    recorded: &Record<'_, C>,
 ) -> Result<Vec<Part<Said>, A>, Memory>
-    ensures { IfOk result (λ parts. told parts.items ≡ section_facts course.now) }
+    ensures { IfOk result (λ parts. told parts.items ≡ section_facts recorded.now course.now) }
 {
-    let rows = collect_rows(alloc, course)?;
+    let rows = collect_rows(alloc, course, recorded)?;
     let mut parts = Vec::new(alloc);
     push_parts(&[Part::Words(b"</small></h3>\n")], &mut parts)?;
     push_rows(course.end(), &rows, &mut parts)?;
@@ -118,15 +121,48 @@ fn push_opening<A: Allocator, B: Allocator>(
 {
     let number = course.number;
     let end = Part::Number(course.end());
-    push_anchor(b"<a href='#race-", file, number, parts)?;
-    push_parts(&[Part::Words(b"'>"), Part::Number(number as u64)], parts)?;
-    push_anchor(b"</a><section id='race-", file, number, parts)?;
+    push_index(course, file, parts)?;
+    push_anchor(section_words(course), file, number, parts)?;
     push_parts(&[Part::Words(b"' style='--t:"), end], parts)?;
     push_anchor(b"'><h3><a href='#race-", file, number, parts)?;
     push_parts(
         &[Part::Words(b"'>"), end, Part::Words(b" ms</a> <small>")],
         parts,
     )
+}
+
+// The link to the section, with the time that the race lost.
+fn push_index<A: Allocator, B: Allocator>(
+    course: &Course<B>,
+    file: usize,
+    parts: &mut Vec<Part<Said>, A>,
+) -> Result<(), Memory>
+    ensures { OnOk result (told parts.new.items ≡ told parts.old.items ++ index_facts course.now file) }
+{
+    let (number, lost) = (course.number, course.account.lost);
+    push_anchor(b"<a href='#race-", file, number, parts)?;
+    push_parts(&[Part::Words(b"'>"), Part::Number(number as u64)], parts)?;
+    if lost == 0 {
+        return Ok(());
+    }
+    push_parts(
+        &[
+            Part::Words(b" <small>"),
+            Part::Number(lost),
+            Part::Words(b" ms lost</small>"),
+        ],
+        parts,
+    )
+}
+
+// The end of the link, and the beginning of the section, with the classes by which some are hidden.
+fn section_words<B: Allocator>(course: &Course<B>) -> &'static [u8] {
+    match (course.ended.result, course.account.lost) {
+        (Outcome3::Won(_, _), 0) => b"</a><section class='connected unlost' id='race-",
+        (Outcome3::Won(_, _), _) => b"</a><section class='connected' id='race-",
+        (_, 0) => b"</a><section class='unlost' id='race-",
+        (_, _) => b"</a><section id='race-",
+    }
 }
 
 // The name of a section, after the words before it.
@@ -201,7 +237,7 @@ fn push_track<A: Allocator>(
         What::Missing(_) => Ok(()),
         What::Pause => push_parts(&bar(Part::Words(b"pause"), from, length), parts),
         What::Attempt(_, became) => {
-            let kind = Part::Says(became, became_word(became));
+            let kind = Part::Says(became, class_of(became));
             push_parts(&bar(kind, from, length), parts)
         }
     }

@@ -8,7 +8,7 @@ ghost use Rattle.he_draw.specs.Svg.{bar_places, image_row_facts, image_rows_fact
 use crate::frame::column;
 use crate::look::{Look, signs_of};
 use crate::rows::{Row, What};
-use crate::words::{became_word, label, push_words};
+use crate::words::{class_of, label, push_words};
 use he_addr::Memory;
 use he_print::{Part, push_parts};
 use he_story::Said;
@@ -101,7 +101,7 @@ fn push_shape<A: Allocator>(
         What::Missing(_) => Ok(()),
         What::Pause => push_parts(&bar(Part::Words(b"pause"), left, right), parts),
         What::Attempt(_, became) => {
-            let kind = Part::Says(became, became_word(became));
+            let kind = Part::Says(became, class_of(became));
             let sign = Part::Says(became, signs_of(Look::Unicode).of(became));
             let after = Part::Number(right + SIGN);
             push_parts(&bar(kind, left, right), parts)?;

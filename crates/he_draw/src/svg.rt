@@ -39,7 +39,7 @@ fn svg<A: Allocator + Copy, B: Allocator, C: Allocator>(
 ) -> Result<Vec<u8, A>, Memory>
     ensures { IfOk result (λ text. States (svg_facts recorded.now course.now) text.items) }
 {
-    let rows = collect_rows(alloc, course)?;
+    let rows = collect_rows(alloc, course, recorded)?;
     let top = Part::Number(top_of(rows.len()));
     let end = Part::Number(course.end());
     let heading = outcome_parts(alloc, course, recorded)?;
@@ -74,9 +74,9 @@ const TITLE: &[u8] = b"' font-family='monospace' font-size='12'>\n<title>";
 // The colours, in a light and in a dark scheme; a wait is dotted, a pause is hatched.
 const STYLE: &[u8] =
     b"</title>\n<style>\nsvg{background:#fff}\ntext{fill:#222}\ncircle{fill:#24a}\npath{stroke:#888}\n\
-.wait{fill:url(#dots)}\n.pause{fill:url(#hatch)}\n.won{fill:#171}\n.failed{fill:#b22}\n.cancelled{fill:#999}\n\
+.wait{fill:url(#dots)}\n.pause{fill:url(#hatch)}\n.won{fill:#171}\n.failed,.silent{fill:#b22}\n.stopped{fill:#767676}\n\
 @media(prefers-color-scheme:dark){svg{background:#222}text{fill:#ddd}circle{fill:#8af}.won{fill:#4c4}\
-.failed{fill:#f66}}\n</style>\n\
+.failed,.silent{fill:#f66}}\n</style>\n\
 <defs>\n\
 <pattern id='dots' width='5' height='5' patternUnits='userSpaceOnUse'><circle cx='2' cy='2' r='1'/></pattern>\n\
 <pattern id='hatch' width='5' height='5' patternUnits='userSpaceOnUse'><path d='M0 5L5 0'/></pattern>\n</defs>\n\

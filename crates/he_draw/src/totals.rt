@@ -72,15 +72,27 @@ pub(crate) fn push_totals<A: Allocator>(
     )?;
     push_times(totals.times, parts)?;
     push_parts(
-        &count(Counted::ByV6, totals.by_v6, b"</b> won by IPv6</span>"),
+        &count(
+            Counted::ByV6,
+            totals.by_v6,
+            b"</b> connected by IPv6</span>",
+        ),
         parts,
     )?;
     push_parts(
-        &count(Counted::ByV4, totals.by_v4, b"</b> won by IPv4</span>"),
+        &count(
+            Counted::ByV4,
+            totals.by_v4,
+            b"</b> connected by IPv4</span>",
+        ),
         parts,
     )?;
     push_parts(
-        &count(Counted::NotWon, totals.not_won, b"</b> not won</span>"),
+        &count(
+            Counted::NotWon,
+            totals.not_won,
+            b"</b> not connected</span>",
+        ),
         parts,
     )?;
     push_parts(

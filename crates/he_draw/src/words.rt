@@ -7,7 +7,7 @@ ghost use Rattle.he_draw.specs.Picture.{label_fact, told, words_facts};
 use crate::rows::{Row, What};
 use he_addr::{Family, Memory};
 use he_print::{Part, push_parts};
-use he_story::Said;
+use he_story::{Said, end_word};
 use std::alloc::Allocator;
 
 /// The subject of a row.
@@ -31,12 +31,13 @@ fn answer_words(family: Family) -> &'static [u8] {
     }
 }
 
-/// The outcome of an attempt, in one word.
-pub(crate) fn became_word(became: Said) -> &'static [u8] {
-    match became {
+/// The class of an attempt by its end, in style sheets.
+pub(crate) fn class_of(end: Said) -> &'static [u8] {
+    match end {
         Said::Won => b"won",
         Said::Failed => b"failed",
-        _ => b"cancelled",
+        Said::Silent => b"silent",
+        _ => b"stopped",
     }
 }
 
@@ -70,7 +71,7 @@ pub(crate) fn push_words<A: Allocator>(
         }
         What::Pause => push_parts(&[from, between, to, Part::Words(b" ms")], parts),
         What::Attempt(_, became) => {
-            let became = Part::Says(became, became_word(became));
+            let became = Part::Says(became, end_word(became));
             push_parts(&[from, between, to, Part::Words(b" ms "), became], parts)
         }
     }

@@ -29,7 +29,8 @@ use Rattle.he_print.specs.declared.part.Fact.TheVariants as facts
 use Rattle.he_record.specs.declared.reasons.LookupReason.{LookupReason}
 use Rattle.he_record.specs.Given.{end_given, lookup_given}
 use Rattle.he_record.specs.Said.{Said as RecordSaid}
-use Rattle.he_story.specs.Recorded.{because_facts, course_said, is_unknown_at, reason_at, say, unknown_facts}
+use Rattle.he_story.specs.Ends.{cut_at}
+use Rattle.he_story.specs.Recorded.{because_facts, course_said, reason_at, say}
 use Rattle.he_story.specs.declared.happening.TheConstants.{LEAST_PAUSE}
 use Rattle.he_story.specs.declared.said.Said.{Said}
 use Rattle.he_story.specs.declared.said.Said.TheVariants as says
@@ -203,8 +204,9 @@ module _ {A : Type 0} (said : List RecordSaid) (course : Course A) where
   kind_facts tick late (kinds.Won place) =
       became_facts says.Won place (taken course.transcript.lines place tick) late
   kind_facts tick late (kinds.Cancelled place) =
-      became_facts says.Cancelled place (taken course.transcript.lines place tick) None
-      ++ unknown_facts (is_unknown_at said course.transcript.lines place)
+      became_facts
+      (cut_at said course.delay course.transcript.lines place (taken course.transcript.lines place tick)) place
+      (taken course.transcript.lines place tick) None
   kind_facts tick late kinds.Exhausted = say says.Exhausted []
   kind_facts tick late kinds.Limit = say says.Limit []
   kind_facts tick late kind = met_facts tick late kind

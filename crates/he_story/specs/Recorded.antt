@@ -1,8 +1,9 @@
 -- The facts of a race's record: where and when it was recorded, and what its client did.
-use Rattle.std.specs.Prelude.{ℕ, if◌then◌else◌, ◌++◌, Bool, true, false, List, [], ◌∷◌, map, nat_lt, slice_get, slice_range, take, Option, Some, None}
+use Rattle.std.specs.Prelude.{ℕ, if◌then◌else◌, ◌++◌, List, [], ◌∷◌, map, nat_lt, slice_get, slice_range, take, Option, Some, None}
 use Rattle.std.specs.Option.{option_map_or}
 use Rattle.he_addr.specs.declared.ip.Family.{Family}
 use Rattle.he_addr.specs.declared.ip.Ip.{Ip}
+use Rattle.he_addr.specs.declared.ip.Ip.TheVariants.{V6}
 use Rattle.he_plan.specs.declared.transcript.Line.{Line}
 use Rattle.he_course.specs.declared.course.Seen.{Seen}
 use Rattle.he_print.specs.declared.part.Fact.{Fact}
@@ -12,9 +13,9 @@ use Rattle.he_record.specs.declared.reasons.AttemptReason.{AttemptReason}
 use Rattle.he_record.specs.declared.reasons.ClientEnd.{ClientEnd}
 use Rattle.he_record.specs.declared.reasons.ClientEnd.TheVariants as ends
 use Rattle.he_record.specs.declared.reasons.LookupReason.{LookupReason}
-use Rattle.he_record.specs.Given.{at_given, attempt_given, from_given, is_untried_given, lookup_given, to_given}
+use Rattle.he_record.specs.Given.{at_given, attempt_given, from_given, lookup_given, to_given}
 use Rattle.he_record.specs.Moments.{moment_text}
-use Rattle.he_record.specs.Said.{Said as RecordSaid, ServerSaid, UntriedSaid, ticks_of}
+use Rattle.he_record.specs.Said.{Said as RecordSaid, Nat64Said, ServerSaid, UntriedSaid, ticks_of}
 use Rattle.he_story.specs.declared.said.Said.{Said}
 use Rattle.he_story.specs.declared.said.Said.TheVariants as says
 
@@ -83,16 +84,10 @@ abbrev pub because_facts : Option AttemptReason → List (Fact Said)
 because_facts None = []
 because_facts (Some reason) = say (says.Because reason) []
 
--- no client tried the address of the attempt of this place: the attempt's outcome is not known
-abbrev pub is_unknown_at : List RecordSaid → List Line → ℕ → Bool
-is_unknown_at said lines place = option_map_or (λ line. is_untried_given line.ip said) (slice_get lines place) false
-
-abbrev pub unknown_facts : Bool → List (Fact Said)
-unknown_facts false = []
-unknown_facts true = say says.OutcomeUnknown []
-
--- a name server that was given up, why, and after how many milliseconds; an address that no client tried
+-- a NAT64 prefix of the network; a name server that was given up, why, and after how many milliseconds; an address
+-- that no client tried
 abbrev pub note_facts : RecordSaid → List (Fact Said)
 note_facts (ServerSaid ip reason ticks) = say (says.Server reason) (facts.Ip ip ∷ facts.Number ticks ∷ [])
+note_facts (Nat64Said prefix) = say says.Nat64Prefix (facts.Ip (V6 prefix.bits) ∷ facts.Number prefix.len ∷ [])
 note_facts (UntriedSaid ip) = say says.NobodyTried (facts.Ip ip ∷ [])
 note_facts line = []

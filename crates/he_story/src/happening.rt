@@ -4,8 +4,9 @@ ghost use Rattle.std.specs.Prelude.{◌≡◌, ◌++◌, IfOk, OnOk};
 ghost use Rattle.std.specs.List.{flat_map};
 ghost use Rattle.he_story.specs.Lines.{became_facts, cause_facts, event_facts, happening_facts, held_facts, is_seen_by, is_short, is_short_to, kind_facts, late_at, late_facts, listed_facts, met_facts, other_facts, other_of, reply_facts, short_pauses, start_facts, taken, told};
 
+use crate::ends::cut_at;
 use crate::preferred::width_of;
-use crate::recorded::{course_said, is_unknown_at, reason_at};
+use crate::recorded::{course_said, reason_at};
 use crate::said::Said;
 use crate::story::Story;
 use crate::words::{name_of, noun, turn_words};
@@ -255,8 +256,8 @@ impl<A: Allocator> Story<A> {
             }
             EventKind::Cancelled(place) => {
                 let taken = taken(lines, place, event.tick);
-                self.tell_became(Said::Cancelled, place, taken, None)?;
-                self.tell_unknown(is_unknown_at(recorded, lines, place))
+                let said = cut_at(recorded, course.delay, lines, place, taken);
+                self.tell_became(said, place, taken, None)
             }
             EventKind::Exhausted => self.tell(Said::Exhausted, &[]),
             EventKind::Limit => self.tell(Said::Limit, &[]),

@@ -1,4 +1,4 @@
-// The first line of a story: the race, how it ended, and how much time it lost.
+// The first lines of a story: the race, how it ended, how much time it lost, and where its time went.
 
 ghost use Rattle.std.specs.Prelude.{◌≡◌, ◌++◌, IfOk, OnOk};
 ghost use Rattle.std.specs.List.{flat_map};
@@ -8,7 +8,7 @@ ghost use Rattle.he_story.specs.Story.{ending_facts, heading_facts, outcome_fact
 
 use crate::said::Said;
 use crate::story::Story;
-use crate::words::noun;
+use crate::words::{noun, version_of};
 use he_addr::Memory;
 use he_course::{Course, Ended};
 use he_plan::Outcome3;
@@ -24,7 +24,11 @@ impl<A: Allocator> Story<A> {
         let noun = Part::Words(noun(ended.attempts, b"attempt", b"attempts"));
         match ended.result {
             Outcome3::Won(_, tick) => match ended.winner {
-                Some(line) => self.tell(Said::Connected, &[Part::Ip(line.ip), Part::Number(tick)]),
+                Some(line) => {
+                    let version = Part::Words(version_of(line.ip.family()));
+                    let parts = [version, Part::Ip(line.ip), Part::Number(tick)];
+                    self.tell(Said::Connected, &parts)
+                }
                 None => Ok(()),
             },
             Outcome3::Exhausted(tick) => {
@@ -63,7 +67,7 @@ impl<A: Allocator> Story<A> {
     {
         self.tell_place(is_named, course.number, course.line)?;
         self.tell_client(recorded.end())?;
-        self.tell_ending(course.ended)
+        self.tell_result(recorded, course.transcript.attempts(), course.ended)
     }
 
     // The number of the race and its line, in brackets after its record's names.
@@ -79,13 +83,14 @@ impl<A: Allocator> Story<A> {
     // A blank line comes first, unless it is the first race.
     pub(crate) fn tell_heading<B: Allocator, C: Allocator>(
         &mut self,
+        alloc: A,
         course: &Course<B>,
         recorded: &Record<'_, C>,
     ) -> Result<(), Memory>
         ensures { OnOk result (told self.new ≡ told self.old ++ heading_facts recorded.now course.now) }
     {
         self.tell_race(noun(course.number, b"", b"\n"), course, recorded)?;
-        self.tell_verdict(course, recorded)
+        self.tell_verdict(alloc, course, recorded)
     }
 }
 

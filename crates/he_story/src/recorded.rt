@@ -5,7 +5,7 @@ ghost use Rattle.std.specs.List.{flat_map};
 ghost use Rattle.he_record.specs.Left.{said_of, target_shown};
 ghost use Rattle.he_record.specs.declared.moment.TheConstants.{MOMENT_LEN};
 ghost use Rattle.he_story.specs.Lines.{told};
-ghost use Rattle.he_story.specs.Recorded.{because_facts, byte_facts, client_address_facts, client_facts, course_said, is_unknown_at, moment_facts, named_facts, note_facts, reason_at, target_facts, time_facts, unknown_facts, unseen_reason, why_facts};
+ghost use Rattle.he_story.specs.Recorded.{because_facts, byte_facts, client_address_facts, client_facts, course_said, moment_facts, named_facts, note_facts, reason_at, target_facts, time_facts, unseen_reason, why_facts};
 
 use crate::said::Said;
 use crate::story::Story;
@@ -51,20 +51,6 @@ pub(crate) fn reason_at<A: Allocator>(
     match lines.get(place) {
         Some(line) => recorded.attempt(line.ip),
         None => None,
-    }
-}
-
-// Whether no client tried the address of the attempt of this place.
-pub(crate) fn is_unknown_at<A: Allocator>(
-    recorded: &Record<'_, A>,
-    lines: &[Line],
-    place: usize,
-) -> bool
-    ensures { result ≡ is_unknown_at recorded.now lines.now place }
-{
-    match lines.get(place) {
-        Some(line) => recorded.is_untried(line.ip),
-        None => false,
     }
 }
 
@@ -190,23 +176,20 @@ impl<A: Allocator> Story<A> {
         }
     }
 
-    pub(crate) fn tell_unknown(&mut self, is_unknown: bool) -> Result<(), Memory>
-        ensures { OnOk result (told self.new ≡ told self.old ++ unknown_facts is_unknown) }
-    {
-        if is_unknown {
-            self.tell(Said::OutcomeUnknown, &[])
-        } else {
-            Ok(())
-        }
-    }
-
-    // A name server that was given up, or an address that no client tried.
+    // A NAT64 prefix of the network, a name server that was given up, or an address that no client tried.
     fn tell_note(&mut self, line: RecordLine<'_>) -> Result<(), Memory>
         ensures { OnOk result (told self.new ≡ told self.old ++ note_facts (said_of line.entry)) }
     {
         match line {
             RecordLine::Server(ip, reason, ticks) => {
                 self.tell(Said::Server(reason), &[Part::Ip(ip), Part::Number(ticks)])
+            }
+            RecordLine::Nat64(prefix) => {
+                let parts = [
+                    Part::Ip(Ip::V6(prefix.bits)),
+                    Part::Number(u64::from(prefix.len)),
+                ];
+                self.tell(Said::Nat64Prefix, &parts)
             }
             RecordLine::Untried(ip) => self.tell(Said::NobodyTried, &[Part::Ip(ip)]),
             _ => Ok(()),

@@ -39,7 +39,9 @@ impl<A: Allocator> Story<A> {
         }
         Ok(())
     }
+}
 
+impl<A: Allocator + Copy> Story<A> {
     fn tell_all<B: Allocator, C: Allocator>(
         &mut self,
         alloc: A,
@@ -48,7 +50,7 @@ impl<A: Allocator> Story<A> {
     ) -> Result<(), Memory>
         ensures { OnOk result (told self.new ≡ told self.old ++ story_facts recorded.now course.now) }
     {
-        self.tell_heading(course, recorded)?;
+        self.tell_heading(alloc, course, recorded)?;
         self.tell_preferred(&course.addresses)?;
         self.tell_events(alloc, course, recorded)?;
         self.tell_closing(course, recorded)?;
@@ -57,10 +59,11 @@ impl<A: Allocator> Story<A> {
     }
 }
 
-/// Appends the story of a course to `out`: a line on how the race ended and how much time it lost; its usable
-/// addresses in order of preference, each with its source and the reason that sorts it after the one before; its
-/// events in order of ticks, each after its tick in milliseconds; then the answers that did not come, or came after
-/// the end, how long an answer waited for the first attempt at one of its addresses, and how the race would have
+/// Appends the story of a course to `out`: a line on how the race ended, how much time it lost, and on which attempts,
+/// or how long it waited for names if that is most of it; a line on where all of its time went, by its account; its
+/// usable addresses in order of preference, each with its source and the reason that sorts it after the one before;
+/// its events in order of ticks, each after its tick in milliseconds; then the answers that did not come, or came
+/// after the end, how long an answer waited for the first attempt at one of its addresses, and how the race would have
 /// ended with a floor, if earlier.
 ///
 /// What the race's record says is part of it: host, port, client's address and time, in the first line; the recorded

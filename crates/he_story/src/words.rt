@@ -9,6 +9,63 @@ use he_select::DestinationRule;
 /// Words, in pieces: a part of the statement comes between each two pieces, in order.
 pub(crate) type Pieces = &'static [&'static [u8]];
 
+const NOTHING_LEFT: Pieces = &[
+    b"not connected: nothing is left to try after ",
+    b" ms and ",
+    b" ",
+    b"",
+];
+
+const NONE_ANSWERED: Pieces = &[
+    b"not connected: timed out after ",
+    b" ms; ",
+    b" ",
+    b" ",
+    b"",
+];
+
+const SOME_FAILED: Pieces = &[
+    b"not connected: timed out after ",
+    b" ms; ",
+    b" of ",
+    b" addresses failed",
+];
+
+const TIME_WENT: Pieces = &[
+    b"\nwhere the time went: names ",
+    b" ms, lost ",
+    b" ms, connecting ",
+    b" ms",
+];
+
+const UNKNOWN_TIME: Pieces = &[
+    b"; round trip time unknown, the one before ",
+    b" ms (RFC 8305 section 4)",
+];
+
+const WAITS: Pieces = &[
+    b"wait for the AAAA answer until ",
+    b" ms (Resolution Delay)",
+];
+
+const FLOOR_IS_OVER: Pieces = &[
+    b"all before have failed, and the floor of ",
+    b" ms after attempt ",
+    b" is over",
+];
+
+const PASSED: Pieces = &[
+    b"\n",
+    b" ms passed between the ",
+    b" answer and the first attempt at one of its addresses",
+];
+
+const NAT64_PREFIX: Pieces = &[
+    b"\nthe network's NAT64 has the IPv4 addresses by ",
+    b"/",
+    b"",
+];
+
 pub(crate) fn words_of(said: Said) -> Pieces {
     match said {
         Said::Target | Said::Moment => &[],
@@ -18,21 +75,26 @@ pub(crate) fn words_of(said: Said) -> Pieces {
         Said::ClientFailed => &[b"the client failed after ", b" ms"],
         Said::ByRules => &[b"; by RFC 8305: "],
         Said::Race => &[b"", b"race ", b", line ", b"", b": "],
-        Said::Connected => &[b"connected to ", b" after ", b" ms"],
-        Said::NothingLeft => &[
-            b"not connected: nothing is left to try after ",
-            b" ms and ",
-            b" ",
-            b"",
-        ],
-        Said::LimitReached => &[b"not connected by the limit of ", b" ms, after ", b" ", b""],
+        Said::Connected => &[b"connected by ", b" (", b") in ", b" ms"],
+        Said::NothingLeft => NOTHING_LEFT,
+        Said::LimitReached => &[b"not connected: timed out after ", b" ms and ", b" ", b""],
+        Said::NoneToTry => &[b"not connected: no address to try in ", b" ms"],
+        Said::NotLookedUp(reason) => not_looked_up_words(reason),
+        Said::ByServer(reason) => by_server_words(reason),
+        Said::EachFailed(reason) => each_failed_words(reason),
+        Said::NoneAnswered => NONE_ANSWERED,
+        Said::SomeFailed => SOME_FAILED,
         Said::NothingLost => &[b"; nothing lost"],
-        Said::Lost => &[b"; ", b" ms lost:"],
-        Said::WaitForAaaa => &[b" the wait for the AAAA answer"],
-        Said::HadFailed => &[b"", b" ", b" failed"],
-        Said::GaveNoAnswer => &[b"", b" ", b" gave no answer"],
-        Said::NotTried => &[b"", b" ", b" was not tried"],
-        Said::More => &[b" and ", b" more"],
+        Said::Lost => &[b"; ", b" ms lost"],
+        Said::LostOn => &[b" on ", b" (", b")"],
+        Said::LostPart => &[b"", b" ", b" on ", b" (", b")"],
+        Said::More => &[b" and on ", b" more"],
+        Said::LostAlone => &[b" with no address left to try"],
+        Said::LostRest => &[b", ", b" with no address left to try"],
+        Said::NamesSlow => &[b"; ", b" of ", b" ms waiting for DNS"],
+        Said::TimeWent => TIME_WENT,
+        Said::MachineTook => &[b", this machine ", b" ms"],
+        Said::UnknownTook => &[b", unknown ", b" ms"],
         Said::NoAddress => &[b"\nno address to try"],
         Said::Preferred => &[b"\npreferred, once every answer is known:"],
         Said::Address => &[b"\n", b". ", b""],
@@ -43,12 +105,7 @@ pub(crate) fn words_of(said: Said) -> Pieces {
         Said::NoSource => &[b", not reachable: no source address"],
         Said::NoRoute => &[b", not reachable: no route"],
         Said::Rule(rule) => rule_words(rule),
-        Said::UnknownTime => {
-            &[
-                b"; round trip time unknown, the one before ",
-                b" ms (RFC 8305 section 4)",
-            ]
-        }
+        Said::UnknownTime => UNKNOWN_TIME,
         Said::Course => &[b"\ncourse:"],
         Said::CourseByRules => &[b"\ncourse by RFC 8305:"],
         Said::At => &[b"\n", b" ms  "],
@@ -58,30 +115,22 @@ pub(crate) fn words_of(said: Said) -> Pieces {
         Said::ToTry => &[b": ", b" ", b" to try"],
         Said::Lookup(_, reason) => lookup_words(reason),
         Said::StillMissing(_) => &[b"; the ", b" answer is not there yet"],
-        Said::Waits => &[
-            b"wait for the AAAA answer until ",
-            b" ms (Resolution Delay)",
-        ],
+        Said::Waits => WAITS,
         Said::DelayOver => &[b"the wait is over, without the AAAA answer"],
         Said::Starts => &[b"attempt ", b" to ", b": "],
         Said::Failed => &[b"attempt ", b" failed after ", b" ms"],
         Said::Because(reason) => because_words(reason),
         Said::Won => &[b"attempt ", b" connected after ", b" ms"],
-        Said::Cancelled => &[b"attempt ", b" cancelled after ", b" ms"],
-        Said::OutcomeUnknown => &[b"; no client tried it: its outcome is unknown"],
+        Said::Silent => &[b"attempt ", b": no answer in ", b" ms"],
+        Said::Stopped => &[b"attempt ", b" stopped after ", b" ms"],
+        Said::Unknown => &[b"attempt ", b": no client tried it, unknown after ", b" ms"],
         Said::Exhausted => &[b"nothing is left to try"],
         Said::Limit => &[b"the limit: the race is given up"],
         Said::AaaaThere => &[b"the AAAA answer is there"],
         Said::BothThere => &[b"both answers are there"],
         Said::WaitIsOver => &[b"the wait for the AAAA answer is over"],
         Said::AfterStart => &[b"", b" ms after the start of attempt ", b""],
-        Said::FloorIsOver => {
-            &[
-                b"all before have failed, and the floor of ",
-                b" ms after attempt ",
-                b" is over",
-            ]
-        }
+        Said::FloorIsOver => FLOOR_IS_OVER,
         Said::AllFailed => &[b"all before have failed"],
         Said::CameWith(_) => &[b"it came with the ", b" answer"],
         Said::HeldBack => &[b", late because of a pause"],
@@ -91,17 +140,99 @@ pub(crate) fn words_of(said: Said) -> Pieces {
         Said::AfterEnd(_) => &[b"\nthe ", b" answer came at ", b" ms, after the end"],
         Said::Why(reason) => why_words(reason),
         Said::Untried(_) => &[b"\nno address of the ", b" answer was tried"],
-        Said::Passed(_) => {
-            &[
-                b"\n",
-                b" ms passed between the ",
-                b" answer and the first attempt at one of its addresses",
-            ]
-        }
+        Said::Passed(_) => PASSED,
         Said::Server(reason) => server_words(reason),
+        Said::Nat64Prefix => NAT64_PREFIX,
         Said::NobodyTried => &[b"\nno client tried ", b": its outcome is unknown"],
         Said::WithFloor => &[b"\nwith `set floor ", b"`: "],
         Said::End => &[b"\n"],
+    }
+}
+
+fn not_looked_up_words(reason: LookupReason) -> Pieces {
+    match reason {
+        LookupReason::NoSuchName => &[b"not connected: no such name (", b" ms)"],
+        LookupReason::NoAddress => &[b"not connected: the name has no address (", b" ms)"],
+        LookupReason::NoAnswer => {
+            &[
+                b"not connected: the name could not be looked up in ",
+                b" ms: no answer",
+            ]
+        }
+        LookupReason::Refused => {
+            &[
+                b"not connected: the name could not be looked up in ",
+                b" ms: refused",
+            ]
+        }
+        LookupReason::Failed => {
+            &[
+                b"not connected: the name could not be looked up in ",
+                b" ms: the name servers failed",
+            ]
+        }
+        LookupReason::Malformed => {
+            &[
+                b"not connected: the name could not be looked up in ",
+                b" ms: a malformed answer",
+            ]
+        }
+        LookupReason::NotAsked => &[b"not connected: the name was not looked up (", b" ms)"],
+        LookupReason::Nat64 => &[
+            b"not connected: no address to try through NAT64 in ",
+            b" ms",
+        ],
+    }
+}
+
+// What a name server that was given up did.
+fn by_server_words(reason: ServerReason) -> Pieces {
+    match reason {
+        ServerReason::Silent => &[b" (", b" did not answer)"],
+        ServerReason::Refused => &[b" (", b" refused)"],
+        ServerReason::Failed => &[b" (", b" failed)"],
+        ServerReason::Unreachable => &[b" (", b" was unreachable)"],
+    }
+}
+
+// `all 2 addresses refused (11 ms)`
+fn each_failed_words(reason: Option<AttemptReason>) -> Pieces {
+    match reason {
+        Some(AttemptReason::Refused) => &[b"not connected: ", b" ", b" ", b" refused (", b" ms)"],
+        Some(AttemptReason::Unreachable) => {
+            &[b"not connected: ", b" ", b" ", b" unreachable (", b" ms)"]
+        }
+        Some(AttemptReason::TimedOut) => &[
+            b"not connected: ",
+            b" ",
+            b" ",
+            b" timed out (",
+            b" ms)",
+        ],
+        Some(AttemptReason::Reset) => {
+            &[
+                b"not connected: ",
+                b" ",
+                b" ",
+                b" reset the connection (",
+                b" ms)",
+            ]
+        }
+        Some(AttemptReason::Forbidden) => {
+            &[b"not connected: ", b" ", b" ", b" forbidden (", b" ms)"]
+        }
+        Some(AttemptReason::NoSource) => {
+            &[
+                b"not connected: ",
+                b" ",
+                b" ",
+                b" without a source address (",
+                b" ms)",
+            ]
+        }
+        Some(AttemptReason::Other) | None => {
+            &[b"not connected: ", b" ", b" ", b" failed (", b" ms)"]
+        }
     }
 }
 
@@ -115,6 +246,7 @@ fn lookup_words(reason: LookupReason) -> Pieces {
         LookupReason::Failed => &[b"", b": the name servers failed"],
         LookupReason::Malformed => &[b"", b": a malformed answer"],
         LookupReason::NotAsked => &[b"", b": not asked"],
+        LookupReason::Nat64 => &[b"", b": through NAT64"],
     }
 }
 
@@ -128,6 +260,7 @@ fn why_words(reason: LookupReason) -> Pieces {
         LookupReason::Failed => &[b": the name servers failed"],
         LookupReason::Malformed => &[b": a malformed answer"],
         LookupReason::NotAsked => &[b": not asked"],
+        LookupReason::Nat64 => &[b": through NAT64"],
     }
 }
 
@@ -196,6 +329,25 @@ pub(crate) fn turn_words(turn: Turn, family: Family) -> &'static [u8] {
         (Turn::InTurn, _) => b"IPv6 and IPv4 in turn",
         (Turn::RunOut, Family::V6) => b"IPv6 alone is left",
         (Turn::RunOut, Family::V4) => b"IPv4 alone is left",
+    }
+}
+
+/// The word for the end of an attempt: `connected`, `failed`, `no answer`, `stopped` or `unknown`.
+pub fn end_word(said: Said) -> &'static [u8] {
+    match said {
+        Said::Failed => b"failed",
+        Said::Silent => b"no answer",
+        Said::Stopped => b"stopped",
+        Said::Unknown => b"unknown",
+        _ => b"connected",
+    }
+}
+
+// The name of a family's addresses.
+pub(crate) fn version_of(family: Family) -> &'static [u8] {
+    match family {
+        Family::V6 => b"IPv6",
+        Family::V4 => b"IPv4",
     }
 }
 
