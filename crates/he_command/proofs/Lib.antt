@@ -1,6 +1,9 @@
+mod Checked
 mod Ended
 mod Files
 mod Kept
+mod RaceObjects
+mod Rounds
 mod Service
 mod Shown
 mod Whole

@@ -1,8 +1,10 @@
+pub mod Checks
 pub mod Connection
 pub mod Files
 pub mod Live
 pub mod Names
 pub mod Objects
+pub mod Probes
 pub mod Proxies
 pub mod Records
 pub mod Run

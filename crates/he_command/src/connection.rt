@@ -1,10 +1,12 @@
-//! `he connect`: connects, records and relays.
+//! `he connect`: connects, records and relays; or only checks.
 ghost use Rattle.std.specs.Prelude.{◌≡◌, is_some};
+ghost use Rattle.he_command.specs.Checks.{DoesConnection};
 ghost use Rattle.he_command.specs.Connection.{EndsRace, EndsShown, EndsWon, MakesConnection, RelaysTo};
 ghost use Rattle.he_command.specs.Objects.{ShowsRace};
 ghost use Rattle.he_tasks.specs.Status.{status_of};
 ghost use Rattle.he_tasks.specs.declared.reports.TheConstants.{FAULT};
 
+use crate::check::{judge, run_check};
 use crate::objects::{race_object, show_object};
 use crate::port::number_of;
 use crate::race_request::race_of;
@@ -18,11 +20,30 @@ use he_stream::{FromReader, InputStream, OutputStream, ToWriter};
 use he_tasks::reports::{report, report_of, report_path};
 use he_tasks::session::report_unwritten;
 use he_tasks::{DONE, FAULT, NO_CONNECTION, Session};
+use std::alloc::Global;
 use std::io::Write;
 use std::net::TcpStream;
 
+// Checks the requested connection, or makes it.
+pub(crate) fn run_connection<R: System, I: InputStream, O: OutputStream + Send, F: Write>(
+    session: &mut Session<'_, '_, R, O, F>,
+    connection: &Connection<'_>,
+    environment: Environment<'_>,
+    input: &mut I,
+) -> u8
+    ensures { DoesConnection ⟦<FromReader<R::File> as InputStream>⟧ ⟦<ToWriter<R::File> as OutputStream>⟧
+        O.OutputStream environment.entry connection.now connection.now.checks session.old.output session.new.output
+        result }
+{
+    if connection.checks {
+        run_check(session, connection, environment)
+    } else {
+        run_connect(session, connection, environment, input)
+    }
+}
+
 // Races for the requested connection, keeps the record, and relays to the end.
-pub(crate) fn run_connect<R: System, I: InputStream, O: OutputStream + Send, F: Write>(
+fn run_connect<R: System, I: InputStream, O: OutputStream + Send, F: Write>(
     session: &mut Session<'_, '_, R, O, F>,
     connection: &Connection<'_>,
     environment: Environment<'_>,
@@ -46,8 +67,7 @@ pub(crate) fn run_connect<R: System, I: InputStream, O: OutputStream + Send, F: 
     };
     match race(rt, alloc, &request, &mut session.faults) {
         Ok(run) => {
-            let _ = session.faults.write_all(run.story.as_slice());
-            let _ = session.faults.write_all(run.told.as_slice());
+            tell_race(alloc, connection, &run, &mut session.faults);
             let kept = keep_record(session, connection.record, place, &run.text);
             end_race(session, connection, kept, run, input)
         }
@@ -55,6 +75,26 @@ pub(crate) fn run_connect<R: System, I: InputStream, O: OutputStream + Send, F: 
             discard_record(rt, place);
             report_race(session, fault, &request)
         }
+    }
+}
+
+// Prints the story of the race, if requested, and its report. With the steps of a race that is only tried, prints how
+// it connected. A failed write is ignored.
+fn tell_race<F: Write>(
+    alloc: Global,
+    connection: &Connection<'_>,
+    run: &FinishedRace,
+    faults: &mut F,
+) {
+    let _ = faults.write_all(run.story.as_slice());
+    let _ = faults.write_all(run.told.as_slice());
+    let is_asked = connection.tells_steps && connection.only_tries && !connection.explains;
+    if is_asked
+        && run.connection.is_some()
+        && let Ok(verdict) = judge(alloc, 0, &run.text)
+    {
+        let heading = verdict.heading.as_str();
+        let _ = writeln!(faults, "he: {heading}");
     }
 }
 
@@ -164,7 +204,7 @@ fn report_relay<R, O: OutputStream, F: Write>(
 }
 
 // Prints why no race was run, and returns the exit status.
-fn report_race<R, O, F: Write>(
+pub(crate) fn report_race<R, O, F: Write>(
     session: &mut Session<'_, '_, R, O, F>,
     fault: ConnectFault,
     request: &ConnectRequest<'_>,

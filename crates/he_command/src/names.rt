@@ -1,8 +1,9 @@
 //! `he names`.
 ghost use Rattle.std.specs.Prelude.{◌≡◌, ◌⊎◌, IfOk, OnOk};
 ghost use Rattle.he_command.specs.Files.{WasWritten};
-ghost use Rattle.he_command.specs.Names.{FindsNames, IsLookupText, KeepsLookup, RunsNames};
+ghost use Rattle.he_command.specs.Names.{FindsNames, IsLookupText, RunsLookup, RunsNames, WasKept};
 ghost use Rattle.he_command.specs.Objects.{ShowsNames};
+ghost use Rattle.he_command.specs.Probes.{family_status};
 ghost use Rattle.he_tasks.specs.Status.{status_of};
 
 use crate::objects::{names_object, show_object};
@@ -47,8 +48,8 @@ fn run_kept<R: System, O: OutputStream, F: Write>(
     names: Names<'_>,
     lookup: &mut LookupReport,
 ) -> u8
-    ensures { RunsNames ⟦<ToWriter<R::File> as OutputStream>⟧ O.OutputStream names.entry session.old.output
-        session.new.output result }
+    ensures { RunsLookup ⟦<ToWriter<R::File> as OutputStream>⟧ O.OutputStream names.entry lookup.new
+        session.old.output session.new.output result }
 {
     let Some(path) = names.record else {
         return find_names(session, names, lookup).status;
@@ -83,7 +84,7 @@ fn lines_of(
     lookup: &LookupReport,
     is_found: bool,
 ) -> Result<Vec<u8>, Memory>
-    ensures { IfOk result (λ text. IsLookupText text.items) }
+    ensures { IfOk result (λ text. IsLookupText lookup.now is_found text.items) }
 {
     if !is_found {
         return Ok(Vec::new(alloc));
@@ -103,8 +104,7 @@ fn keep_lines<R: Files>(
     name: NewName,
     text: Result<Vec<u8>, Memory>,
 ) -> io::Result<()>
-    requires { IfOk text (λ lines. IsLookupText lines.items) }
-    ensures { OnOk result (KeepsLookup (WasWritten ⟦<ToWriter<R::File> as OutputStream>⟧)) }
+    ensures { OnOk result (WasKept (WasWritten ⟦<ToWriter<R::File> as OutputStream>⟧) text) }
 {
     match text {
         Ok(text) => write_record(rt, file, name, &text),
@@ -121,7 +121,7 @@ fn find_names<R: System, O: OutputStream, F: Write>(
     names: Names<'_>,
     lookup: &mut LookupReport,
 ) -> NamesEnd
-    ensures { FindsNames O.OutputStream names.entry.is_json session.old.output session.new.output result.status }
+    ensures { FindsNames O.OutputStream names.entry.is_json session.old.output session.new.output result }
 {
     if names.is_json {
         return run_object(session, names, lookup);
@@ -151,7 +151,7 @@ fn run_object<R: System, O: OutputStream, F: Write>(
     names: Names<'_>,
     lookup: &mut LookupReport,
 ) -> NamesEnd
-    ensures { ShowsNames O.OutputStream session.old.output session.new.output result.status }
+    ensures { ShowsNames O.OutputStream session.old.output session.new.output result }
 {
     let (rt, alloc) = (session.system, session.alloc);
     let mut lines = ToWriter::new(Vec::new(alloc));
@@ -218,14 +218,14 @@ fn report_families<F: Write>(alloc: Global, lookup: &LookupReport, host: &str, f
 }
 
 // That the name has no address of the family is an answer and not a fault.
-fn report_family<F: Write>(
+pub(crate) fn report_family<F: Write>(
     alloc: Global,
     kind: &str,
     fault: Option<NamesFault>,
     host: &str,
     faults: &mut F,
 ) -> u8
-    ensures { (result ≡ DONE) ⊎ (result ≡ FAULT) }
+    ensures { result ≡ family_status fault }
 {
     match fault {
         None | Some(NamesFault::NoAddress | NamesFault::NoSuchName | NamesFault::NotAsked) => DONE,

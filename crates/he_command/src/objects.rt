@@ -1,13 +1,17 @@
 // Objects in place of lines: reads the lines as a race, and writes its contents as JSON.
-ghost use Rattle.std.specs.Prelude.{[], ◌∷◌, Result, None, false, IfOk};
-ghost use Rattle.he_course.specs.Course.{IsCourse};
+ghost use Rattle.std.specs.Prelude.{◌≡◌, [], ◌∷◌, List, Result, None, false, IfOk};
+ghost use Rattle.he_course.specs.Course.{IsRecordedCourse};
 ghost use Rattle.he_inputs.specs.Inputs.{HasRaces};
+ghost use Rattle.he_inputs.specs.Recorded.{IsRecordedAs};
+ghost use Rattle.he_record.specs.Given.{untried_given};
+ghost use Rattle.he_record.specs.Said.{Said};
+ghost use Rattle.he_timeline.specs.Race.{Race};
 ghost use Rattle.he_command.specs.Objects.{IsRaceObject, ShowsMade};
 ghost use Rattle.he_tasks.specs.Streams.{Shows};
 
-use he_addr::Family;
+use he_addr::{Family, Ip};
 use he_course::Course;
-use he_inputs::{NotOneRace, StreamFault, read_one_race};
+use he_inputs::{NotOneRace, StreamFault, read_one_race, record_of};
 use he_json::{write_explanation_json, write_machine_json, write_names_json};
 use he_record::Record;
 use he_stream::OutputStream;
@@ -54,23 +58,53 @@ pub(crate) fn names_object(
     Ok(object)
 }
 
-// The object of the course of a race, from the text of its record.
+// The object of a race with its record, from the text of both.
 pub(crate) fn race_object(alloc: Global, text: &[u8]) -> Result<Vec<u8>, StreamFault>
     ensures { IfOk result (λ object. IsRaceObject text.now object.items) }
 {
     let race = race_in(alloc, text)?;
-    let course = course_of(alloc, &race)?;
+    let recorded = record_in(alloc, text)?;
+    let untried = untried_in(alloc, &recorded)?;
+    let course = course_of(alloc, &race, &untried)?;
     let mut object = Vec::new(alloc);
-    match write_explanation_json(alloc, &course, &Record::none(alloc), None, &mut object) {
+    match write_explanation_json(alloc, &course, &recorded, None, &mut object) {
         Ok(()) => Ok(object),
         Err(_) => Err(StreamFault::Memory),
     }
 }
 
-fn course_of(alloc: Global, race: &Timeline) -> Result<Course<Global>, StreamFault>
-    ensures { IfOk result (IsCourse race.now 1 1) }
+// The record lines of the text of a race.
+pub(crate) fn record_in(alloc: Global, text: &[u8]) -> Result<Record<'_>, StreamFault>
+    ensures { (said : List Said) (race : Race) → IsRecordedAs text.now said race
+        → IfOk result (λ found. found ≡ said) }
 {
-    Course::of(alloc, race, 1, 1).map_err(|_| StreamFault::Memory)
+    match record_of(alloc, text) {
+        Ok(recorded) => Ok(recorded),
+        Err(_) => Err(StreamFault::Memory),
+    }
+}
+
+// The addresses that no client tried.
+pub(crate) fn untried_in(alloc: Global, recorded: &Record<'_>) -> Result<Vec<Ip>, StreamFault>
+    ensures { IfOk result (λ ips. ips.items ≡ untried_given recorded.now) }
+{
+    match recorded.untried(alloc) {
+        Ok(ips) => Ok(ips),
+        Err(_) => Err(StreamFault::Memory),
+    }
+}
+
+pub(crate) fn course_of(
+    alloc: Global,
+    race: &Timeline,
+    untried: &[Ip],
+) -> Result<Course<Global>, StreamFault>
+    ensures { IfOk result (IsRecordedCourse race.now untried.now 1 1) }
+{
+    match Course::recorded(alloc, race, untried, 1, 1) {
+        Ok(course) => Ok(course),
+        Err(_) => Err(StreamFault::Memory),
+    }
 }
 
 // The race with only these lines.
@@ -82,7 +116,7 @@ fn race_with(alloc: Global, lines: &[u8]) -> Result<Timeline, StreamFault> {
 }
 
 // The one race of a text.
-fn race_in(alloc: Global, text: &[u8]) -> Result<Timeline, StreamFault>
+pub(crate) fn race_in(alloc: Global, text: &[u8]) -> Result<Timeline, StreamFault>
     ensures { IfOk result (λ race. HasRaces text.now false (race ∷ []) None) }
 {
     read_one_race(alloc, text, false).map_err(fault_of)

@@ -16,7 +16,7 @@ use he_tasks::{Session, USAGE};
 use std::io::Write;
 
 const NOT_SYSTEM: &[u8] =
-    b"he: a proxy asks name servers alone: `--resolver system` does not go with it\n";
+    b"he: `--resolver system` cannot be used with `he proxy`: it queries name servers directly\n";
 
 // Serves the requested proxy, until a fault or a signal ends it.
 pub(crate) fn run_proxy<R: System, O: OutputStream, F: Write>(

@@ -1,13 +1,16 @@
 //! A run of the program with an input, an output and a writer of faults.
-ghost use Rattle.std.specs.Prelude.{IfOk, Result};
+ghost use Rattle.std.specs.Prelude.{◌≡◌, IfOk, Result};
 ghost use Rattle.he_names.specs.declared.environment.Environment.{Environment};
 ghost use Rattle.he_request.specs.Requests.{IsRequest};
+ghost use Rattle.he_command.specs.Checks.{refused_status};
 ghost use Rattle.he_command.specs.Run.{Refuses, RunsLine};
 
-use crate::connection::run_connect;
+use crate::check::{UNKNOWN, is_check};
+use crate::connection::run_connection;
 use crate::host::run_host;
 use crate::live::run_live;
 use crate::names::run_names;
+use crate::probe::run_probe;
 use crate::proxy::run_proxy;
 use crate::system::{System, Variables, columns_of};
 use crate::words::tell_short_timeout;
@@ -35,54 +38,73 @@ pub fn run_words<'a, R: System, I: InputStream, O: OutputStream + Send, F: Write
 ) -> u8
     ensures { (line : Result Request Refusal) × (environment : Environment) × IfOk line IsRequest
         × RunsLine I.InputStream ⟦<FromReader<R::File> as InputStream>⟧ ⟦<ToWriter<R::File> as OutputStream>⟧
-        O.OutputStream environment line input.old input.new session.old.output session.new.output result }
+        O.OutputStream environment words.now line input.old input.new session.old.output session.new.output result }
 {
     let line = read_words(session.alloc, words, VERSION, columns_of(session.system));
     tell_short_timeout(words, &line, &mut session.faults);
     let variables = Variables::read(session.system);
-    run_line(session, line, variables.environment(), input)
+    run_line(session, words, line, variables.environment(), input)
 }
 
-/// Runs a command line's request, and returns the exit status. The environment changes the resolver configuration.
+/// Runs the request of these words, and returns the exit status. The environment changes the resolver configuration.
 pub fn run_line<R: System, I: InputStream, O: OutputStream + Send, F: Write>(
     session: &mut Session<'_, '_, R, O, F>,
+    words: &[&str],
     line: Result<Request<'_>, Refusal>,
     environment: Environment<'_>,
     input: &mut I,
 ) -> u8
     requires { IfOk line IsRequest }
     ensures { RunsLine I.InputStream ⟦<FromReader<R::File> as InputStream>⟧ ⟦<ToWriter<R::File> as OutputStream>⟧
-        O.OutputStream environment.entry line.entry input.old input.new session.old.output session.new.output result }
+        O.OutputStream environment.entry words.now line.entry input.old input.new session.old.output
+        session.new.output result }
 {
     match line {
-        Ok(Request::Connect(connection)) => run_connect(session, &connection, environment, input),
+        Ok(Request::Connect(connection)) => run_connection(
+            session,
+            &connection,
+            environment,
+            input,
+        ),
         Ok(Request::Proxy(proxy)) => run_proxy(session, &proxy),
+        Ok(Request::Probe(probe)) => run_probe(session, &probe, environment),
         Ok(Request::Names(options)) => run_names(session, options),
         Ok(Request::Host(options)) => run_host(session, &options),
         Ok(Request::Live(options)) => run_live(session, &options, input),
-        Ok(Request::Texts(texts)) => run_texts(session, &texts, input),
-        Err(refusal) => refuse(session, &refusal),
+        Ok(Request::Texts(texts)) => run_texts(session, texts, input),
+        Err(refusal) => refuse(session, is_check(words), &refusal),
     }
 }
 
-// Handles a line without a command to run.
+// Handles a line without a command to run, which may be that of a check.
 fn refuse<R, O: OutputStream, F: Write>(
     session: &mut Session<'_, '_, R, O, F>,
+    checks: bool,
     refusal: &Refusal,
 ) -> u8
-    ensures { Refuses O.OutputStream refusal.now session.old.output session.new.output result }
+    ensures { Refuses O.OutputStream checks refusal.now session.old.output session.new.output result }
 {
     match refusal {
-        Refusal::Memory => report(StreamFault::Memory, &mut session.faults),
+        Refusal::Memory => {
+            let status = report(StreamFault::Memory, &mut session.faults);
+            refused_status(checks, status)
+        }
         Refusal::Help(text) => match format!(in session.alloc; "{text}") {
             Ok(text) => put_all(session, text.as_bytes(), false),
             Err(_) => report(StreamFault::Memory, &mut session.faults),
         },
         Refusal::Words(_) | Refusal::Option(_) | Refusal::Meant(_) => {
             tell_refusal(session.alloc, refusal, &mut session.faults);
-            USAGE
+            refused_status(checks, USAGE)
         }
     }
+}
+
+// The status of a line that is refused: of a check that of a plugin, otherwise this one.
+fn refused_status(is_check: bool, own: u8) -> u8
+    ensures { result ≡ refused_status is_check own }
+{
+    if is_check { UNKNOWN } else { own }
 }
 
 // Prints why a line is refused. Its words may have terminal control characters, so they are made visible.

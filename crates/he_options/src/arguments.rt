@@ -15,11 +15,14 @@ use std::str::FromStr;
 pub const STANDARD: &str = "-";
 
 /// The help of the files that a command reads.
-pub const FILES_HELP: &str = "Files to read, in order; default is standard input (-)";
+pub const FILES_HELP: &str = "\
+Files to read, in order; default is standard input (-).\n\
+Of a directory all files *.timeline in it are read";
 
 /// The help of files of which each has a line above what is written of it.
 pub const HEADED_FILES_HELP: &str = "\
 Files to read, in order; default is standard input (-).\n\
+Of a directory all files *.timeline in it are read.\n\
 Each of several has a line `==> NAME <==` above it";
 
 const VERBOSE_HELP: &str =

@@ -48,3 +48,8 @@ pub const MOST_SESSIONS: u32 = 100_000;
 pub const MOST_RECORDS: u32 = 100_000_000;
 
 pub const MOST_IDLE: u64 = 1_000_000_000;
+
+/// The most milliseconds between the starts of two probes, and the most rounds of probes.
+pub const MOST_PACE: u32 = 5_000;
+
+pub const MOST_ROUNDS: u32 = 1_000_000;

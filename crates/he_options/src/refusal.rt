@@ -55,6 +55,10 @@ pub enum OptionFault {
     Timeout,
     #[error("invalid value for '--idle <SECONDS>': expected 1 to 1000000 seconds, as 90 or 90s, or less, as 500ms")]
     Idle,
+    #[error("invalid value for '--interval <SECONDS>': expected 1 to 1000000 seconds, as 60 or 60s, or less, as 500ms")]
+    Interval,
+    #[error("invalid value for '--record <FILE>': `-` goes with none of --json, --openmetrics and -q")]
+    Output,
     #[error("invalid value for '--record': the name is empty")]
     NoName,
     #[error("more than 4294967296 files")]

@@ -46,12 +46,14 @@ pub enum Task {
     },
 }
 
-/// By what races are put into groups: their files, the hours in the names of these, or the families that won.
+/// By what races are put into groups: their files, the hours in the names of these, the families that won, or the
+/// hosts that were requested.
 #[derive(Clone, Copy)]
 pub enum By {
     File,
     Hour,
     Family,
+    Host,
 }
 
 /// What is written of a race.

@@ -1,2 +1,4 @@
+pub mod Families
+pub mod Probes
 pub mod Proxies
 pub mod Requests

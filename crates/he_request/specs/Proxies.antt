@@ -7,7 +7,7 @@ use Rattle.clap.specs.Matches.{first_value}
 use Rattle.clap.specs.declared.parser.matches.Found.{Found}
 use Rattle.he_addr.specs.Text.{SpellsPrefix}
 use Rattle.he_timeline.specs.Changes.{ChangeValues}
-use Rattle.he_request.specs.Requests.{AsksFamily}
+use Rattle.he_request.specs.Families.{AsksFamily}
 use Rattle.he_options.specs.Resolvers.{AsksResolver}
 use Rattle.he_options.specs.Times.{time_of}
 use Rattle.he_options.specs.Words.{AsksChanges, HasFlag, HasNumber, connect_settings, values_of}

@@ -15,6 +15,8 @@ use Rattle.he_options.specs.Words.{AsksChanges, HasFlag, HasNumber, connect_sett
 use Rattle.he_request.specs.declared.connect.Connection.{Connection}
 use Rattle.he_options.specs.declared.limits.TheConstants.{DEFAULT_WORKERS}
 use Rattle.he_request.specs.declared.live.Live.{Live}
+use Rattle.he_request.specs.Families.{AsksFamily}
+use Rattle.he_request.specs.Probes.{IsProbe}
 use Rattle.he_request.specs.declared.request.Request.{Request}
 use Rattle.he_request.specs.declared.request.Request.TheVariants as requests
 use Rattle.he_options.specs.declared.texts.By.{By}
@@ -30,6 +32,7 @@ abbrev pub IsRequest : Request → Type 0
 IsRequest (requests.Texts texts) = IsTexts texts
 IsRequest (requests.Live live) = IsPort live.port
 IsRequest (requests.Connect connection) = IsPort connection.port
+IsRequest (requests.Probe probe) = IsProbe probe
 IsRequest _ = Unit {0}
 
 -- a transcript, as JSON or not, by so many workers
@@ -49,7 +52,10 @@ AsksExplain found task =
 
 abbrev pub named_by : List ℕ → By
 named_by word =
-    if bytes_eq word (codes "hour") then by.Hour else if bytes_eq word (codes "family") then by.Family else by.File
+    if bytes_eq word (codes "hour") then by.Hour
+    else if bytes_eq word (codes "family") then by.Family
+    else if bytes_eq word (codes "host") then by.Host
+    else by.File
 
 -- all races in one, with so many of the slowest, or group by group
 abbrev pub IsSummary : {E : Type 0} → (List ℕ → Result ℕ E → Type 0) → Found → Bool → Option (List ℕ) → Task → Type 0
@@ -109,16 +115,6 @@ pub record AsksLive (found : Found) (live : Live) : Type 0 where
   pub must_connect : HasFlag found (codes "must-connect") live.must_connect
   pub verbose : HasFlag found (codes "verbose") live.verbose
 
--- the family that a line asks for alone, by -4 and -6
-abbrev pub only_of : Bool → Bool → Option Family
-only_of true six = Some families.V4
-only_of false true = Some families.V6
-only_of false false = None
-
-abbrev pub AsksFamily : Found → Option Family → Type 0
-AsksFamily found only =
-    (four six : Bool) × HasFlag found (codes "four") four × HasFlag found (codes "six") six × (only ≡ only_of four six)
-
 -- the host, the port and the settings of the line: where one is not given that of RFC 8305 section 8, and the least
 -- floor
 pub record AsksConnection {E : Type 0} (gives : List ℕ → Result ℕ E → Type 0) (found : Found)
@@ -137,3 +133,5 @@ pub record AsksConnection {E : Type 0} (gives : List ℕ → Result ℕ E → Ty
   pub tells_steps : HasFlag found (codes "verbose") connection.tells_steps
   pub only_tries : HasFlag found (codes "try") connection.only_tries
   pub is_json : HasFlag found (codes "json") connection.is_json
+  pub checks : HasFlag found (codes "check") connection.checks
+  pub warn : HasNumber gives found (codes "warn") connection.warn

@@ -21,14 +21,14 @@ one line, as
 
   3 races, 27 lines
 
-and standard error has a warning for each thing that is allowed but surely not
-meant, such as a race without an `aaaa` line, which cannot be exhausted.
-Otherwise standard output has nothing, and standard error has the first fault:
-its line number and text, a mark below what is wrong, and what was expected.
-Nothing after it is read. With --all it goes on at the next line `race 1` or
-`race 2` or record line, explains the first 1000 faults of a file, counts the
-others, and goes on with the next file. With --json standard output has all of
-that instead: the races, lines and warnings of a file, or its faults.
+and standard error has a warning for each likely mistake, such as a race without
+an `aaaa` line, which cannot be exhausted. Otherwise standard output has
+nothing, and standard error has the first fault: its line number and text, a
+mark below what is wrong, and what was expected. Nothing after it is read. With
+--all it goes on at the next line `race 1` or `race 2` or record line, explains
+the first 1000 faults of a file, counts the others, and goes on with the next
+file. With --json standard output has all of that instead: the races, lines and
+warnings of a file, or its faults.
 
 Example input:
 

@@ -12,7 +12,7 @@ use he_options::{Refusal, Task, Texts};
 use he_timeline::Changes;
 use std::alloc::Global;
 
-const ABOUT: &str = "Write what other settings would do to races";
+const ABOUT: &str = "Show what other settings would have changed";
 
 const SET_HELP: &str = "Override a setting in every race; repeatable.\n\
 NAME is attempt, resolution, count, limit or floor;\n\
@@ -26,22 +26,23 @@ const KEEP_GOING_HELP: &str = "Go on to the next file after a faulty one";
 
 const EXAMPLE: &str = "\
 Reads timelines, as `he replay` does. Standard output has one table of the races
-of all files: a row for them as they stand, and one for each setting that is
-given. It has the times to connect (the median, and the 90th and the 99th
+of all files: a row for the recorded settings, and one for each setting given.
+It has the times to connect (the median, and the 90th and the 99th
 percentile); the mean number of attempts; the share of won races that IPv6 won;
 and how many races were won sooner, later, at the same time, only with these
-settings, and only without them. Nothing is written before the end of the last
-file. In a file with a fault the races before it are compared.
+settings, only without them, and of how many this is unknown, since they try an
+address of a line `record untried`. Nothing is written before the end of the
+last file. In a file with a fault the races before it are compared.
 
 For the example of `he draw --help`, --set floor=10,200 gives:
 
-    p50    p90    p99  attempts    IPv6  sooner   later    same  only with  ..
-    300    300    300      2.00    0.0 %       0       0       1          0  ..
-     60     60     60      2.00    0.0 %       1       0       0          0  ..
-    250    250    250      2.00    0.0 %       1       0       0          0  ..
+  p50 ms  p90 ms  p99 ms  attempts       IPv6  sooner   later    same  ..
+     300     300     300      2.00      0.0 %       0       0       1  ..
+      60      60      60      2.00      0.0 %       1       0       0  ..
+     250     250     250      2.00      0.0 %       1       0       0  ..
 
 A floor above the attempt delay of a race changes nothing: the delay ends first.
-An address without a connect line is silent with other settings too.";
+Any other address without a connect line is silent with other settings too.";
 
 pub(crate) fn command<'a>(alloc: Global) -> Result<Command<'a>, Memory> {
     let set = value(alloc, "set", "NAME=N,..", SET_HELP)

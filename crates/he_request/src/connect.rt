@@ -3,7 +3,8 @@ ghost use Rattle.std.specs.Prelude.{◌≡◌, [], IfOk, codes, option_map};
 ghost use Rattle.std.specs.Option.{unwrap_or};
 ghost use Rattle.clap.specs.Matches.{first_value, found_of};
 ghost use Rattle.he_options.specs.Ports.{IsPort};
-ghost use Rattle.he_request.specs.Requests.{AsksConnection, AsksFamily};
+ghost use Rattle.he_request.specs.Families.{AsksFamily};
+ghost use Rattle.he_request.specs.Requests.{AsksConnection};
 
 use clap::{ArgMatches, Command, value_parser};
 use he_addr::{Family, Memory};
@@ -22,29 +23,37 @@ const ABOUT: &str = "Connect to a host, and relay standard input and output";
 const PORT_HELP: &str =
     "The TCP port: 1 to 65535, or the name of a service in\n/etc/services, as `https`";
 
-const TRY_HELP: &str = "Close the connection once it is made, with status 0";
+const TRY_HELP: &str = "Only check the port: connect, close, exit 0";
 
 const WAIT_HELP: &str = "Wait MS milliseconds for standard input after the\n\
 remote has closed its side; default is 500";
 
-pub(crate) const LINES_HELP: &str = "Take the source, route and policy lines of FILE\n\
-in place of this machine's own";
+pub(crate) const LINES_HELP: &str = "Read this machine's addresses, routes and policy\n\
+table from FILE, lines as `he host` prints them";
 
 const RECORD_HELP: &str = "Write the race to FILE, for `he replay`;\n\
 with -z `-` is standard output";
 
+const CHECK_HELP: &str = "As -z, with one line for a monitor; exit 0 if\n\
+connected, 1 if slowly, 2 if not, 3 after a fault";
+
+const WARN_HELP: &str = "With --check, exit 1 if more than MS milliseconds\n\
+were lost; default is 100";
+
 const JSON_HELP: &str = "With -z, write the race as one JSON object, as\n\
 `he explain --json`";
 
-const EXPLAIN_HELP: &str = "Explain the race on standard error, as `he explain`";
+const EXPLAIN_HELP: &str = "Explain the race and its look-up on standard error,\n\
+as `he explain`";
 
 const EXAMPLE: &str = "\
-Looks HOST up, both families at once, and tries its addresses as RFC 8305 says,
-each a little after the one before. The first connection is kept, the others are
-closed. Standard input is sent over it, and what the remote sends is written to
-standard output. The end of standard input ends sending only. `he connect` ends
-once the remote has closed its side and standard input gave nothing for half a
-second (--wait), or once standard output takes no more.
+Looks up AAAA and A in parallel and tries the addresses as RFC 8305 describes,
+the next one 250 ms after the last, or once that has failed. The first to
+connect is used; the others are closed. Standard input is sent over it, and what
+the remote sends is written to standard output. The end of standard input ends
+sending only. `he connect` exits when the remote has closed the connection and
+no input has arrived for half a second (--wait), or when standard output is
+closed.
 
 The defaults are attempt=250, resolution=50, count=1, limit=30000, floor=10.
 
@@ -59,33 +68,44 @@ With -z and --json standard output has the race, won or not, as one object:
 
   {\"file\":null,\"race\":1,\"line\":1,\"order\":[..],\"events\":[..]}
 
+With --check standard output has one line, as of a plugin of Nagios or Icinga:
+
+  CONNECT WARNING - example.org:443 connected by IPv4 (198.51.100.1) in 262 ms;
+    250 ms lost on 2001:db8::1 (no answer) | time=0.262s names=0.000s
+    lost=0.250s;0.100
+
 If nothing connects, standard error says what was tried:
 
   he: no connection to example.org port 443: 2 addresses tried: 2001:db8::1
     refused after 12 ms, 198.51.100.1 no answer in 30000 ms
 
 Exit status: 0 if a connection was made and relayed to its end; 3 if none was
-made; 1 after another fault; 2 for a command line that is refused, or a PORT
-that is not a service.";
+made; 1 after another fault; 2 on a usage error, or if PORT is not a service.
+With --check: 0 if a connection was made; 1 if it lost more than --warn; 2 if
+none was made; 3 after a fault or on a usage error.";
 
 // Its arguments, in the order in which help has them. They are made in one list: a chain of `arg`, each of which may
 // be refused memory, takes minutes to prove.
 pub(crate) fn command<'a>(alloc: Global) -> Result<Command<'a>, Memory> {
-    let six = letter(alloc, "six", '6', "Try IPv6 addresses alone").conflicts_with("four")?;
+    let six = letter(alloc, "six", '6', "Use IPv6 only").conflicts_with("four")?;
     let wait = value(alloc, "wait", "MS", WAIT_HELP);
+    let check = flag(alloc, "check", CHECK_HELP).conflicts_with("json")?;
+    let warn = value(alloc, "warn", "MS", WARN_HELP).requires_arg("check")?;
     let args = vec![in alloc;
         word(alloc, "host", "HOST", "The host: a name or an address").required(true),
         word(alloc, "port", "PORT", PORT_HELP).required(true),
-        letter(alloc, "four", '4', "Try IPv4 addresses alone"),
+        letter(alloc, "four", '4', "Use IPv4 only"),
         six,
         letter(alloc, "try", 'z', TRY_HELP),
         timeout(alloc),
         set(alloc),
         wait.value_parser(value_parser!(u32).range(0..=i64::from(MOST_WAIT))),
-        value(alloc, "host-lines", "FILE", LINES_HELP).long("host"),
+        value(alloc, "host-lines", "FILE", LINES_HELP).long("machine"),
         resolver_argument(alloc),
         value(alloc, "record", "FILE", RECORD_HELP),
         flag(alloc, "json", JSON_HELP),
+        check,
+        warn.value_parser(value_parser!(u32).range(0..=i64::from(MOST_WAIT))),
         flag(alloc, "explain", EXPLAIN_HELP),
         flag(
             alloc,
@@ -120,6 +140,10 @@ pub struct Connection<'a> {
     pub only_tries: bool,
     /// Whether the race of a connection that is only tried is written as JSON.
     pub is_json: bool,
+    /// Whether the connection is only tried, and one line has its result.
+    pub checks: bool,
+    /// The most milliseconds that a check loses without a warning, where that is given.
+    pub warn: Option<u32>,
     /// How long standard input is waited for once the remote has ended its way, in milliseconds, where that is given.
     pub wait: Option<u32>,
 }
@@ -134,7 +158,10 @@ pub(crate) fn connection_of<'a>(
     ensures asks { IfOk result (AsksConnection ⟦<u32 as FromStr>⟧.from_str_gives (found_of matches.now)) }
 {
     let record = record_of(matches)?;
-    let only_tries = flag_of(matches, "try");
+    let (only_tries, checks) = (flag_of(matches, "try"), flag_of(matches, "check"));
+    if record == Some(STANDARD) && checks {
+        return Err(OptionFault::Answers);
+    }
     if record == Some(STANDARD) && !only_tries {
         return Err(OptionFault::Record);
     }
@@ -155,12 +182,14 @@ pub(crate) fn connection_of<'a>(
         record,
         only_tries,
         is_json,
+        checks,
+        warn: matches.get_one::<u32>("warn"),
         wait: matches.get_one::<u32>("wait"),
     })
 }
 
 // The host that the line names.
-fn host_of<'a>(matches: &ArgMatches<'a>) -> &'a str
+pub(crate) fn host_of<'a>(matches: &ArgMatches<'a>) -> &'a str
     ensures { result.now ≡ unwrap_or (first_value (found_of matches.now) (codes "host")) [] }
 {
     match matches.get_str("host") {

@@ -47,12 +47,12 @@ Example input:
 
 Output of `he draw --ascii --width 72`:
 
-  race 1, line 1: connected to 198.51.100.1 after 300 ms
-  AAAA answer   |  o                                     | 20 ms, 1 usable
-  A answer      |   o                                    | 25 ms, 1 usable
-  2001:db8:1::1 |  x                                     | 20-21 ms failed
-  198.51.100.1  |                                   ====*| 270-300 ms won
-                 0                                 300 ms";
+  race 1, line 1: connected by IPv4 (198.51.100.1) in 300 ms
+  AAAA answer   |  o                                | 20 ms, 1 usable
+  A answer      |  o                                | 25 ms, 1 usable
+  2001:db8:1::1 |  x                                | 20-21 ms failed
+  198.51.100.1  |                              ====*| 270-300 ms connected
+                 0                            300 ms";
 
 pub(crate) fn command<'a>(alloc: Global) -> Result<Command<'a>, Memory> {
     let range = i64::from(LEAST_WIDTH)..=i64::from(MOST_WIDTH);
@@ -65,7 +65,7 @@ pub(crate) fn command<'a>(alloc: Global) -> Result<Command<'a>, Memory> {
     let html = alone_of(value(alloc, "html", "FILE", HTML_HELP))?;
     let args = vec![in alloc;
         files(alloc, HEADED_FILES_HELP),
-        flag(alloc, "ascii", "Draw with ASCII characters alone"),
+        flag(alloc, "ascii", "Use ASCII characters only"),
         width,
         svg,
         html,

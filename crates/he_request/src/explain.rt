@@ -10,20 +10,21 @@ use he_options::texts::alone;
 use he_options::{Content, Task};
 use std::alloc::Global;
 
-const ABOUT: &str = "Explain why races went as they did";
+const ABOUT: &str = "Explain each race: what was tried, when and why, and what cost time";
 
 const EXAMPLE: &str = "\
 Reads timelines, as `he replay` does. Standard output has for each race how it
-ended and what it lost; its usable addresses in order of preference, each with
-the source that the host uses for it, and what puts it after the one before (RFC
-6724 section 6, RFC 8305 section 4); what happened, by the millisecond, each
-attempt with its cause (RFC 8305 sections 3 to 5); and finally what had to wait,
-and whether a floor (`set floor 10`) would have helped. Attempts and addresses
-are counted from 1.
+ended, what it lost and where its time went; its usable addresses in order of
+preference, each with the source that the host uses for it, and what puts it
+after the one before (RFC 6724 section 6, RFC 8305 section 4); what happened, by
+the millisecond, each attempt with its cause (RFC 8305 sections 3 to 5); and
+finally what had to wait, and whether a floor (`set floor 10`) would have
+helped. Attempts and addresses are counted from 1.
 
 For the example of `he replay --help` it writes:
 
-  race 1, line 1: connected to 2001:db8:1::1 after 55 ms; nothing lost
+  race 1, line 1: connected by IPv6 (2001:db8:1::1) in 55 ms; nothing lost
+  where the time went: names 20 ms, lost 0 ms, connecting 35 ms
   preferred, once every answer is known:
     1. 2001:db8:1::1 from 2001:db8::2
     2. 198.51.100.1 from 192.0.2.2; precedence 35, the one before 40 (RFC 6724

@@ -6,7 +6,7 @@ use he_options::arguments::{flag, flag_of, plain, value};
 use he_options::{OptionFault, Refusal};
 use std::alloc::Global;
 
-const ABOUT: &str = "Write the addresses and routes of this machine as lines of a race";
+const ABOUT: &str = "Print this machine's addresses and routes";
 
 const FOR_HELP: &str = "Write the lines for these destinations alone, as the\n\
 kernel reaches them: IPv4 or IPv6 addresses";
@@ -17,8 +17,8 @@ const EXAMPLE: &str = "\
 Reads no input. Standard output has the `source` and `route` lines of this
 machine, as a race has them, from /proc/net and /sys/class/net. Standard error
 has a line for each address and each route that cannot be part of a race:
-addresses that are not in use yet, routes that lead nowhere, interfaces that are
-down, and whatever exceeds the 64 sources and 64 routes of a race.
+addresses that are not in use yet, unreachable and blackhole routes, interfaces
+that are down, and anything beyond 64 addresses or 64 routes.
 
 Of two routes to one prefix the one with the lower metric is taken. If no file
 has the interface of an IPv4 address, the kernel is asked for the source that it

@@ -12,7 +12,7 @@
 //! - What each part of a line asks for (`specs/Requests`): the files and the settings, the rows of a comparison, the
 //!   workers, what is written of each race, the file of a page; the port, the families, and the flags; the host of a
 //!   connection and how long it waits. The addresses and networks of a proxy are those that its texts name
-//!   (`specs/Proxies`).
+//!   (`specs/Proxies`). The times of `he probe` are in their ranges (`specs/Probes`).
 //!
 //! Only tested: which words clap takes, that a request has what its part of the line asks for, and what help and
 //! faults say.
@@ -28,6 +28,7 @@ pub mod live;
 mod meant;
 pub mod names;
 mod order;
+pub mod probe;
 pub mod proxy;
 mod replay;
 pub mod request;
@@ -37,5 +38,6 @@ pub use connect::Connection;
 pub use host::Host;
 pub use live::Live;
 pub use names::Names;
+pub use probe::{Probe, ProbeForm};
 pub use proxy::{Proxy, SessionLog};
 pub use request::{Request, read_words, takes_text};

@@ -14,7 +14,7 @@ use he_options::{OptionFault, Port, STANDARD};
 use he_timeline::Changes;
 use std::alloc::Global;
 
-const ABOUT: &str = "Run one race on real sockets, and write what happened";
+const ABOUT: &str = "Run one timeline with real connections, and print the result";
 
 const FILE_HELP: &str = "File to read; default is standard input (-)";
 
@@ -64,7 +64,7 @@ An attempt that this machine could not begin is reported without -v too:
   he: attempt 1 at 127.0.0.1 could not begin: too many open files
 
 Exit status: 0 whether or not a connection was made, but 3 with --must-connect
-if none was; 1 after a fault; 2 for a line that is refused.";
+if none was; 1 after a fault; 2 on a usage error.";
 
 pub(crate) fn command<'a>(alloc: Global) -> Result<Command<'a>, Memory> {
     let args = vec![in alloc;

@@ -5,13 +5,14 @@ use he_options::port::read_port;
 use std::alloc::Global;
 
 // The options of `he connect` that a value follows.
-const WITH_VALUE: [&str; 6] = [
+const WITH_VALUE: [&str; 7] = [
     "--timeout",
     "--set",
     "--wait",
-    "--host",
+    "--machine",
     "--resolver",
     "--record",
+    "--warn",
 ];
 
 // The host and the port that a line means.

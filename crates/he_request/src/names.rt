@@ -8,7 +8,7 @@ use he_options::resolver::{resolver_argument, resolver_of};
 use he_options::{OptionFault, Resolver, STANDARD};
 use std::alloc::Global;
 
-const ABOUT: &str = "Find the addresses of a host, as the answers of a race";
+const ABOUT: &str = "Look up a name (AAAA and A), with the time of each answer";
 
 const HOST_HELP: &str = "A host name, as www.example.com, or an address";
 
@@ -44,7 +44,7 @@ the look-up began, why a family has no address, and the name servers that did
 not answer.
 
 Exit status: 0 if an address was found and no look-up failed; 1 after a fault,
-such as a name that does not exist; 2 for a command line that is refused.";
+such as a name that does not exist; 2 on a usage error.";
 
 pub(crate) fn command<'a>(alloc: Global) -> Result<Command<'a>, Memory> {
     let host = word(alloc, "host", "HOST", HOST_HELP).required(true);

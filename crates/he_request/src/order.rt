@@ -9,7 +9,7 @@ use he_options::texts::alone;
 use he_options::{Content, Task};
 use std::alloc::Global;
 
-const ABOUT: &str = "Write the addresses of each race in their order of preference";
+const ABOUT: &str = "Print the addresses of each race in the order of RFC 6724";
 
 const EXAMPLE: &str = "\
 Reads timelines, as `he replay` does. Standard output has for each race its

@@ -21,7 +21,7 @@ use std::alloc::Global;
 use std::net::SocketAddr;
 use std::str::FromStr;
 
-const ABOUT: &str = "Serve SOCKS 5 and HTTP CONNECT, and race for each connection";
+const ABOUT: &str = "Serve SOCKS 5 and HTTP CONNECT with Happy Eyeballs";
 
 const LISTEN_HELP: &str = "Serve this address and port; repeatable;\n\
 default is 127.0.0.1:1080 and [::1]:1080";
@@ -29,8 +29,8 @@ default is 127.0.0.1:1080 and [::1]:1080";
 const ALLOW_HELP: &str = "Serve clients of NETWORK too, as 192.0.2.0/24;\n\
 repeatable. An address to listen on that is not a\nloopback address needs one";
 
-const PRIVATE_HELP: &str = "Connect clients of other machines to loopback,\n\
-link-local and private addresses too";
+const PRIVATE_HELP: &str = "Let clients on other machines reach loopback,\n\
+link-local and private addresses";
 
 const RESOLVER_HELP: &str = "The name server to ask: ADDRESS, ADDRESS:PORT,\n\
 [ADDRESS]:PORT or ADDRESS%INTERFACE;\n\
@@ -41,19 +41,17 @@ const RECORD_HELP: &str = "Write each race to a file of its own under DIR";
 const RECORD_MOST_HELP: &str =
     "Keep N records; the oldest days are removed first;\ndefault is 10000";
 
-const HISTORY_HELP: &str =
-    "Keep in FILE what is known of addresses that were\nconnected to, for a day";
+const HISTORY_HELP: &str = "Save connection times by address in FILE, for use\nafter a restart";
 
 const MOST_HELP: &str = "Serve N clients at once; default is 1000";
 
-const IDLE_HELP: &str = "Close a tunnel on which nothing came for so many\n\
-seconds, or as 90s; by default none is closed";
+const IDLE_HELP: &str = "Close a tunnel that is idle for SECONDS, or as 90s;\n\
+by default none is closed";
 
 const EXAMPLE: &str = "\
-Programs that know a proxy get the races of `he connect` by it. SOCKS 5 (with
-names, so that they are looked up here) and HTTP CONNECT are served on the same
-port. Each connection is looked up and raced as RFC 8305 says, and its tunnel
-lasts until both sides have closed theirs.
+Gives Happy Eyeballs (RFC 8305) to any program that supports a proxy. SOCKS 5
+and HTTP CONNECT share one port. Use socks5h:// so that the proxy looks up the
+name. A tunnel lasts until both sides have closed theirs.
 
 The defaults are attempt=250, resolution=50, count=1, limit=30000, floor=10.
 
@@ -64,47 +62,50 @@ Examples:
   git -c http.proxy=socks5h://127.0.0.1:1080 clone https://example.org/it.git
   ssh -o ProxyCommand='nc -X 5 -x 127.0.0.1:1080 %h %p' example.org
 
-A browser takes http://127.0.0.1:1080/proxy.pac as its proxy configuration.
+In a browser, set http://127.0.0.1:1080/proxy.pac as the automatic proxy
+configuration.
 
 With --record the race of each connection is a file of its own, which has its
 time (UTC) and target in its name, and which all commands read that take races:
 
   day/2026-11-26/16-34-40.123-example.org-443.timeline
 
-  he summary day/*/*.timeline
-  he draw --html day.html day/*/*.timeline
+  he summary day/
+  he draw --html day.html day/
 
 Of addresses that RFC 6724 leaves alike, one that was connected to in the last
 day from the same source comes first, the fastest before the others (RFC 8305
 section 4). With --history this is known after a restart too.
 
 Standard error has a line for each session: the time, the client, what it asked
-for, the address that won, milliseconds, milliseconds lost, bytes from the
-client and to it, and how it ended. With -q there is none.
+for, the address that won, the time to connect in milliseconds, the milliseconds
+lost on addresses that failed or did not answer, bytes from the client and to
+it, and how it ended. With -q there is none.
 
-It listens on loopback alone unless --allow says who else may come. Nobody else
-may reach this machine or a private network through it without --allow-private.
+It listens on loopback only, unless --allow names other networks. Their clients
+cannot reach this machine or private networks through the proxy, unless
+--allow-private is given.
 
-Exit status: 1 after a fault, as where an address is taken; 2 for a line that is
-refused. It goes on until a signal ends it.";
+Exit status: 1 after a fault, as where an address is taken; 2 on a usage error.
+It goes on until a signal ends it.";
 
 // Its arguments, in the order in which help has them.
 pub(crate) fn command<'a>(alloc: Global) -> Result<Command<'a>, Memory> {
-    let six = letter(alloc, "six", '6', "Try IPv6 addresses alone").conflicts_with("four")?;
+    let six = letter(alloc, "six", '6', "Use IPv6 only").conflicts_with("four")?;
     let quiet = flag(alloc, "quiet", "Write no line for a session")
         .short('q')
         .conflicts_with("log-json")?;
-    let most = value(alloc, "most", "N", MOST_HELP);
-    let records = value(alloc, "record-most", "N", RECORD_MOST_HELP);
+    let most = value(alloc, "most", "N", MOST_HELP).long("max-clients");
+    let records = value(alloc, "record-most", "N", RECORD_MOST_HELP).long("max-records");
     let args = vec![in alloc;
         value(alloc, "listen", "ADDR:PORT", LISTEN_HELP).action(ArgAction::Append),
         value(alloc, "allow", "NETWORK", ALLOW_HELP).action(ArgAction::Append),
         flag(alloc, "allow-private", PRIVATE_HELP),
-        letter(alloc, "four", '4', "Try IPv4 addresses alone"),
+        letter(alloc, "four", '4', "Use IPv4 only"),
         six,
         timeout(alloc),
         set(alloc),
-        value(alloc, "host-lines", "FILE", LINES_HELP).long("host"),
+        value(alloc, "host-lines", "FILE", LINES_HELP).long("machine"),
         value(alloc, "resolver", "RESOLVER", RESOLVER_HELP),
         value(alloc, "record", "DIR", RECORD_HELP),
         records.value_parser(value_parser!(u32).range(1..=i64::from(MOST_RECORDS))),

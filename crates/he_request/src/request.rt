@@ -1,4 +1,4 @@
-//! What a command line asks for.
+//! The requests that command lines make.
 ghost use Rattle.std.specs.Prelude.{IfOk};
 ghost use Rattle.he_options.specs.Texts.{HasTaskWorkers};
 ghost use Rattle.he_request.specs.Requests.{IsRequest};
@@ -8,9 +8,10 @@ use crate::host::Host;
 use crate::live::Live;
 use crate::meant::or_meant;
 use crate::names::Names;
+use crate::probe::Probe;
 use crate::proxy::Proxy;
 use crate::{
-    check, compare, connect, draw, explain, host, live, names, order, proxy, replay, summary,
+    check, compare, connect, draw, explain, host, live, names, order, probe, proxy, replay, summary,
 };
 use clap::{ArgMatches, Command, Error};
 use he_addr::Memory;
@@ -18,13 +19,15 @@ use he_options::texts::texts_of;
 use he_options::{Refusal, Task, Texts};
 use std::alloc::Global;
 
-/// What a command line asks for.
+/// A request that a command line makes.
 #[derive(Drop)]
 pub enum Request<'a> {
     /// To connect, and to relay standard input and output.
     Connect(Connection<'a>),
-    /// To serve programs that know a proxy.
+    /// To serve as a proxy.
     Proxy(Proxy<'a>),
+    /// To connect to each address of a host.
+    Probe(Probe<'a>),
     /// To find the addresses of a host.
     Names(Names<'a>),
     /// To write the addresses and routes of this machine.
@@ -35,13 +38,14 @@ pub enum Request<'a> {
     Texts(Texts<'a>),
 }
 
-const ABOUT: &str = "Connect to hosts as Happy Eyeballs has it (RFC 8305, RFC 6724), and record,\n\
-replay, explain, draw and compare such races";
+const ABOUT: &str =
+    "Connect with Happy Eyeballs (RFC 8305, RFC 6724); record connections, and find\n\
+out why they were slow";
 
 const EXIT_STATUS: &str = "\
-Exit status: 0 on success; 1 after a fault, which standard error reports; 2 for
-a command line that is refused; 3 if `connect` or `live --must-connect` made no
-connection.";
+Exit status: 0 on success; 1 on an error, reported on standard error; 2 on a
+usage error; 3 if `connect`, `probe` or `live --must-connect` made no
+connection; 4 if `probe` found addresses that don't connect.";
 
 // The command line of the program, with these commands.
 fn command<'a>(
@@ -59,9 +63,9 @@ fn command<'a>(
 }
 
 // The commands, in the order of use.
-const COMMANDS: [&str; 12] = [
-    "connect", "proxy", "names", "host", "live", "replay", "explain", "draw", "summary", "compare",
-    "order", "check",
+const COMMANDS: [&str; 13] = [
+    "connect", "proxy", "probe", "names", "host", "live", "replay", "explain", "draw", "summary",
+    "compare", "order", "check",
 ];
 
 // The commands that a line needs: the one that its first word names, none for the version, and else all, which help
@@ -88,6 +92,7 @@ fn command_of<'a>(alloc: Global, name: &str) -> Result<Option<Command<'a>>, Memo
     let command = match name {
         "connect" => connect::command(alloc)?,
         "proxy" => proxy::command(alloc)?,
+        "probe" => probe::command(alloc)?,
         "names" => names::command(alloc)?,
         "host" => host::command(alloc)?,
         "live" => live::command(alloc)?,
@@ -155,6 +160,10 @@ fn request_of<'a>(
             Err(fault) => Err(Refusal::from(fault)),
         },
         "proxy" => Ok(Request::Proxy(proxy::proxy_of(alloc, matches)?)),
+        "probe" => match probe::probe_of(alloc, matches) {
+            Ok(probe) => Ok(Request::Probe(probe)),
+            Err(fault) => Err(Refusal::from(fault)),
+        },
         "names" => Ok(Request::Names(names::names_of(alloc, matches)?)),
         "host" => Ok(Request::Host(host::host_of(alloc, matches)?)),
         "live" => match live::live_of(matches) {

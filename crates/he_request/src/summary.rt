@@ -11,7 +11,7 @@ use he_options::{By, Task};
 use std::alloc::Global;
 use std::str::FromStr;
 
-const ABOUT: &str = "Sum up how races went";
+const ABOUT: &str = "Summarize races: times, share of IPv6, time lost, dead addresses";
 
 const JSON_HELP: &str = "Write the sums as one JSON object, on one line";
 
@@ -19,39 +19,39 @@ const METRICS_HELP: &str = "Write the counts and times as OpenMetrics text";
 
 const SLOWEST_HELP: &str = "Add the N slowest races that were won, each with its\nfile and line";
 
-const BY_HELP: &str = "Write a row for each file, hour or family; hours are\n\
-those in the names that `he proxy --record` gives,\n\
-the family is that of the address that won";
+const BY_HELP: &str = "Write a row for each file, hour, family or host; hours\n\
+are those in the names that `he proxy --record` gives,\n\
+the family is that of the address that won, the host\n\
+is that of the record lines";
 
 // The words for groups.
-const GROUPS: &[&str] = &["file", "hour", "family"];
+const GROUPS: &[&str] = &["file", "hour", "family", "host"];
 
 const KEEP_GOING_HELP: &str = "Go on to the next file after a faulty one";
 
 const EXAMPLE: &str = "\
 Reads timelines, as `he replay` does. Standard output has one summary of the
-races of all files: how many were won, and by which family; the times to
-connect, with their percentiles; how many races lost time to addresses that
-failed or were silent, and how much, from the winner's answer to its attempt;
-the attempts; in how many races the Resolution Delay was waited out (RFC 8305
-section 3); and the ten addresses to which most attempts failed or were silent.
-Nothing is written before the end of the last file. In a file with a fault the
-races before it count; standard error says how many files were not read to
-their end. With --by there is a table of groups of races, and no addresses.
+races of all files: how many connected, how many not and why; the times to
+connect, with what of them waited for the names and was lost; what the time of
+all races went into; the attempts; in how many races the AAAA answer was not
+there 50 ms after the A answer (the Resolution Delay, RFC 8305 section 3); and
+the ten addresses that cost the most time. Nothing is written before the end of
+the last file. In a file with a fault the races before it count; standard error
+says how many files were not read to their end. With --by there is a table of
+groups of races, and no addresses.
 
-For the example of `he draw --help` it writes (lines are broken here):
+For the example of `he draw --help` it writes:
 
-  1 race: 1 won (100.0 %), 0 by IPv6 (0.0 %), 1 by IPv4 (100.0 %),
-    0 exhausted (0.0 %), 0 at the limit (0.0 %)
-  time to connect: median 300 ms, 90 of 100 within 300 ms, 99 of 100 within
-    300 ms, greatest 300 ms
-  lost to addresses that failed: in 1 race (100.0 %), 245 ms in all,
-    median 245 ms, greatest 245 ms
-  no time was lost to silent addresses
+  1 race: 1 connected (100.0 %)
+  connected by IPv4: 1 (100.0 %)
+                           median       p90       p99       max  ms
+  time to connect             300       300       300       300
+    of it names                20        20        20        20
+    of it lost                250       250       250       250
+  where the time went: names 20 ms, lost 250 ms, connecting 30 ms
   attempts: 2, at most 2 in a race
-  the Resolution Delay was waited out in 0 races (0.0 %)
-  failed or silent most often:
-    1 failed, 0 silent of 1 attempt to 2001:db8:1::1";
+    attempts    failed no answer   lost ms  address
+           1         1         0       250  2001:db8:1::1";
 
 pub(crate) fn command<'a>(alloc: Global) -> Result<Command<'a>, Memory> {
     let metrics = flag(alloc, "openmetrics", METRICS_HELP)
@@ -103,6 +103,8 @@ fn named_by(word: &str) -> By
         By::Hour
     } else if word == "family" {
         By::Family
+    } else if word == "host" {
+        By::Host
     } else {
         By::File
     }

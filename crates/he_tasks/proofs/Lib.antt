@@ -1,2 +1,3 @@
+mod FilesOf
 mod InTurn
 mod PageParts

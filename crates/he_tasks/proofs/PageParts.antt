@@ -7,10 +7,9 @@ use Rattle.he_words.specs.Ranges.{most_races}
 use Rattle.he_words.specs.declared.fault.TextFault.{TextFault}
 use Rattle.he_stream.specs.declared.stream.InputStream as inputs
 use Rattle.he_stream.specs.declared.stream.OutputStream as outputs
-use Rattle.he_stream.specs.Input.{Gives, GivesSoFar}
 use Rattle.he_inputs.specs.HeldInputs.{GivesBy}
 use Rattle.he_inputs.specs.Inputs.{HasRaces, line_count}
-use Rattle.he_inputs.specs.RaceStreams.{EndsRaces, HandsNext, HasHanded, StopsRaces, StreamState, at_start}
+use Rattle.he_inputs.specs.RaceStreams.{EndsRaces, HandsNext, StopsRaces, StreamState, at_start}
 use Rattle.he_inputs.specs.StreamFaults.{fault_of_reader}
 use Rattle.he_inputs.specs.declared.input_fault.InputFault.{InputFault}
 use Rattle.he_inputs.specs.declared.input_fault.InputFault.TheVariants as faults
@@ -26,8 +25,8 @@ use Rattle.he_streaming.specs.Rounds.{WritesText}
 use Rattle.he_streaming.specs.Stream.{PutsSome, TellsSome}
 use Rattle.he_streaming.proofs.Further.{round_failed}
 use Rattle.he_streaming.proofs.RaceTexts.{AreTold-append, told_at}
-use Rattle.he_summary.specs.Steps.{AddsRace, HasRead}
-use Rattle.he_summary.specs.Summed.{HasAdded, Sums}
+use Rattle.he_summary.specs.Steps.{AddsRace}
+use Rattle.he_summary.specs.Summed.{Sums}
 use Rattle.he_summary.proofs.Walked.{all_added, none_read, one_more}
 use Rattle.he_tasks.specs.Pages.{HasPut, IsPart, PutsAll, PutsParts, PutsRaces, PutsSections, PutsSure}
 use Rattle.he_tasks.specs.Streams.{Gave, GaveSoFar, TookAll, TookPart, TookRounds, TookRoundsPart}

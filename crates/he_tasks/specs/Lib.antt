@@ -1,3 +1,4 @@
+pub mod Directories
 pub mod Pages
 pub mod Status
 pub mod Streams

@@ -1,15 +1,18 @@
 -- The summary or the comparison of the texts that a line names.
-use Rattle.std.specs.Prelude.{◌≡◌, ◌≢◌, ◌⊎◌, ℕ, Bool, true, false, List, [], ◌∷◌, length, map, Option, Some, None, Result, Err, if◌then◌else◌}
+use Rattle.std.specs.Prelude.{◌≡◌, ◌≢◌, ◌⊎◌, ℕ, Bool, true, false, List, [], ◌∷◌, codes, length, map, Option, Some, None, Result, Err, if◌then◌else◌}
 use Rattle.he_timeline.specs.Changes.{ChangeValues}
 use Rattle.he_stream.specs.declared.stream.InputStream as inputs
 use Rattle.he_stream.specs.declared.stream.OutputStream as outputs
 use Rattle.he_compare.specs.Groups.{IsGroupTable}
 use Rattle.he_compare.specs.Lines.{AreLines}
 use Rattle.he_compare.specs.Table.{IsTable}
+use Rattle.he_compare.specs.Worst.{IsWorst}
 use Rattle.he_compare.specs.declared.grouping.By.{By as Dividing}
 use Rattle.he_compare.specs.declared.grouping.By.TheVariants as dividing
+use Rattle.he_compare.specs.declared.verdict.Finish.TheVariants.{NotWon}
+use Rattle.he_summary.specs.Hosts.{AreNamed, Named, at_hosts}
 use Rattle.he_summary.specs.Kept.{Run, kept_of}
-use Rattle.he_summary.specs.Summed.{Adds, HasSummed, Sums}
+use Rattle.he_summary.specs.Summed.{Adds, HasSummed, Sums, host_of}
 use Rattle.he_summary.specs.Written.{IsWritten}
 use Rattle.he_summary.specs.declared.figures.Form.{Form}
 use Rattle.he_summary.specs.declared.figures.Form.TheVariants as forms
@@ -61,7 +64,7 @@ form_of json metrics = if metrics then forms.Metrics else if json then forms.Jso
 
 -- the lines of races, if they are asked for
 abbrev pub AreLinesOf : Bool → Form → List Kept → List ℕ → List ℕ → Type 0
-AreLinesOf true form kept old new = AreLines form None kept old new
+AreLinesOf true form kept old new = AreLines form NotWon kept old new
 AreLinesOf false form kept old new = new ≡ old
 
 -- a table of `rows` rows, after the lines
@@ -69,21 +72,68 @@ abbrev pub IsCompared : Bool → Form → List Kept → ℕ → List ℕ → Lis
 IsCompared races form kept rows old new =
     (between : List ℕ) × AreLinesOf races form kept old between × IsTable form kept 0 rows between new
 
--- the names of the files of a line, as they may be shown
-abbrev pub shown_names : Texts → List (List ℕ)
-shown_names texts = map (λ file. shown file.now) texts.files.items
+-- the name of a file in a form: in JSON, which escapes it, as it is; otherwise as a terminal may show it
+abbrev pub name_in : Form → List ℕ → List ℕ
+name_in forms.Json name = name
+name_in form name = shown name
 
--- the criterion that divides the races
-abbrev pub by_of : By → Dividing
-by_of by.File = dividing.File
-by_of by.Hour = dividing.Hour
-by_of by.Family = dividing.Family
+-- the names of the files of a line
+abbrev pub names_in : Form → Texts → List (List ℕ)
+names_in form texts = map (λ file. name_in form file.now) texts.files.items
+
+-- the table of these races by their files, by the hours in the names of these, or by the families that won
+abbrev pub AreDivided : Form → Dividing → Texts → List Run → List ℕ → List ℕ → Type 0
+AreDivided form by texts runs old new =
+    IsGroupTable form (record { by = by; names = names_in form texts }) (map kept_of runs) old new
+
+-- the table of these races by their hosts, each race with the place of its host
+abbrev pub AreByHost : Form → List Run → List ℕ → List ℕ → Type 0
+AreByHost form runs old new =
+    (hosts : Named) × AreNamed (map host_of runs) hosts
+    × IsGroupTable form (record { by = dividing.Host; names = hosts.names })
+    (at_hosts hosts.places (map kept_of runs)) old new
+
+-- the table of these races by what is asked for
+abbrev pub AreGrouped : Form → By → Texts → List Run → List ℕ → List ℕ → Type 0
+AreGrouped form by.File texts runs old new = AreDivided form dividing.File texts runs old new
+AreGrouped form by.Hour texts runs old new = AreDivided form dividing.Hour texts runs old new
+AreGrouped form by.Family texts runs old new = AreDivided form dividing.Family texts runs old new
+AreGrouped form by.Host texts runs old new = AreByHost form runs old new
+
+-- the line on the worst hour of these races, by the names of their files
+abbrev pub IsWorstHour : Texts → List Run → List ℕ → List ℕ → Type 0
+IsWorstHour texts runs old new =
+    IsWorst (codes "worst hour: ") (record { by = dividing.Hour; names = names_in forms.Text texts })
+    (map kept_of runs) old new
+
+-- the line on their worst host
+abbrev pub IsWorstHost : List Run → List ℕ → List ℕ → Type 0
+IsWorstHost runs old new =
+    (hosts : Named) × AreNamed (map host_of runs) hosts
+    × IsWorst (codes "worst host: ") (record { by = dividing.Host; names = hosts.names })
+    (at_hosts hosts.places (map kept_of runs)) old new
+
+-- both lines
+abbrev pub AreWorstGroups : Texts → List Run → List ℕ → List ℕ → Type 0
+AreWorstGroups texts runs old new =
+    (between : List ℕ) × IsWorstHour texts runs old between × IsWorstHost runs between new
+
+-- both as text; no line in another form
+abbrev pub AreWorst : Form → Texts → List Run → List ℕ → List ℕ → Type 0
+AreWorst forms.Text texts runs old new = AreWorstGroups texts runs old new
+AreWorst forms.Json texts runs old new = new ≡ old
+AreWorst forms.Metrics texts runs old new = new ≡ old
+
+-- a summary of these races with the worst of their groups
+abbrev pub IsSummary : Form → Texts → List Run → ℕ → List ℕ → List ℕ → Type 0
+IsSummary form texts runs slowest old new =
+    (between : List ℕ) × IsWritten form runs slowest old between × AreWorst form texts runs between new
 
 -- a summary of these races, of all or group by group, or a comparison
 abbrev pub IsTold : Task → Texts → List Run → List ℕ → List ℕ → Type 0
-IsTold (Summarize json metrics slowest) texts runs old new = IsWritten (form_of json metrics) runs slowest old new
-IsTold (Group json by) texts runs old new =
-    IsGroupTable (form_of json false) (record { by = by_of by; names = shown_names texts }) (map kept_of runs) old new
+IsTold (Summarize json metrics slowest) texts runs old new =
+    IsSummary (form_of json metrics) texts runs slowest old new
+IsTold (Group json by) texts runs old new = AreGrouped (form_of json false) by texts runs old new
 IsTold (Compare json races) texts runs old new =
     IsCompared races (form_of json false) (map kept_of runs) (length texts.labels.items) old new
 IsTold _ texts runs old new = Unit {0}

@@ -7,6 +7,7 @@ use Rattle.he_options.specs.declared.texts.Texts.{Texts}
 use Rattle.he_stream.specs.declared.stream.InputStream as inputs
 use Rattle.he_stream.specs.declared.stream.OutputStream as outputs
 use Rattle.he_summary.specs.Summed.{HasSummed, Sums}
+use Rattle.he_tasks.specs.Directories.{HasFilesOf}
 use Rattle.he_tasks.specs.Status.{first_fault}
 use Rattle.he_tasks.specs.Streams.{TookAll, TookPart}
 use Rattle.he_tasks.specs.Summaries.{EndsTexts, keeps, rows_of}
@@ -64,3 +65,10 @@ DoesTexts input file page output texts first last before after status =
     MatchOption texts.page
     (WritesTexts input file output texts first last before after status)
     (λ _. (after ≡ before) × WritesFile input file page texts first last status)
+
+-- so for the files of the line's names; or there was no memory for these, and nothing was read
+abbrev pub DoesNamed : {I F P O : Type 0} → inputs.Ghosts I → inputs.Ghosts F → outputs.Ghosts P → outputs.Ghosts O
+    → Texts → I → I → O → O → ℕ → Type 0
+DoesNamed input file page output texts first last before after status =
+    ((named : Texts) × HasFilesOf texts named × DoesTexts input file page output named first last before after status)
+    ⊎ ((status ≡ FAULT) × (last ≡ first) × (after ≡ before))

@@ -7,6 +7,7 @@
 //!
 //! - Each text is replayed, checked or summed up as its crate specifies, with the settings of the line, and the
 //!   status reports how it ended (`specs/Texts`, `specs/Status`).
+//! - The files of a line are read in its order, `-` for the input; a directory may have several (`specs/Directories`).
 //! - Files are read one after the other, with `-` for the input, up to the first that can't be opened or has a fault,
 //!   or all of them with --keep-going and `check --all`; the status is that of the first fault. If there are several,
 //!   the output of `explain` and `draw` for each follows its heading, whose name has no character that controls a
@@ -16,11 +17,12 @@
 //! - `he summary` writes one summary of the races of all texts, each up to its first fault, and `he compare` one
 //!   table of them, or nothing if memory was refused (`specs/Summaries`).
 //!
-//! Only tested: which files are opened and when they take their names, and the words of faults and their
-//! explanations.
+//! Only tested: which files a directory has, which are opened and when they take their names, and the words of faults
+//! and their explanations.
 #![tactic(auto)]
 
 mod content;
+mod directories;
 mod files;
 pub mod name;
 mod page;

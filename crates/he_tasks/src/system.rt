@@ -6,9 +6,9 @@ use std::rt::Files;
 use std::thread::Threads;
 
 /// Memory, files, random numbers and threads.
-pub trait TaskSystem: AllocGlobal + Files + RandomSource + Threads + Sync {}
+pub trait TaskSystem: AllocGlobal + Files + RandomSource + Threads + Sync + Copy {}
 
 impl<R> TaskSystem for R
 where
-    R: AllocGlobal + Files + RandomSource + Threads + Sync,
+    R: AllocGlobal + Files + RandomSource + Threads + Sync + Copy,
 {}

@@ -1,9 +1,10 @@
 //! The output for all the texts that a line names, to the output or to a file.
-ghost use Rattle.std.specs.Prelude.{◌≡◌, IfOk, OnErr, OnOk, true};
+ghost use Rattle.std.specs.Prelude.{◌≡◌, IfOk, OnErr, OnOk, map, string_bytes, true};
 ghost use Rattle.he_options.specs.Texts.{IsTexts};
 ghost use Rattle.he_tasks.specs.Summaries.{keeps, rows_of};
-ghost use Rattle.he_tasks.specs.Whole.{DoesTexts, FillsFile, HasHead, LacksStart, WritesFile, WritesTexts, is_page};
+ghost use Rattle.he_tasks.specs.Whole.{DoesNamed, DoesTexts, FillsFile, HasHead, LacksStart, WritesFile, WritesTexts, is_page};
 
+use crate::directories::files_of;
 use crate::files::run_all;
 use crate::name::Name;
 use crate::page::put_head;
@@ -24,8 +25,46 @@ use std::io::Write;
 use std::mem::drop;
 
 /// Runs the task on the texts of the named files, or on the input's if none is named, into the output or into the
-/// file of a page, and returns the exit status.
+/// file of a page, and returns the exit status. A directory has the files in it and in its directories whose names
+/// end in `.timeline`, in the order of their names.
 pub fn run_texts<R: TaskSystem, I: InputStream, O: OutputStream, F: Write>(
+    session: &mut Session<'_, '_, R, O, F>,
+    texts: Texts<'_>,
+    input: &mut I,
+) -> u8
+    requires { IsTexts texts }
+    ensures { DoesNamed I.InputStream ⟦<FromReader<R::File> as InputStream>⟧ ⟦<ToWriter<R::File> as OutputStream>⟧
+        O.OutputStream texts.entry input.old input.new session.old.output session.new.output result }
+{
+    let (rt, alloc) = (session.system, session.alloc);
+    let Ok(files) = files_of(rt, alloc, texts.files.as_slice()) else {
+        drop(texts);
+        return report(StreamFault::Memory, &mut session.faults);
+    };
+    let Ok(names) = names_of(alloc, &files) else {
+        drop(texts);
+        return report(StreamFault::Memory, &mut session.faults);
+    };
+    let texts = Texts {
+        files: names,
+        ..texts
+    };
+    run_files(session, &texts, input)
+}
+
+// The names as text.
+fn names_of<'f>(alloc: Global, files: &'f [String]) -> Result<Vec<&'f str>, Memory>
+    ensures { IfOk result (λ names. map (λ name. name.now) names.items ≡ map string_bytes files.now) }
+{
+    let mut names = Vec::new(alloc);
+    for file in files {
+        names.push(file.as_str())?;
+    }
+    Ok(names)
+}
+
+// As `run_texts`, without directories.
+fn run_files<R: TaskSystem, I: InputStream, O: OutputStream, F: Write>(
     session: &mut Session<'_, '_, R, O, F>,
     texts: &Texts<'_>,
     input: &mut I,

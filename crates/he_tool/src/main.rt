@@ -75,5 +75,6 @@ where
     }
     let mut input = FromReader::new(Waiting::input(rt.stdin()));
     let variables = Variables::read(system);
-    run_line(&mut session, line, variables.environment(), &mut input)
+    let environment = variables.environment();
+    run_line(&mut session, words, line, environment, &mut input)
 }

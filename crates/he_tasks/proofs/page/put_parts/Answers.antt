@@ -1,4 +1,4 @@
-use Rattle.std.proofs.Common.{◌≡◌, ◌+◌, ◌≤◌, ◌++◌, ℕ, List, [], Result, Err, ap, append_assoc, sym, subst, arith}
+use Rattle.std.proofs.Common.{◌+◌, ◌≤◌, ◌++◌, ℕ, List, [], Result, Err, ap, append_assoc, sym, subst, arith}
 use Rattle.he_words.specs.Ranges.{most_races}
 use Rattle.he_inputs.specs.HeldInputs.{GivesBy}
 use Rattle.he_inputs.specs.RaceStreams.{StreamState, at_start}
