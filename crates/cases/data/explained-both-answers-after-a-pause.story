@@ -1,4 +1,5 @@
-race 1, line 1: connected to 198.51.100.1 after 65 ms; 35 ms lost: the wait for the AAAA answer
+race 1, line 1: connected by IPv4 (198.51.100.1) in 65 ms; nothing lost
+where the time went: names 40 ms, lost 0 ms, connecting 20 ms, this machine 5 ms
 preferred, once every answer is known:
   1. 198.51.100.1 from 192.0.2.2
 course:

@@ -1,4 +1,5 @@
-race 1, line 1: not connected: nothing is left to try after 105 ms and 2 attempts
+race 1, line 1: not connected: all 2 addresses failed (105 ms); 65 ms lost: 60 on 2001:db8:1::1 (failed), 5 on 198.51.100.1 (failed)
+where the time went: names 20 ms, lost 65 ms, connecting 0 ms, this machine 20 ms
 preferred, once every answer is known:
   1. 2001:db8:1::1 from 2001:db8::2
   2. 198.51.100.1 from 192.0.2.2; precedence 35, the one before 40 (RFC 6724 rule 6)

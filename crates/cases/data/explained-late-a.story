@@ -1,4 +1,5 @@
-race 1, line 1: connected to 198.51.100.1 after 610 ms; nothing lost
+race 1, line 1: connected by IPv4 (198.51.100.1) in 610 ms; 250 ms lost on 2001:db8:1::1 (no answer); 350 of 610 ms waiting for DNS
+where the time went: names 350 ms, lost 250 ms, connecting 10 ms
 preferred, once every answer is known:
   1. 2001:db8:1::1 from 2001:db8::2
   2. 198.51.100.1 from 192.0.2.2; precedence 35, the one before 40 (RFC 6724 rule 6)
@@ -8,4 +9,4 @@ course:
   600 ms  A answer: 1 address to try
   600 ms  attempt 2 to 198.51.100.1: it came with the A answer; number 2 of 2 known, IPv6 and IPv4 in turn
   610 ms  attempt 2 connected after 10 ms
-  610 ms  attempt 1 cancelled after 590 ms
+  610 ms  attempt 1: no answer in 590 ms

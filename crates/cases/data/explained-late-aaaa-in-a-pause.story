@@ -1,4 +1,5 @@
-race 1, line 1: connected to 2001:db8:1::1 after 450 ms; nothing lost
+race 1, line 1: connected by IPv6 (2001:db8:1::1) in 450 ms; 250 ms lost on 198.51.100.1 (no answer)
+where the time went: names 150 ms, lost 250 ms, connecting 30 ms, this machine 20 ms
 preferred, once every answer is known:
   1. 2001:db8:1::1 from 2001:db8::2
   2. 198.51.100.1 from 192.0.2.2; precedence 35, the one before 40 (RFC 6724 rule 6)
@@ -11,5 +12,5 @@ course:
   420 ms  AAAA answer: 1 address to try
   420 ms  attempt 2 to 2001:db8:1::1: it came with the AAAA answer, late because of a pause; number 1 of 2 known, IPv6 first
   450 ms  attempt 2 connected after 30 ms
-  450 ms  attempt 1 cancelled after 390 ms
+  450 ms  attempt 1: no answer in 390 ms
 50 ms passed between the A answer and the first attempt at one of its addresses

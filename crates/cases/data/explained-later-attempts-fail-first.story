@@ -1,4 +1,5 @@
-race 1, line 1: not connected: nothing is left to try after 1700 ms and 12 attempts
+race 1, line 1: not connected: all 12 addresses failed (1700 ms); 1700 ms lost: 100 on 2001:db8:1::1 (failed), 100 on 2001:db8:1::2 (failed), 100 on 2001:db8:1::3 (failed) and on 9 more, 500 with no address left to try
+where the time went: names 0 ms, lost 1700 ms, connecting 0 ms
 preferred, once every answer is known:
    1. 2001:db8:1::1 from 2001:db8::2
    2. 2001:db8:1::2 from 2001:db8::2; listed later in its answer (RFC 6724 rule 10)

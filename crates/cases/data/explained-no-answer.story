@@ -1,4 +1,5 @@
-race 1, line 1: not connected by the limit of 100 ms, after 0 attempts
+race 1, line 1: not connected: no address to try in 100 ms
+where the time went: names 100 ms, lost 0 ms, connecting 0 ms
 no address to try
 course:
    90 ms  pause: the client sees and starts nothing until 200 ms

@@ -1,4 +1,5 @@
-race 1, line 1: connected to 2001:db8:1::1 after 420 ms; nothing lost
+race 1, line 1: connected by IPv6 (2001:db8:1::1) in 420 ms; nothing lost
+where the time went: names 60 ms, lost 0 ms, connecting 20 ms, this machine 340 ms
 preferred, once every answer is known:
   1. 2001:db8:1::1 from 2001:db8::2
   2. 198.51.100.1 from 192.0.2.2; precedence 35, the one before 40 (RFC 6724 rule 6)

@@ -1,4 +1,5 @@
-race 1, line 1: not connected by the limit of 40 ms, after 0 attempts
+race 1, line 1: not connected: no address to try in 40 ms
+where the time went: names 40 ms, lost 0 ms, connecting 0 ms
 preferred, once every answer is known:
   1. 198.51.100.1 from 192.0.2.2
 course:

@@ -1,4 +1,5 @@
-race 1, line 1: connected to 192.0.2.19 after 339 ms; 330 ms lost: 192.0.2.10 failed, 192.0.2.11 failed, 192.0.2.12 failed and 6 more
+race 1, line 1: connected by IPv4 (192.0.2.19) in 339 ms; 80 ms lost: 10 on 192.0.2.10 (failed), 10 on 192.0.2.11 (failed), 10 on 192.0.2.12 (failed) and on 5 more
+where the time went: names 0 ms, lost 80 ms, connecting 9 ms, unknown 250 ms
 preferred, once every answer is known:
    1. 192.0.2.10 from 192.0.2.2
    2. 192.0.2.11 from 192.0.2.2; listed later in its answer (RFC 6724 rule 10)
@@ -32,6 +33,6 @@ course:
    80 ms  attempt 9 to 192.0.2.18: all before have failed, and the floor of 10 ms after attempt 8 is over; number 9 of 10 known, IPv4 alone is left
   330 ms  attempt 10 to 192.0.2.19: 250 ms after the start of attempt 9; number 10 of 10 known, IPv4 alone is left
   339 ms  attempt 10 connected after 9 ms
-  339 ms  attempt 9 cancelled after 259 ms; no client tried it: its outcome is unknown
+  339 ms  attempt 9: no client tried it, unknown after 259 ms
 no client tried 192.0.2.18: its outcome is unknown
 no client tried 203.0.113.2: its outcome is unknown

@@ -1,4 +1,5 @@
-race 1, line 1: connected to 2001:db8:1::1 after 60 ms; nothing lost
+race 1, line 1: connected by IPv6 (2001:db8:1::1) in 60 ms; nothing lost
+where the time went: names 20 ms, lost 0 ms, connecting 40 ms
 preferred, once every answer is known:
   1. 2001:db8:1::1 from 2001:db8:5::2
   2. 2001:db8:7::80 from 2001:db8:7::2; its route is a tunnel (RFC 6724 rule 7)
@@ -11,7 +12,8 @@ course:
   60 ms  attempt 1 connected after 40 ms
 no address of the A answer was tried
 
-race 2, line 12: connected to 198.51.100.1 after 50 ms; nothing lost
+race 2, line 12: connected by IPv4 (198.51.100.1) in 50 ms; nothing lost
+where the time went: names 20 ms, lost 0 ms, connecting 30 ms
 preferred, once every answer is known:
   1. 198.51.100.1 from 192.168.1.23
   2. 2001:db8:1::1, not reachable: no source address; the one before is reachable (RFC 6724 rule 1)

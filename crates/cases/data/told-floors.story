@@ -1,4 +1,5 @@
-race 1, line 1: connected to 198.51.100.2 after 280 ms; 230 ms lost: 2001:db8:1::1 failed, 198.51.100.1 failed
+race 1, line 1: connected by IPv4 (198.51.100.2) in 280 ms; 230 ms lost: 100 on 2001:db8:1::1 (failed), 130 on 198.51.100.1 (failed)
+where the time went: names 20 ms, lost 230 ms, connecting 30 ms
 preferred, once every answer is known:
   1. 2001:db8:1::1 from 2001:db8::2
   2. 198.51.100.1 from 192.0.2.2; precedence 35, the one before 40 (RFC 6724 rule 6)
@@ -14,7 +15,8 @@ course:
   280 ms  attempt 3 connected after 30 ms
 100 ms passed between the A answer and the first attempt at one of its addresses
 
-race 2, line 13: connected to 198.51.100.1 after 300 ms; 250 ms lost: 2001:db8:1::1 failed
+race 2, line 13: connected by IPv4 (198.51.100.1) in 300 ms; 250 ms lost on 2001:db8:1::1 (failed)
+where the time went: names 20 ms, lost 250 ms, connecting 30 ms
 preferred, once every answer is known:
   1. 2001:db8:1::1 from 2001:db8::2
   2. 198.51.100.1 from 192.0.2.2; precedence 35, the one before 40 (RFC 6724 rule 6)
@@ -26,4 +28,4 @@ course:
   270 ms  attempt 2 to 198.51.100.1: 250 ms after the start of attempt 1; number 2 of 2 known, IPv6 and IPv4 in turn
   300 ms  attempt 2 connected after 30 ms
 250 ms passed between the A answer and the first attempt at one of its addresses
-with `set floor 10`: connected to 198.51.100.1 after 60 ms
+with `set floor 10`: connected by IPv4 (198.51.100.1) in 60 ms

@@ -1,4 +1,5 @@
-race 1, line 1: connected to 2001:db8:1::5 after 290 ms; 250 ms lost: 2001:db8:1::4 failed
+race 1, line 1: connected by IPv6 (2001:db8:1::5) in 290 ms; 250 ms lost on 2001:db8:1::4 (failed)
+where the time went: names 20 ms, lost 250 ms, connecting 20 ms
 preferred, once every answer is known:
   1. 2001:db8:1::4 from 2001:db8::2
   2. 2001:db8:1::5 from 2001:db8::2; round trip time 80 ms, the one before 30 ms (RFC 8305 section 4)
@@ -12,4 +13,4 @@ course:
    40 ms  attempt 1 failed after 20 ms
   270 ms  attempt 2 to 2001:db8:1::5: 250 ms after the start of attempt 1; number 2 of 5 known, IPv6 alone is left
   290 ms  attempt 2 connected after 20 ms
-with `set floor 10`: connected to 2001:db8:1::5 after 60 ms
+with `set floor 10`: connected by IPv6 (2001:db8:1::5) in 60 ms

@@ -1,4 +1,5 @@
-race 1, line 1: connected to 64:ff9b::c633:6401 after 560 ms; 500 ms lost: 2001:db8:1::1 gave no answer, 198.51.100.1 gave no answer
+race 1, line 1: connected by IPv6 (64:ff9b::c633:6401) in 560 ms; 500 ms lost: 250 on 2001:db8:1::1 (no answer), 250 on 198.51.100.1 (no answer)
+where the time went: names 20 ms, lost 500 ms, connecting 40 ms
 preferred, once every answer is known:
   1. 2001:db8:1::1 from 2001:db8:5::2
   2. 64:ff9b::c633:6401 (NAT64) from 2001:db8:5::2; bits in common with its source 2, the one before 45 (RFC 6724 rule 9)
@@ -12,6 +13,6 @@ course:
   270 ms  attempt 2 to 198.51.100.1: 250 ms after the start of attempt 1; number 2 of 5 known, IPv6 and IPv4 in turn
   520 ms  attempt 3 to 64:ff9b::c633:6401: 250 ms after the start of attempt 2; number 3 of 5 known, IPv6 and IPv4 in turn
   560 ms  attempt 3 connected after 40 ms
-  560 ms  attempt 1 cancelled after 540 ms
-  560 ms  attempt 2 cancelled after 290 ms
+  560 ms  attempt 1: no answer in 540 ms
+  560 ms  attempt 2: no answer in 290 ms
 240 ms passed between the A answer and the first attempt at one of its addresses

@@ -1,4 +1,5 @@
-race 1, line 1: connected to 2001:db8:1::1 after 510 ms; 250 ms lost: 198.51.100.1 gave no answer
+race 1, line 1: connected by IPv6 (2001:db8:1::1) in 510 ms; 250 ms lost on 198.51.100.1 (no answer)
+where the time went: names 75 ms, lost 250 ms, connecting 30 ms, this machine 155 ms
 preferred, once every answer is known:
   1. 198.51.100.1 from 192.0.2.2
   2. 198.51.100.2 from 192.0.2.2; listed later in its answer (RFC 6724 rule 10)
@@ -13,11 +14,12 @@ course:
   300 ms  pause: the client sees and starts nothing until 480 ms
   480 ms  attempt 2 to 2001:db8:1::1: 250 ms after the start of attempt 1, late because of a pause; number 2 of 3 known, IPv6 and IPv4 in turn
   510 ms  attempt 2 connected after 30 ms
-  510 ms  attempt 1 cancelled after 300 ms
+  510 ms  attempt 1: no answer in 300 ms
 250 ms passed between the AAAA answer and the first attempt at one of its addresses
 185 ms passed between the A answer and the first attempt at one of its addresses
 
-race 2, line 15: connected to 198.51.100.1 after 430 ms; nothing lost
+race 2, line 15: connected by IPv4 (198.51.100.1) in 430 ms; 30 ms lost: 10 on 2001:db8:1::1 (failed), 10 on 2001:db8:1::2 (failed), 10 on 2001:db8:1::3 (failed); 360 of 430 ms waiting for DNS
+where the time went: names 360 ms, lost 30 ms, connecting 20 ms, this machine 20 ms
 preferred, once every answer is known:
   1. 2001:db8:1::1 from 2001:db8::2
   2. 2001:db8:1::2 from 2001:db8::2; listed later in its answer (RFC 6724 rule 10)

@@ -1,11 +1,13 @@
-race 1, line 1: not connected: nothing is left to try after 5 ms and 0 attempts
+race 1, line 1: not connected: no address to try in 5 ms
+where the time went: names 5 ms, lost 0 ms, connecting 0 ms
 no address to try
 course:
   0 ms  AAAA answer: 0 addresses to try; the A answer is not there yet
   5 ms  A answer: 0 addresses to try
   5 ms  nothing is left to try
 
-race 2, line 5: not connected by the limit of 100 ms, after 1 attempt
+race 2, line 5: not connected: timed out after 100 ms; its 1 address did not answer; 45 ms lost on 198.51.100.1 (stopped)
+where the time went: names 55 ms, lost 45 ms, connecting 0 ms
 preferred, once every answer is known:
   1. 198.51.100.1 from 192.0.2.2
   2. 2001:db8::9, not reachable: no route; the one before is reachable (RFC 6724 rule 1)
@@ -15,11 +17,12 @@ course:
    55 ms  the wait is over, without the AAAA answer
    55 ms  attempt 1 to 198.51.100.1: the wait for the AAAA answer is over; the only address known
   100 ms  the limit: the race is given up
-  100 ms  attempt 1 cancelled after 45 ms
+  100 ms  attempt 1 stopped after 45 ms
 the AAAA answer came at 200 ms, after the end
 50 ms passed between the A answer and the first attempt at one of its addresses
 
-race 3, line 12: not connected by the limit of 100 ms, after 1 attempt
+race 3, line 12: not connected: timed out after 100 ms; 1 of 1 addresses failed; 95 ms lost on 2001:db8::9 (failed)
+where the time went: names 5 ms, lost 95 ms, connecting 0 ms
 preferred, once every answer is known:
   1. 2001:db8::9 from 2001:db8::2
   2. 2001:db8::a from 2001:db8::2; listed later in its answer (RFC 6724 rule 10)
@@ -30,7 +33,8 @@ course:
   100 ms  the limit: the race is given up
 the A answer came at 101 ms, after the end
 
-race 4, line 20: not connected: nothing is left to try after 20 ms and 1 attempt
+race 4, line 20: not connected: its 1 address failed (20 ms); 20 ms lost on 198.51.100.1 (failed)
+where the time went: names 0 ms, lost 20 ms, connecting 0 ms
 preferred, once every answer is known:
   1. 198.51.100.1 from 192.0.2.2
 course:
@@ -40,7 +44,8 @@ course:
   20 ms  attempt 1 failed after 20 ms
   20 ms  nothing is left to try
 
-race 5, line 27: not connected: nothing is left to try after 280 ms and 2 attempts
+race 5, line 27: not connected: all 2 addresses failed (280 ms); 280 ms lost: 250 on 2001:db8:1::1 (failed), 30 on 2001:db8:1::2 (failed)
+where the time went: names 0 ms, lost 280 ms, connecting 0 ms
 preferred, once every answer is known:
   1. 2001:db8:1::1 from 2001:db8::2
   2. 2001:db8:1::2 from 2001:db8::2; listed later in its answer (RFC 6724 rule 10)

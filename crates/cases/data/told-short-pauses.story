@@ -1,4 +1,5 @@
-race 1, line 1: connected to 198.51.100.2 after 582 ms; 555 ms lost: the wait for the AAAA answer, 198.51.100.1 failed, 2001:db8:1::1 gave no answer
+race 1, line 1: connected by IPv4 (198.51.100.2) in 582 ms; 500 ms lost: 250 on 198.51.100.1 (failed), 250 on 2001:db8:1::1 (no answer)
+where the time went: names 62 ms, lost 500 ms, connecting 16 ms, this machine 4 ms
 preferred, once every answer is known:
   1. 2001:db8:1::1 from 2001:db8::2
   2. 198.51.100.1 from 192.0.2.2; precedence 35, the one before 40 (RFC 6724 rule 6)
@@ -14,12 +15,13 @@ course:
   316 ms  attempt 2 to 2001:db8:1::1: 250 ms after the start of attempt 1, late because of a pause; number 1 of 3 known, IPv6 first
   566 ms  attempt 3 to 198.51.100.2: 250 ms after the start of attempt 2; number 3 of 3 known, IPv4 alone is left
   582 ms  attempt 3 connected after 16 ms (2 ms late)
-  582 ms  attempt 2 cancelled after 266 ms
+  582 ms  attempt 2: no answer in 266 ms
 236 ms passed between the AAAA answer and the first attempt at one of its addresses
 51 ms passed between the A answer and the first attempt at one of its addresses
-with `set floor 10`: connected to 198.51.100.2 after 348 ms
+with `set floor 10`: connected by IPv4 (198.51.100.2) in 348 ms
 
-race 2, line 17: connected to 198.51.100.1 after 55 ms; 50 ms lost: 2001:db8:1::1 gave no answer, 2001:db8:1::2 failed, 2001:db8:1::3 gave no answer and 2 more
+race 2, line 17: connected by IPv4 (198.51.100.1) in 55 ms; 50 ms lost: 10 on 2001:db8:1::1 (no answer), 10 on 2001:db8:1::2 (failed), 10 on 2001:db8:1::3 (no answer) and on 2 more
+where the time went: names 0 ms, lost 50 ms, connecting 5 ms
 preferred, once every answer is known:
   1. 2001:db8:1::1 from 2001:db8::2
   2. 2001:db8:1::2 from 2001:db8::2; listed later in its answer (RFC 6724 rule 10)
@@ -38,8 +40,8 @@ course:
   45 ms  attempt 2 failed after 35 ms
   50 ms  attempt 6 to 198.51.100.1: 10 ms after the start of attempt 5; number 6 of 6 known, IPv6 and IPv4 in turn
   55 ms  attempt 6 connected after 5 ms
-  55 ms  attempt 1 cancelled after 55 ms
-  55 ms  attempt 3 cancelled after 35 ms
-  55 ms  attempt 4 cancelled after 25 ms
-  55 ms  attempt 5 cancelled after 15 ms
+  55 ms  attempt 1: no answer in 55 ms
+  55 ms  attempt 3: no answer in 35 ms
+  55 ms  attempt 4: no answer in 25 ms
+  55 ms  attempt 5: no answer in 15 ms
 50 ms passed between the A answer and the first attempt at one of its addresses

@@ -23,11 +23,7 @@ const NO_ADDRESS: &[u8] = b"race 1\naaaa 0 none\na 0 none\nend\n";
 type Row = (&'static [&'static str], &'static [u8], &'static [u8]);
 
 static ROWS: [Row; 7] = [
-    (
-        &["he", "--help"],
-        b"",
-        b"Connect to hosts as Happy Eyeballs has it",
-    ),
+    (&["he", "--help"], b"", b"Connect with Happy Eyeballs"),
     (&["he", "replay"], b"race 1\nend", b""),
     (&["he", "live", "--port", "1"], NO_ADDRESS, b"exhausted"),
     (
@@ -36,7 +32,11 @@ static ROWS: [Row; 7] = [
         b"exhausted",
     ),
     (&["he", "check"], RACE, b"1 race"),
-    (&["he", "summary", "-v"], RACE, b"1 race: 1 won (100.0 %)"),
+    (
+        &["he", "summary", "-v"],
+        RACE,
+        b"1 race: 1 connected (100.0 %)",
+    ),
     (&["he", "names", "192.0.2.1"], b"", b"aaaa "),
 ];
 
