@@ -40,9 +40,13 @@ ODD_RECORDS = ["record", "record ", "record at", "records at", "record  at", "re
                "record at 2026-11-28T10:54:05.261z", "record to www.example.com 0", "record to www.example.com 65536",
                "record to a b 1", f"record to {'a' * 256} 1", "record to é 1", "record from none", "record from fe80::1%1",
                "record lookup aaaa no-answer", "record lookup ptr no-answer", "record lookup a silent",
+               "record lookup a nat64", "record nat64 64:ff9b::/96", "record nat64 64:ff9b::/95", "record nat64 192.0.2.0/24", "record nat64 0.0.0.0/0", "record nat64 64:ff9b::",
+               "record nat64 64:ff9b::1/96", "record nat64 64:ff9b::/96 1",
                "record server 192.0.2.1 silent 3600001", "record server 192.0.2.1 slow 1", "record server a silent x",
                "record attempt 192.0.2.1 refused", "record attempt ::ffff:192.0.2.1 refused", "record untried 192.0.2.1",
                "record connected 3600001", "record connected 1", "record gave-up 01", "record failed", "race 1", "end"]
+NAT64_PREFIXES = ["64:ff9b::/96", "2001:db8::/32", "2001:db8:100::/40", "2001:db8:122::/48", "2001:db8:122:300::/56",
+                  "2001:db8:122:344::/64", "2001:DB8:122:344::0/96", "::/64"]
 ODD_WORDS = ["", " ", "race 1", "race 2", "end", "none", "ok", "fail", "tunnel", "deprecated", "temporary", "set",
              "floor", "policy", "a", "A", "SET", "aaaa", "rtt", "used", "\t", "\r", "\0", "é"]
 
@@ -289,6 +293,8 @@ class Drawer(random.Random):
                  *self.told("from", self.any_address)]
         families = self.sample(["aaaa", "a"], self.randrange(3))
         lines += [f"record lookup {family} {self.choice(plain.LOOKUP_WORDS)}" for family in families]
+        lines += [f"record nat64 {self.choice(NAT64_PREFIXES)}"
+                  for _ in range(self.between(0, plain.MOST_PREFIXES) if self.is_one_in(3) else 0)]
         lines += [f"record server {self.any_address()} {self.choice(plain.SERVER_WORDS)} {self.ticks(0, plain.MOST_TICK)}"
                   for _ in range(self.between(0, plain.MOST_SERVERS) if self.is_one_in(3) else 0)]
         texts = [self.any_address() for _ in range(self.amount(2 * plain.MOST_TRIED) if self.is_one_in(2) else 0)]

@@ -20,9 +20,10 @@ from functools import cached_property, lru_cache
 ROOT = pathlib.Path(__file__).resolve().parent.parent
 # The limits of a text stand in docs/FORMAT.md: what there is at most, and how many.
 LIMITS = re.findall(r"^\| ([^|]+) \| ([0-9,]+) \|$", (ROOT / "docs/FORMAT.md").read_text(), re.MULTILINE)
-MOST_RACES, MOST_LINE_BYTES, MOST_LISTED, MOST_ADDRESSES, MOST_PAUSES, MOST_SERVERS, MOST_TRIED = [
+MOST_RACES, MOST_LINE_BYTES, MOST_LISTED, MOST_ADDRESSES, MOST_PAUSES, MOST_PREFIXES, MOST_SERVERS, MOST_TRIED = [
     next(int(most.replace(",", "")) for what, most in LIMITS if what.startswith(begin))
-    for begin in ("races", "bytes of a line", "`policy`", "addresses", "`pause`", "`record server`", "`record attempt`")]
+    for begin in ("races", "bytes of a line", "`policy`", "addresses", "`pause`", "`record nat64`", "`record server`",
+                  "`record attempt`")]
 MOST_TICK = 3_600_000
 MOST_PAUSE_END = 3_600_001
 MOST_WORD = 65_535
@@ -61,9 +62,11 @@ MOST_LINES = {**dict.fromkeys(("policy", "source", "route"), MOST_LISTED), "paus
 NEW_GROUPS = ["rtt", "used"]
 # Record lines, in their order; the last three words are of one group.
 CLIENT_ENDS = ["connected", "gave-up", "failed"]
-RECORD_GROUPS = ["at", "to", "from", "lookup", "server", "attempt", "untried", *CLIENT_ENDS]
+RECORD_GROUPS = ["at", "to", "from", "lookup", "nat64", "server", "attempt", "untried", *CLIENT_ENDS]
 RECORD_LENGTHS = {"to": 4, "lookup": 4, "attempt": 4, "server": 5}  # and 3 of each other word
-LOOKUP_WORDS = ["no-such-name", "no-address", "no-answer", "refused", "failed", "malformed", "not-asked"]
+LOOKUP_WORDS = ["no-such-name", "no-address", "no-answer", "refused", "failed", "malformed", "not-asked", "nat64"]
+# The lengths of a NAT64 prefix: RFC 6052 section 2.2.
+NAT64_LENGTHS = [32, 40, 48, 56, 64, 96]
 SERVER_WORDS = ["silent", "refused", "failed", "unreachable"]
 ATTEMPT_WORDS = ["refused", "unreachable", "timed-out", "reset", "forbidden", "no-source", "other"]
 MOST_HOST_BYTES = 255
@@ -96,6 +99,10 @@ def read_address(text):
 
 def print_address(address):
     return str((ipaddress.IPv4Address if address.family == 4 else ipaddress.IPv6Address)(address.number))
+
+
+def print_prefix(prefix):
+    return f"{print_address(Address(6, prefix.number))}/{prefix.length}"
 
 
 def mapped(address):
@@ -291,7 +298,7 @@ class Record:
     def __init__(self):
         self.time = self.target = self.client = self.end = None
         # (families in the order of their lines, as are the addresses)
-        self.lookups, self.servers, self.attempts, self.untried = {}, [], {}, []
+        self.lookups, self.prefixes, self.servers, self.attempts, self.untried = {}, [], [], {}, []
 
 
 class Race:
@@ -450,8 +457,12 @@ def counted(number, one, many=None):
 
 
 def one_line(value):
-    """An object of JSON."""
-    return json.dumps(value, separators=(",", ":"), ensure_ascii=False) + "\n"
+    """An object of JSON. Its control characters are written by their numbers."""
+    text = json.dumps(value, separators=(",", ":"), ensure_ascii=False)
+    return re.sub(r"\\(.)", lambda found: CONTROLS.get(found[1], found[0]), text) + "\n"
+
+
+CONTROLS = {"b": r"\u0008", "f": r"\u000c", "n": r"\u000a", "r": r"\u000d", "t": r"\u0009"}
 
 
 # Texts of timelines and their faults, check by check
@@ -610,7 +621,8 @@ class RecordReader:
             raise Fault("word")
         self.group = group
         self.counts[group] += 1
-        most = {"lookup": math.inf, "server": MOST_SERVERS, "attempt": MOST_TRIED, "untried": MOST_TRIED}.get(word, 1)
+        most = {"lookup": math.inf, "nat64": MOST_PREFIXES, "server": MOST_SERVERS, "attempt": MOST_TRIED,
+                "untried": MOST_TRIED}.get(word, 1)
         if self.counts[group] > most:
             raise Fault("repeated" if most == 1 else "too many")
         if len(tokens) + 2 != RECORD_LENGTHS.get(word, 3):
@@ -643,6 +655,12 @@ class RecordReader:
         keyword(word, LOOKUP_WORDS)
         once(family, self.record.lookups)
         self.record.lookups[family] = word
+
+    def say_nat64(self, text):
+        prefix = prefix_of(text)
+        if prefix.length not in NAT64_LENGTHS or is_v4_prefix(prefix):
+            raise Fault("range")
+        self.record.prefixes.append(prefix)
 
     def say_server(self, text, word, ticks):
         self.record.servers.append((self.address(text), keyword(word, SERVER_WORDS), number(ticks, 0, MOST_TICK)))

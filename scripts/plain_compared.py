@@ -9,17 +9,26 @@ import plain
 from plain import one_line
 from plain_summary import mean_cell, percentiles, share_cell
 
-VERDICTS = ("sooner", "later", "same", "only_with", "only_without")
+VERDICTS = ("sooner", "later", "same", "only_with", "only_without", "unknown")
 # What the lines and the objects of races say.
-LINE_WORDS = {"sooner": "sooner", "later": "later", "same": "the same", "only_with": "won only with",
-              "only_without": "won only without", "neither": "not won either way"}
-ENDINGS = {"won": "connected to {1} after {0} ms", "exhausted": "not connected: nothing is left to try after {0} ms",
-           "limit": "not connected by the limit of {0} ms"}
-HEADING = "    p50    p90    p99  attempts    IPv6  sooner   later    same  only with  only without  settings\n"
+LINE_WORDS = {"sooner": "sooner", "later": "later", "same": "the same", "only_with": "connected only with",
+              "only_without": "connected only without", "neither": "connected in neither case", "unknown": "unknown"}
+ENDINGS = {"won": "connected by IPv{2} ({1}) in {0} ms", "exhausted": "not connected: nothing is left to try after {0} ms",
+           "limit": "not connected: timed out after {0} ms"}
+HEADING = ("  p50 ms  p90 ms  p99 ms  attempts       IPv6  sooner   later    same  only with  only without  unknown"
+           "  settings\n")
 
 
-def verdict_of(own, other):
-    """What settings do, by the results without and with them."""
+def tries_untried(race, report):
+    """Whether an attempt is at an address that no client tried."""
+    return any(line.address in race.record.untried for line in report.lines)
+
+
+def verdict_of(race, with_settings):
+    """What settings do to a race, by what is reported with them."""
+    if tries_untried(race, race.report) or tries_untried(race, with_settings):
+        return "unknown"
+    own, other = race.report.result, with_settings.result
     if own.kind == other.kind == "won":
         return "same" if own.tick == other.tick else "sooner" if other.tick < own.tick else "later"
     if other.kind == "won":
@@ -42,9 +51,9 @@ def rows_of(words):
 def row_of(races, changes, label):
     reports = [race.changed(changes).report for race in races]
     won = [report for report in reports if report.winner]
-    verdicts = Counter(verdict_of(race.report.result, report.result) for race, report in zip(races, reports))
+    verdicts = Counter(map(verdict_of, races, reports))
     return {
-        "races": len(reports), "won": len(won),
+        "races": len(reports), "connected": len(won),
         "ipv6": sum(report.winner.address.family == 6 for report in won),
         "connect_ms": percentiles([report.result.tick for report in won], ("median", "p90", "p99")),
         "attempts": sum(len(report.lines) for report in reports),
@@ -54,9 +63,9 @@ def row_of(races, changes, label):
 
 def as_text(row):
     times = row["connect_ms"] or dict.fromkeys(("median", "p90", "p99"), "-")
-    cells = "".join(f"{time:>7}" for time in times.values()) + mean_cell(row["attempts"], row["races"])
-    cells += share_cell(row["ipv6"], row["won"])
-    cells += "".join(f"{row[verdict]:>{width}}" for width, verdict in zip((8, 8, 8, 11, 14), VERDICTS))
+    cells = "".join(f"{time:>8}" for time in times.values()) + mean_cell(row["attempts"], row["races"])
+    cells += share_cell(row["ipv6"], row["connected"])
+    cells += "".join(f"{row[verdict]:>{width}}" for width, verdict in zip((8, 8, 8, 11, 14, 9), VERDICTS))
     return f"{cells}  {row['settings']}\n"
 
 
@@ -64,11 +73,12 @@ def line_of(number, race, changes, label, is_json):
     report = race.changed(changes).report
     kind, _, tick = report.result
     address = {"address": plain.print_address(report.winner.address)} if report.winner else {}
-    verdict = verdict_of(race.report.result, report.result)
+    verdict = verdict_of(race, report)
     if is_json:
         return one_line({"file": "-", "race": number, "line": race.line, "ended": kind, **address, "ms": tick,
                          "verdict": verdict.replace("_", " "), "settings": label})
-    ending = ENDINGS[kind].format(tick, *address.values())
+    family = [report.winner.address.family] if report.winner else []
+    ending = ENDINGS[kind].format(tick, *address.values(), *family)
     return f"-:{race.line} race {number}: {ending}, {LINE_WORDS[verdict]} ({label})\n"
 
 

@@ -6,7 +6,7 @@ needs: python3, its standard library alone
 from collections import namedtuple
 
 from plain import print_address
-from plain_story import ending, heading
+from plain_story import attempt_end, heading, result
 
 LEAST_COLUMNS = 10
 # What a line has beside its label, its columns and its words: an edge at both sides, and a space outside each.
@@ -41,7 +41,7 @@ def rows(race):
     found += [Row("pause", start, stop, "pause", "pause", "pause", f"{start}-{stop} ms")
               for start, stop in race.pauses if start < end]
     return found + [Row(print_address(line.address), line.start, line.tick, "attempt", "attempt", line.fate,
-                        f"{line.start}-{line.tick} ms {line.fate}") for line in report.lines]
+                        f"{line.start}-{line.tick} ms {attempt_end(race, line)}") for line in report.lines]
 
 
 def bar(row, column, signs):
@@ -64,7 +64,7 @@ def picture(number, race, width, signs):
     def column(tick):
         return min(tick, end) * (columns - 1) // end if end else 0
 
-    lines = [f"{heading(number, race)}{ending(race.report)}"]
+    lines = [f"{heading(number, race)}{result(race, race.report)}"]
     lines += [f"{row.label:{label}} {signs['edge']}{bar(row, column, signs):{columns}}{signs['edge']} {row.words}"
               for row in drawn]
     lines.append(" " * (label + 2) + "0" + " " * max(columns - len(str(end)) - 4, 1) + f"{end} ms")

@@ -4,8 +4,9 @@ apart from the program, as plain.py is of the rules: by docs/DEFINITIONS.md, the
 needs: python3, its standard library alone
 """
 import plain
+import plain_accounts
 import plain_story
-from plain import one_line, print_address
+from plain import one_line, print_address, print_prefix
 
 # The names of the rules of RFC 6724 section 6 and RFC 8305 section 4.
 RULES = {
@@ -67,7 +68,8 @@ def recorded(record):
                for address, word, ticks in record.servers]
     outcomes = [{"address": print_address(address), "reason": word} for address, word in record.attempts.items()]
     outcomes += [{"address": print_address(address), "untried": True} for address in record.untried]
-    lists = {"lookups": lookups, "servers": servers, "outcomes": outcomes}
+    prefixes = [print_prefix(prefix) for prefix in record.prefixes]
+    lists = {"lookups": lookups, "nat64": prefixes, "servers": servers, "outcomes": outcomes}
     return {**told, **{name: listed for name, listed in lists.items() if listed}}
 
 
@@ -86,5 +88,6 @@ def ordered(races, changes):
 
 
 def explained(races, changes):
-    return lines_of(races, changes, lambda race: {**recorded(race.record), "order": order(race), "events": [
-        {"tick": tick, **event} for tick, event, _ in plain_story.events(race, race.report)]})
+    return lines_of(races, changes, lambda race: {
+        **recorded(race.record), **plain_accounts.times(race), "order": order(race),
+        "events": [{"tick": tick, **event} for tick, event, _ in plain_story.events(race, race.report)]})

@@ -6,7 +6,8 @@ needs: python3, its standard library alone
 from collections import namedtuple
 
 import plain
-from plain import counted, print_address
+import plain_accounts
+from plain import counted, print_address, print_prefix
 
 NAMES = {"aaaa": "AAAA", "a": "A"}
 WORDS = {6: "aaaa", 4: "a"}
@@ -15,8 +16,10 @@ LEAST_FLOOR = plain.SETTINGS["floor"][0]
 # Blocks whose addresses stand for something else: RFC 6052, RFC 3056, RFC 4380.
 KINDS = {"64:ff9b::/96": " (NAT64)", "2002::/16": " (6to4)", "2001::/32": " (Teredo)"}
 
-# A pause of fewer milliseconds has no line. No more attempts are named that stood between.
+# A pause of fewer milliseconds has no line. No more attempts are named on which time was lost.
 LEAST_PAUSE, MAX_NAMED = 5, 3
+# The most milliseconds that the names of a race take without a word on them in its first line.
+SLOW_NAMES = 100
 
 # Why an attempt starts, in words, the tick from which it was due, and its name in JSON with a delay and the place of
 # the attempt that this is after.
@@ -27,7 +30,8 @@ Cause = namedtuple("Cause", "words due name delay after", defaults=(None, None))
 
 
 LOOKUPS = {"no-such-name": "no such name", "no-address": "no address", "no-answer": "no answer", "refused": "refused",
-           "failed": "the name servers failed", "malformed": "a malformed answer", "not-asked": "not asked"}
+           "failed": "the name servers failed", "malformed": "a malformed answer", "not-asked": "not asked",
+           "nat64": "through NAT64"}
 ATTEMPTS = {"refused": "refused", "unreachable": "unreachable", "timed-out": "timed out", "reset": "reset",
             "forbidden": "forbidden", "no-source": "no source address", "other": "for another reason"}
 SERVERS = {"silent": "no answer in", "refused": "refused after", "failed": "failed after",
@@ -59,41 +63,108 @@ def why(race, name):
 
 
 def notes(race):
-    """The name servers that were given up, and the addresses that no client tried."""
+    """The network's NAT64 prefixes, the name servers that were given up, and the addresses that no client tried."""
+    prefixes = [f"the network's NAT64 has the IPv4 addresses by {print_prefix(prefix)}"
+                for prefix in race.record.prefixes]
     servers = [f"name server {print_address(address)}: {SERVERS[word]} {ticks} ms"
                for address, word, ticks in race.record.servers]
-    return servers + [f"no client tried {print_address(address)}: its outcome is unknown"
+    return prefixes + servers + [f"no client tried {print_address(address)}: its outcome is unknown"
                       for address in race.record.untried]
 
 
 # How a race ended
 
 
+def servers(race):
+    """The name servers that were given up."""
+    did = {"silent": "did not answer", "refused": "refused", "failed": "failed", "unreachable": "was unreachable"}
+    return "".join(f" ({print_address(address)} {did[word]})" for address, word, _ in race.record.servers)
+
+
+NOT_LOOKED_UP = {
+    "no-such-name": "no such name ({} ms)", "no-address": "the name has no address ({} ms)",
+    "no-answer": "the name could not be looked up in {} ms: no answer",
+    "refused": "the name could not be looked up in {} ms: refused",
+    "failed": "the name could not be looked up in {} ms: the name servers failed",
+    "malformed": "the name could not be looked up in {} ms: a malformed answer",
+    "not-asked": "the name was not looked up ({} ms)", "nat64": "no address to try through NAT64 in {} ms"}
+EACH_FAILED = {"refused": "refused", "unreachable": "unreachable", "timed-out": "timed out", "reset":
+               "reset the connection", "forbidden": "forbidden", "no-source": "without a source address"}
+
+
+def why_not(race, report):
+    """Why a race did not connect, by its attempts and its record."""
+    (kind, _, tick), lines, lookups = report.result, report.lines, race.record.lookups
+    if not lines:
+        if not {"aaaa", "a"} <= lookups.keys():
+            return f"no address to try in {tick} ms"
+        word = lookups["a"] if lookups["aaaa"] == "not-asked" else lookups["aaaa"]
+        return NOT_LOOKED_UP[word].format(tick) + servers(race)
+    number, failed = len(lines), sum(line.fate == "failed" for line in lines)
+    if kind == "exhausted":
+        words = {race.record.attempts.get(line.address) for line in lines}
+        all_of = "its 1 address" if number == 1 else f"all {number} addresses"
+        return f"{all_of} {EACH_FAILED.get(words.pop(), 'failed') if len(words) == 1 else 'failed'} ({tick} ms)"
+    if any(line.address in race.record.untried for line in lines):
+        return f"timed out after {tick} ms and {counted(number, 'attempt')}"
+    if failed:
+        return f"timed out after {tick} ms; {failed} of {number} addresses failed"
+    none = {1: "its 1 address did not answer", 2: "neither of 2 addresses answered"}
+    return f"timed out after {tick} ms; {none.get(number, f'none of {number} addresses answered')}"
+
+
+def result(race, report):
+    return ending(report) if report.winner else f"not connected: {why_not(race, report)}"
+
+
 def ending(report):
     kind, _, tick = report.result
     if report.winner:
-        return f"connected to {print_address(report.winner.address)} after {tick} ms"
-    why = {"exhausted": f": nothing is left to try after {tick} ms and", "limit": f" by the limit of {tick} ms, after"}
+        return f"connected by IPv{report.winner.address.family} ({print_address(report.winner.address)}) in {tick} ms"
+    why = {"exhausted": f": nothing is left to try after {tick} ms and", "limit": f": timed out after {tick} ms and"}
     return f"not connected{why[kind]} {counted(len(report.lines), 'attempt')}"
 
 
-def between(race, report, winner):
-    """What stood between the winner's answer and its attempt."""
-    waited = ["the wait for the AAAA answer"] if winner.address.family == 4 and waits(race) else []
-    silent = ["gave no answer", "was not tried"]
-    stood = [f"{print_address(line.address)} "
-             + ("failed" if line.fate == "failed" and line.tick <= winner.start
-                else silent[line.address in race.record.untried]) for line in report.lines[:winner.place]]
-    more = f" and {len(stood) - MAX_NAMED} more" if len(stood) > MAX_NAMED else ""
-    return ", ".join(waited + stood[:MAX_NAMED]) + more
+def attempt_end(race, line):
+    """The word for the end of an attempt. One that was under way at its race's end gave no answer if its Connection
+    Attempt Delay was over by then, and was stopped otherwise; it is unknown what one to an untried address would do."""
+    if line.fate != "cancelled":
+        return {"won": "connected", "failed": "failed"}[line.fate]
+    if line.address in race.record.untried:
+        return "unknown"
+    return "no answer" if line.tick - line.start >= race.setting("attempt") else "stopped"
+
+
+def are_names_slow(times):
+    return times["names_ms"] > SLOW_NAMES and times["names_ms"] > times["ms"] - times["names_ms"]
+
+
+def lost(race, report):
+    """The time that the race lost by its account, and on what."""
+    ticks, total = plain_accounts.account(race), plain_accounts.times(race)["lost_ms"]
+    shares = [(ticks[line.place], f"on {print_address(line.address)} ({attempt_end(race, line)})")
+              for line in report.lines if ticks[line.place]]
+    named = [f"{number} {words}" for number, words in shares[:MAX_NAMED]]
+    more = f" and on {len(shares) - MAX_NAMED} more" if len(shares) > MAX_NAMED else ""
+    rest = f"{ticks['nobody']} with no address left to try"
+    if ticks["nobody"] == total:
+        return f"{total} ms lost with no address left to try"
+    if len(shares) == 1 and not ticks["nobody"]:
+        return f"{total} ms lost {shares[0][1]}"
+    return f"{total} ms lost: {', '.join(named)}{more}{', ' + rest if ticks['nobody'] else ''}"
 
 
 def verdict(race, report):
-    """How the race ended, and what it lost, if it was won: from its winner's answer to its winner's attempt."""
-    if not report.winner:
-        return ending(report)
-    told = f"{race.lost()} ms lost: {between(race, report, report.winner)}" if race.lost() else "nothing lost"
-    return f"{ending(report)}; {told}"
+    """How the race ended, what it lost, and where all of its time went."""
+    times = plain_accounts.times(race)
+    said = [f"; {lost(race, report)}"] if times["lost_ms"] else []
+    if are_names_slow(times) and report.lines:
+        said.append(f"; {times['names_ms']} of {times['ms']} ms waiting for DNS{servers(race)}")
+    nothing = "; nothing lost" if report.lines else ""
+    others = [f", {words} {times[name]} ms" for words, name in (("this machine", "machine_ms"), ("unknown", "unknown_ms"))
+              if times[name]]
+    return (f"{result(race, report)}{''.join(said) or nothing}\nwhere the time went: names {times['names_ms']} ms,"
+            f" lost {times['lost_ms']} ms, connecting {times['connecting_ms']} ms{''.join(others)}")
 
 
 # The addresses in order of preference: RFC 6724 section 6, RFC 8305 section 4
@@ -253,20 +324,18 @@ def waits(race):
 
 def ends(race, report, fate):
     """The ends of the attempts of this fate."""
-    words = {"failed": "failed", "won": "connected", "cancelled": "cancelled"}[fate]
+    words = {"connected": " connected after {} ms", "failed": " failed after {} ms", "no answer": ": no answer in {} ms",
+             "stopped": " stopped after {} ms", "unknown": ": no client tried it, unknown after {} ms"}
     return [(line.tick, {"event": fate, "attempt": line.place},
-             f"attempt {line.place + 1} {words} after {line.tick - line.start} ms"
+             f"attempt {line.place + 1}{words[attempt_end(race, line)].format(line.tick - line.start)}"
              + (late(race, line.tick) if fate != "cancelled" else "") + of_client(race, line))
             for line in report.lines if line.fate == fate]
 
 
 def of_client(race, line):
-    """Why the client's attempt failed; or that no client tried the address of one that is cancelled."""
-    record = race.record
-    if line.fate == "failed" and line.address in record.attempts:
-        return f": {ATTEMPTS[record.attempts[line.address]]}"
-    is_unknown = line.fate == "cancelled" and line.address in record.untried
-    return "; no client tried it: its outcome is unknown" if is_unknown else ""
+    """Why the client's attempt failed."""
+    reasons = race.record.attempts
+    return f": {ATTEMPTS[reasons[line.address]]}" if line.fate == "failed" and line.address in reasons else ""
 
 
 def events(race, report):

@@ -7,21 +7,30 @@ import re
 from collections import Counter, namedtuple
 
 import plain
+import plain_accounts
 from plain import counted, one_line, print_address
 
-# How many of the addresses are told to which attempts failed or were silent.
+# How many of the addresses are told that cost most.
 MOST_TOLD = 10
-PERCENTS = {"median": 50, "p90": 90, "p99": 99, "greatest": 100}
-GROUPINGS = ("file", "hour", "family")
+PERCENTS = {"median": 50, "p90": 90, "p99": 99, "max": 100}
+GROUPINGS = ("file", "hour", "family", "host")
 # The name of a record, as `he proxy --record` gives it, with its day and its hour.
 RECORD = re.compile(r"(?:.*/)?(\d{4}-\d\d-\d\d)/(\d\d)-\d\d-\d\d\.\d{3}-[^/]*", re.ASCII | re.DOTALL)
 FAMILIES = {6: "IPv6", 4: "IPv4", None: "none"}
-HEADING = "  races     won    p50    p90    p99  attempts    IPv6   lost ms  {}\n"
+HEADING = ("  races  connected  p50 ms  p90 ms  p99 ms  attempts       IPv6  names ms   lost ms  {}\n")
 
 LOOKUPS = {"aaaa": "AAAA", "a": "A"}
+# Why a race did not connect, with the words of a text.
+REASONS = {"timed_out": "timed out", "all_failed": "all addresses failed", "no_address": "without an address"}
+# What the time of a race goes into, as its object has it, with the words of a text.
+SHARES = {"names_ms": "names", "lost_ms": "lost", "connecting_ms": "connecting", "machine_ms": "this machine",
+          "unknown_ms": "unknown"}
 
+# `times` has the objects of the races' times (plain_accounts), those of the won ones apart; `charges` the time that each
+# address owns.
 Summary = namedtuple(
-    "Summary", "races won kinds times lost attempts most waited failed silent tried slowest ends lookups servers")
+    "Summary", "races won not_won reasons times won_times attempts most waited failed unanswered tried charges slowest"
+    " ends lookups servers")
 
 
 def percentile(times, percent):
@@ -33,10 +42,10 @@ def is_failed(race, line):
     return line.fate == "failed" and line.address not in race.record.untried
 
 
-def is_silent(race, line):
+def is_unanswered(race, line):
     """Whether an attempt was under way up to the race's end, for the Connection Attempt Delay or longer, to an address
-    that does nothing, and that a client tried."""
-    return (line.fate == "cancelled" and line.address not in race.outcomes and line.address not in race.record.untried
+    that a client tried."""
+    return (line.fate == "cancelled" and line.address not in race.record.untried
             and line.tick - line.start >= race.setting("attempt"))
 
 
@@ -49,22 +58,11 @@ def has_waited(race, report):
     return not race.is_seen("aaaa", start) and race.is_seen("a", start - 1)
 
 
-def dead_before(race, report):
-    """What an address was that was tried before the winner's: silent, or else one that failed."""
-    before = report.lines[:report.result.place]
-    if any(is_silent(race, line) for line in before):
-        return "silent"
-    return "failed" if any(is_failed(race, line) for line in before) else None
-
-
-def losses(won):
-    """What the won races lost to dead addresses, by what these were."""
-    lost = {"failed": [], "silent": []}
-    for race, report in won:
-        dead, time = dead_before(race, report), race.lost()
-        if dead and time:
-            lost[dead].append(time)
-    return lost
+def reason_of(report):
+    """Why a race did not connect."""
+    if report.result.kind == "limit":
+        return "timed_out"
+    return "all_failed" if report.lines else "no_address"
 
 
 def rounded(number, of, unit):
@@ -80,17 +78,28 @@ def share(number, of):
     return f" ({tenths // 10}.{tenths % 10} %)"
 
 
+def charged(races):
+    """The milliseconds that the attempts to each address own."""
+    charges = Counter()
+    for race, report in races:
+        for who, millis in plain_accounts.account(race).items():
+            if isinstance(who, int):
+                charges[report.lines[who].address] += millis
+    return charges
+
+
 def summed(races, changes):
     made = [(race, race.report) for race in (race.changed(changes) for race in races)]
     won = [(number, race, report) for number, (race, report) in enumerate(made, 1) if report.winner]
     lines = [(race, line) for race, report in made for line in report.lines]
     return Summary(
         len(made), Counter(report.winner.address.family for _, _, report in won),
-        Counter(report.result.kind for _, report in made), [report.result.tick for _, _, report in won],
-        losses([(race, report) for _, race, report in won]), len(lines),
+        [report.result.tick for _, report in made if not report.winner],
+        Counter(reason_of(report) for _, report in made if not report.winner),
+        [plain_accounts.times(race) for race, _ in made], [plain_accounts.times(race) for _, race, _ in won], len(lines),
         max((len(report.lines) for _, report in made), default=0), sum(has_waited(*one) for one in made),
-        *(Counter(line.address for race, line in lines if test(race, line)) for test in (is_failed, is_silent)),
-        Counter(line.address for _, line in lines),
+        *(Counter(line.address for race, line in lines if test(race, line)) for test in (is_failed, is_unanswered)),
+        Counter(line.address for _, line in lines), charged(made),
         sorted(won, key=lambda one: (-one[2].result.tick, one[0])),
         [(*race.record.end, report.result.tick if report.winner else None) for race, report in made if race.record.end],
         Counter(item for race in races for item in race.record.lookups.items()),
@@ -98,9 +107,12 @@ def summed(races, changes):
 
 
 def worst(summary):
-    """The addresses to which most attempts failed or were silent, equal ones by their number as IPv6 addresses."""
-    lost = summary.failed + summary.silent
-    return sorted(lost, key=lambda address: (-lost[address], plain.mapped(address)))[:MOST_TOLD]
+    """The addresses that cost most time, equal ones by the attempts that failed or were not answered, then by their
+    number as IPv6 addresses."""
+    dead = summary.failed + summary.unanswered
+    addresses = [address for address in summary.tried if summary.charges[address] or dead[address]]
+    return sorted(addresses, key=lambda address: (-summary.charges[address], -dead[address], plain.mapped(address))
+                  )[:MOST_TOLD]
 
 
 def client_times(summary):
@@ -130,36 +142,60 @@ def dead_servers(summary):
     return [(address, summary.servers[address, False], summary.servers[address, True]) for address in first]
 
 
-def record_lines(summary):
-    """What the record lines say."""
-    within = "median {median} ms, 90 of 100 within {p90} ms, 99 of 100 within {p99} ms, greatest {greatest} ms"
+def within(what, times):
+    """The row of some times."""
+    return [f"{what:<21}" + "".join(f"{time:>10}" for time in percentiles(times).values())] if times else []
+
+
+def rows(summary):
+    """The percentiles of times; those of what of them went into the names and was lost are left out where all are 0."""
+    parts = [("  of it names", [times["names_ms"] for times in summary.won_times]),
+             ("  of it lost", [times["lost_ms"] for times in summary.won_times])]
     clients, by_rules = client_times(summary)
-    ends, lookups, servers = ended(summary), failed_lookups(summary), dead_servers(summary)
+    return [
+        *[" " * 24 + " median       p90       p99       max  ms"] * bool(summary.races),
+        *within("time to connect", [times["ms"] for times in summary.won_times]),
+        *(row for what, times in parts if any(times) for row in within(what, times)),
+        *within("until given up", summary.not_won),
+        *within("the clients connected", clients), *within("  by RFC 8305", by_rules),
+    ]
+
+
+def sums(summary):
+    return {name: sum(times[name] for times in summary.times) for name in plain_accounts.MEMBERS}
+
+
+def went(summary):
+    """What the time of all races went into."""
+    total = sums(summary)
+    parts = [f"{what} {total[name]} ms" for name, what in SHARES.items()
+             if total[name] or name not in ("machine_ms", "unknown_ms")]
+    return [f"where the time went: {', '.join(parts)}"] if total["ms"] else []
+
+
+def record_lines(summary):
+    """What the record lines say, but for times and name servers."""
+    ends, lookups = ended(summary), failed_lookups(summary)
     return [
         *["clients: " + ", ".join(f"{number} {word.replace('-', ' ')}" for word, number in ends)] * bool(ends),
-        *[f"{what}: {within.format(**percentiles(times))}"
-          for what, times in (("the clients connected after", clients), ("by RFC 8305 it would have been", by_rules))
-          if times],
         *["look-ups without an address: "
           + ", ".join(f"{number} {LOOKUPS[family]} {word.replace('-', ' ')}" for family, word, number in lookups)]
         * bool(lookups),
-        *["name servers that did not answer:"] * bool(servers),
-        *(f"  {failed} failed, {silent} silent of {counted(failed + silent, 'attempt')} to {print_address(address)}"
-          for address, failed, silent in servers),
     ]
 
 
 def record_members(summary):
     clients, by_rules = client_times(summary)
-    ends, lookups, servers = ended(summary), failed_lookups(summary), dead_servers(summary)
-    members = {
-        "clients": {word.replace("-", "_"): number for word, number in ends},
+    ends = Counter(word for word, _, _ in summary.ends)
+    servers = [{"address": print_address(address), "given_up": failed + unanswered, "failed": failed,
+                "no_answer": unanswered} for address, failed, unanswered in dead_servers(summary)]
+    return {
+        "clients": {word.replace("-", "_"): ends[word] for word in plain.CLIENT_ENDS},
         "client_ms": percentiles(clients), "rules_ms": percentiles(by_rules),
-        "lookups": {f"{family}_{word.replace('-', '_')}": number for family, word, number in lookups},
-        "servers": [{"failed": failed, "silent": silent, "attempts": failed + silent, "address": print_address(address)}
-                    for address, failed, silent in servers],
+        "lookups": {family: {word.replace("-", "_"): summary.lookups[family, word] for word in plain.LOOKUP_WORDS}
+                    for family in LOOKUPS},
+        "servers": servers,
     }
-    return {name: value for name, value in members.items() if value}
 
 
 def percentiles(times, names=tuple(PERCENTS)):
@@ -167,68 +203,117 @@ def percentiles(times, names=tuple(PERCENTS)):
     return {name: percentile(times, PERCENTS[name]) for name in names} if times else None
 
 
-def lost_text(summary, dead, what):
-    times = summary.lost[dead]
-    if not times:
-        return f"no time was lost to {what}"
-    at = percentiles(times, ("median", "greatest"))
-    return (f"lost to {what}: in {counted(len(times), 'race')}{share(len(times), len(summary.times))},"
-            f" {sum(times)} ms in all, median {at['median']} ms, greatest {at['greatest']} ms")
+def first_line(summary):
+    connected, not_connected = len(summary.won_times), len(summary.not_won)
+    reasons = ", ".join(f"{summary.reasons[name]} {what}" for name, what in REASONS.items() if summary.reasons[name])
+    return (f"{counted(summary.races, 'race')}: {connected} connected{share(connected, summary.races)}"
+            + f", {not_connected} not: {reasons}" * bool(not_connected))
+
+
+def families(summary):
+    connected = len(summary.won_times)
+    parts = [f"{FAMILIES[family]}: {summary.won[family]}{share(summary.won[family], connected)}" for family in (6, 4)
+             if summary.won[family]]
+    return [f"connected by {', '.join(parts)}"] if parts else []
 
 
 def as_text(summary, slowest):
-    times, addresses, slow = percentiles(summary.times), worst(summary), summary.slowest[:slowest]
-    kinds = [("won", summary.kinds["won"]), ("by IPv6", summary.won[6]), ("by IPv4", summary.won[4]),
-             ("exhausted", summary.kinds["exhausted"]), ("at the limit", summary.kinds["limit"])]
+    addresses, servers, slow = worst(summary), dead_servers(summary), summary.slowest[:slowest]
     lines = [
-        f"{counted(summary.races, 'race')}: "
-        + ", ".join(f"{number} {kind}{share(number, summary.races)}" for kind, number in kinds),
-        "time to connect: median {median} ms, 90 of 100 within {p90} ms, 99 of 100 within {p99} ms, greatest {greatest}"
-        " ms".format(**times) if times else "no race was won",
-        lost_text(summary, "failed", "addresses that failed"),
-        lost_text(summary, "silent", "silent addresses"),
-        f"attempts: {summary.attempts}, at most {summary.most} in a race",
-        f"the Resolution Delay was waited out in {counted(summary.waited, 'race')}"
-        + share(summary.waited, summary.races),
-        *["failed or silent most often:"] * bool(addresses),
-        *(f"  {summary.failed[address]} failed, {summary.silent[address]} silent of"
-          f" {counted(summary.tried[address], 'attempt')} to {print_address(address)}" for address in addresses),
+        first_line(summary), *families(summary), *rows(summary), *went(summary),
+        *[f"attempts: {summary.attempts}, at most {summary.most} in a race"] * bool(summary.attempts),
+        *[f"races that waited out the Resolution Delay: {summary.waited}{share(summary.waited, summary.races)}"]
+        * bool(summary.waited),
         *record_lines(summary),
+        *["  attempts    failed no answer   lost ms  address"] * bool(addresses),
+        *(f"{summary.tried[address]:>10}{summary.failed[address]:>10}{summary.unanswered[address]:>10}"
+          f"{summary.charges[address]:>10}  {print_address(address)}" for address in addresses),
+        *["  given up    failed no answer  name server"] * bool(servers),
+        *(f"{failed + unanswered:>10}{failed:>10}{unanswered:>10}  {print_address(address)}"
+          for address, failed, unanswered in servers),
         *["slowest:"] * bool(slow),
-        *(f"  -:{race.line} race {number}: {report.result.tick} ms to"
-          f" {print_address(report.winner.address)}, {race.lost()} ms lost"
+        *(f"  -:{race.line} race {number}: {report.result.tick} ms to {print_address(report.winner.address)},"
+          f" names {plain_accounts.times(race)['names_ms']} ms, lost {plain_accounts.times(race)['lost_ms']} ms"
           for number, race, report in slow),
     ]
     return "".join(f"{line}\n" for line in lines)
 
 
-def lost_json(times):
-    return {"races": len(times), "total": sum(times), **percentiles(times, ("median", "greatest"))} if times else None
-
-
-def as_object(summary, slowest):
-    failing = [{"failed": summary.failed[address], "silent": summary.silent[address],
-                "attempts": summary.tried[address], "address": print_address(address)} for address in worst(summary)]
-    slow = [{"file": "-", "race": number, "line": race.line, "ms": report.result.tick,
-             "address": print_address(report.winner.address), "lost_ms": race.lost()}
-            for number, race, report in summary.slowest[:slowest]]
+def totals_object(summary):
+    """The members that also a group has."""
     return {
         "races": summary.races,
-        "won": {"all": summary.kinds["won"], "ipv6": summary.won[6], "ipv4": summary.won[4]},
-        "exhausted": summary.kinds["exhausted"], "limit": summary.kinds["limit"],
-        "connect_ms": percentiles(summary.times),
-        "lost_ms": {dead: lost_json(summary.lost[dead]) for dead in ("failed", "silent")},
+        "connected": {"all": len(summary.won_times), "ipv6": summary.won[6], "ipv4": summary.won[4]},
+        "not_connected": {"all": len(summary.not_won), **{name: summary.reasons[name] for name in REASONS}},
+        "total": sums(summary),
+        "connect_ms": percentiles([times["ms"] for times in summary.won_times]),
+        "names_ms": percentiles([times["names_ms"] for times in summary.won_times]),
+        "lost_ms": percentiles([times["lost_ms"] for times in summary.won_times]),
+        "given_up_ms": percentiles(summary.not_won),
         "attempts": {"total": summary.attempts, "most": summary.most}, "resolution_delay": summary.waited,
-        "failing": failing, **record_members(summary), **({"slowest": slow} if slowest else {}),
     }
 
 
+def as_object(summary, slowest):
+    addresses = [{"address": print_address(address), "attempts": summary.tried[address],
+                  "failed": summary.failed[address], "no_answer": summary.unanswered[address],
+                  "lost_ms": summary.charges[address]} for address in worst(summary)]
+    slow = [{"file": "-", "race": number, "line": race.line, "ms": report.result.tick,
+             "address": print_address(report.winner.address),
+             **{name: plain_accounts.times(race)[name] for name in ("names_ms", "lost_ms")}}
+            for number, race, report in summary.slowest[:slowest]]
+    return {**totals_object(summary), "addresses": addresses, **record_members(summary),
+            **({"slowest": slow} if slowest else {})}
+
+
+def written_for(files, changes, slowest=0):
+    """The summary of these files, with the worst hour and the worst host."""
+    races = [race for _, read in files for race in read]
+    worst_lines = (worst_line(by, files, changes) for by in ("hour", "host"))
+    return "".join((as_text(summed(races, changes), slowest), *worst_lines)).encode()
+
+
 def written(races, changes, slowest=0):
-    return as_text(summed(races, changes), slowest).encode()
+    return written_for([("-", races)], changes, slowest)
 
 
 def written_json(races, changes, slowest=0):
     return one_line(as_object(summed(races, changes), slowest)).encode()
+
+
+def seconds(millis):
+    return f"{millis // 1000}.{millis % 1000:03}"
+
+
+def metric(name, kind, help_text, samples):
+    """A metric with its samples: each has what follows its name, and its value."""
+    unit = f"# UNIT {name} seconds\n" if name.endswith("_seconds") else ""
+    lines = "".join(f"{name}{labels} {value}\n" for labels, value in samples)
+    return f"# TYPE {name} {kind}\n{unit}# HELP {name} {help_text}\n{lines}"
+
+
+def as_metrics(summary):
+    times = [times["ms"] for times in summary.won_times]
+    connected = [(f'_total{{result="connected",family="{FAMILIES[family].lower()}"}}', summary.won[family])
+                 for family in (6, 4)]
+    reasons = [(f'_total{{result="{name}"}}', summary.reasons[name]) for name in REASONS]
+    quantiles = [(f'{{quantile="{quantile}"}}', seconds(percentile(times, percent)))
+                 for quantile, percent in (("0.5", 50), ("0.9", 90), ("0.99", 99), ("1", 100)) if times]
+    into = [(f'_total{{into="{name.removesuffix("_ms")}"}}', seconds(sums(summary)[name]))
+            for name in plain_accounts.MEMBERS[1:]]
+    return "".join((
+        metric("he_races", "counter", "Races by how they ended.", connected + reasons),
+        metric("he_connect_seconds", "summary", "Time to connect, of the races that connected.",
+               [*quantiles, ("_sum", seconds(sum(times))), ("_count", len(times))]),
+        metric("he_time_seconds", "counter", "Time of all races, by what it went into.", into),
+        metric("he_attempts", "counter", "Connection attempts.", [("_total", summary.attempts)]),
+        metric("he_resolution_delays", "counter", "Races that waited out the Resolution Delay.",
+               [("_total", summary.waited)]),
+        "# EOF\n"))
+
+
+def written_metrics(races, changes):
+    return as_metrics(summed(races, changes)).encode()
 
 
 # Groups
@@ -244,6 +329,10 @@ def family_of(race):
     return FAMILIES[winner and winner.address.family]
 
 
+def host_of(race):
+    return "{} {}".format(*race.record.target) if race.record.target else "no host"
+
+
 def groups_of(by, files, changes):
     """The races of each group with its label, in order: `files` has the name and the races of each."""
     if by == "file":
@@ -253,6 +342,11 @@ def groups_of(by, files, changes):
         for name, races in files:
             hours.setdefault(hour_of(name), []).extend(races)
         groups = sorted(hours.items(), key=lambda one: (one[0] == "other", one[0]))
+    elif by == "host":
+        hosts = {}
+        for race in (race for _, races in files for race in races):
+            hosts.setdefault(host_of(race), []).append(race)
+        groups = hosts.items()
     else:
         changed = [race.changed(changes) for _, races in files for race in races]
         groups = [(label, [race for race in changed if family_of(race) == label]) for label in FAMILIES.values()]
@@ -261,9 +355,9 @@ def groups_of(by, files, changes):
 
 def share_cell(number, of):
     if not of:
-        return "       -"
+        return "          -"
     tenths = rounded(number, of, 1000)
-    return f"{tenths // 10:>4}.{tenths % 10} %"
+    return f"{tenths // 10:>7}.{tenths % 10} %"
 
 
 def mean_cell(number, of):
@@ -271,19 +365,31 @@ def mean_cell(number, of):
     return f"{mean // 100:>7}.{mean % 100:02}"
 
 
+def time_cells(times, names=("median", "p90", "p99")):
+    found = percentiles(times)
+    return "".join(f"{found[name] if found else '-':>8}" for name in names)
+
+
 def group_row(summary, label):
-    times = percentiles(summary.times)
-    cells = f"{summary.races:>7}{share_cell(summary.kinds['won'], summary.races)}"
-    cells += "".join(f"{times[name] if times else '-':>7}" for name in ("median", "p90", "p99"))
-    cells += mean_cell(summary.attempts, summary.races) + share_cell(summary.won[6], len(summary.times))
-    return f"{cells}{sum(map(sum, summary.lost.values())):>10}  {label}\n"
+    total, connected = sums(summary), len(summary.won_times)
+    cells = f"{summary.races:>7}{share_cell(connected, summary.races)}"
+    cells += time_cells([times["ms"] for times in summary.won_times]) + mean_cell(summary.attempts, summary.races)
+    return (f"{cells}{share_cell(summary.won[6], connected)}{total['names_ms']:>10}{total['lost_ms']:>10}  {label}\n")
 
 
 def group_object(summary, label):
-    told = as_object(summary, 0)
-    for name in ("failing", *record_members(summary)):
-        del told[name]
-    return one_line({**told, "group": label})
+    return one_line({**totals_object(summary), "group": label})
+
+
+def worst_line(by, files, changes):
+    """The group with the most races that did not connect, of equal ones the one that lost the most time: of several
+    groups, if there are such races or time was lost."""
+    groups = [(label, summed(races, changes)) for label, races in groups_of(by, files, changes)]
+    costs = [(len(summary.not_won), sums(summary)["lost_ms"]) for _, summary in groups]
+    if len(groups) < 2 or not any(map(any, costs)):
+        return ""
+    (label, summary), (not_won, lost) = max(zip(groups, costs), key=lambda one: one[1])
+    return f"worst {by}: {label} ({not_won} of {summary.races} not connected, lost {lost} ms)\n"
 
 
 def written_by(by, files, changes, is_json=False):

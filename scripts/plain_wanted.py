@@ -2,7 +2,7 @@
 """What a run of `he` must write for a text, by the plain readings beside this file.
 
 needs: python3, its standard library alone
-usage: scripts/plain_wanted.py COMMAND [--json] [--ascii] [--races] [--slowest N] [NAME=N ..] < TEXT
+usage: scripts/plain_wanted.py COMMAND [--json] [--ascii] [--openmetrics] [--races] [--slowest N] [NAME=N ..] < TEXT
            with these settings in place of each race's own, as with --set; of `compare` one name may have a list
        scripts/plain_wanted.py summary --by GROUP [--json] [NAME=N ..] -- FILE ..
 """
@@ -21,10 +21,11 @@ WRITTEN = {
     "order": plain.ordered, "replay": plain.replayed, "order --json": plain_json.ordered,
     "replay --json": plain_json.replayed, "explain": plain_story.written, "compare": plain_compared.written,
     "draw": plain_drawn.written, "draw --ascii": plain_drawn.written_ascii, "summary": plain_summary.written,
-    "summary --json": plain_summary.written_json, "explain --json": plain_json.explained, **plain_summary.WRITTEN_BY,
+    "summary --json": plain_summary.written_json, "summary --openmetrics": plain_summary.written_metrics,
+    "explain --json": plain_json.explained, **plain_summary.WRITTEN_BY,
 }
 # The words that tell what is written, of a command that has settings too.
-WORDS = ("--json", "--ascii", "--by", *plain_summary.GROUPINGS)
+WORDS = ("--json", "--ascii", "--openmetrics", "--by", *plain_summary.GROUPINGS)
 
 
 class Wanted:

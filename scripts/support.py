@@ -5,11 +5,13 @@ needs: Linux, python3, its standard library alone
 """
 import argparse
 import collections
+import concurrent.futures
 import contextlib
 import functools
 import hashlib
 import http.server
 import importlib
+import itertools
 import os
 import pathlib
 import random
@@ -36,17 +38,20 @@ ALONE = 0.1  # seconds in which this machine answers itself
 os.environ["PATH"] += ":/usr/sbin:/sbin"  # where dnsmasq, sshd and ip may be
 # The parts of each harness, scripts/parts/NAME.py, in their order.
 PARTS = {
-    "examples": "examples lines page documents documents_parallel manual installed architecture captures "
-                "captures_records library fuzz",
-    "network": "hosts hosts_bytes live names names_files connect connect_relay proxy proxy_clients proxy_log proxy_load "
-               "proxy_names proxy_strangers proxy_programs",
-    "hostile": "hostile refused faults",
+    "examples": "examples lines page documents documents_parallel manual installed architecture edits "
+                "captures captures_records library library_lines library_clients fuzz",
+    "network": "session hosts hosts_bytes live names names_files connect connect_relay nat64 nat64_names probe "
+               "proxy proxy_clients proxy_log proxy_load proxy_names proxy_strangers proxy_http proxy_programs",
+    "hostile": "hostile refused refused_nat64 faults",
 }
+# Those that look at no time and share nothing run side by side, before the others, the longest first.
+ASIDE = "examples captures_records captures page manual lines installed architecture edits".split()
 
 # A harness, its parts and their checks
 
 
 COUNTS = collections.Counter()  # how many checks passed (True) and failed (False)
+TOLD = []  # what is wrong in the check that runs
 WRONG = "FAILED: "  # how the line of a check begins that failed
 
 
@@ -54,7 +59,7 @@ def tell(is_right, *told):
     """Counts a check, and tells what is wrong."""
     COUNTS[bool(is_right)] += 1
     if not is_right:
-        print(WRONG + " ".join(map(str, told)))
+        TOLD.append(" ".join(map(str, told)))
 
 
 def end():
@@ -79,27 +84,101 @@ def needs(*programs):
         raise NotTried(f"{', '.join(missing)} isn't installed")
 
 
+# Pauses of this machine
+
+
+PAUSE = 0.005  # seconds of a pause that may explain why a check of short times fails
+LONG_PAUSE = 0.05  # and of one that may explain why any other check does
+CALM, MOST_WAIT = 1, 30  # seconds without a pause before another try, and how long they are waited for at most
+TRIES = 5  # of what fails while this machine pauses
+
+
+class Pauses:
+    """The pauses of this machine while a part runs, as scripts/pauses.py sees them: none where it may not."""
+
+    def __init__(self):
+        self.found = [(time.monotonic(), 0.0)]
+        watching = [sys.executable, ROOT / "scripts/pauses.py"]
+        self.watching = subprocess.Popen(watching, stdin=subprocess.PIPE, stdout=subprocess.PIPE, text=True)
+        in_thread(self.read)
+
+    def read(self):
+        for line in self.watching.stdout:
+            self.found.append(tuple(map(float, line.split())))
+
+    def longest_since(self, began):
+        """The seconds of the longest pause that ended after this time of the monotonic clock."""
+        return max((length for end, length in self.found if end > began), default=0)
+
+    def end(self):
+        """Waits until there is none for a while."""
+        last = time.monotonic() + MOST_WAIT
+        while time.monotonic() < last and self.longest_since(time.monotonic() - CALM) > PAUSE:
+            time.sleep(0.1)
+
+
+@functools.cache
+def pauses():
+    return Pauses()
+
+
+def settled(attempt, what="", most_failed=2, least=PAUSE):
+    """The result of an attempt that says as its first value whether it is right. It is made again while it isn't: until
+    it failed as often without a pause of this machine of the least length, and at most TRIES times. With it the longest
+    pause of the last try."""
+    pauses()
+    for tries_left in reversed(range(TRIES)):
+        began = time.monotonic()
+        result = attempt()
+        pause = pauses().longest_since(began)
+        most_failed -= pause < least
+        if result[0] or not tries_left or not most_failed:
+            return *result, pause
+        print(f"{what}: tried again (the longest pause of this machine: {1_000 * pause:.0f} ms)")
+        pauses().end()
+
+
 def timed(check):
-    """Marks a check that looks at times of more than a wait's least: a busy machine gets a second try."""
+    """Marks a check that looks at short times: it is tried again where it fails, also where no pause is seen."""
     check.is_timed = True
     return check
 
 
-def run_check(name, check, is_last=False):
-    """Runs a check, once more where it went wrong and looks at times. It counts as one, but where it counts itself."""
-    counted = COUNTS.total()
-    try:
-        check()
-        if COUNTS.total() == counted:
-            tell(True)
-    except (NotTried, PermissionError) as error:
-        print(f"{name}: not tried ({error})")
-    except Exception as error:
-        said = f"{name}: {error}" if isinstance(error, ValueError) else f"{name}: {type(error).__name__}: {error}"
-        if is_last or not hasattr(check, "is_timed"):
-            return tell(False, said)
-        print(f"{said}: tried again: machine busy")
-        run_check(name, check, is_last=True)
+def run_check(name, check):
+    """Runs a check, and again where it fails and this machine paused meanwhile, in another folder: it isn't tried where
+    all tries failed so. It counts as one, but where it counts itself."""
+    is_timed, before, folder, tries = hasattr(check, "is_timed"), COUNTS.copy(), OPTIONS.folder, itertools.count()
+
+    def attempt():
+        COUNTS.clear()
+        TOLD.clear()
+        if next(tries):
+            OPTIONS.folder = pathlib.Path(tempfile.mkdtemp(dir=folder))
+        try:
+            check()
+        except (NotTried, PermissionError) as error:
+            print(f"{name}: not tried ({error})")
+            return (True,)
+        except Exception as error:
+            is_told = isinstance(error, ValueError)
+            tell(False, f"{name}: {error}" if is_told else f"{name}: {type(error).__name__}: {error}")
+        else:
+            if not COUNTS:
+                tell(True)
+        if TOLD and not TOLD[0].startswith(name):
+            TOLD[0] = f"{name}: {TOLD[0]}"
+        return (not TOLD,)
+
+    least = PAUSE if is_timed else LONG_PAUSE
+    is_right, pause = settled(attempt, name, 1 + is_timed, least)
+    if not is_right and pause >= least:
+        COUNTS.clear()
+        print(f"{name}: not tried (this machine paused in each of {TRIES} tries, in the last one for "
+              f"{1_000 * pause:.0f} ms: {TOLD[0]})")
+    else:
+        print("".join(f"{WRONG}{told}\n" for told in TOLD), end="")
+    COUNTS.update(before)
+    OPTIONS.folder = folder
 
 
 def program(name):
@@ -129,26 +208,38 @@ def checks_of(name, part):
     return {word: check for word, check in checks.items() if word.startswith(tuple(OPTIONS.part or [""]))}
 
 
-def run_part(name, part, wrong):
-    """Runs a part in a process of its own, tells how many checks passed and failed, and adds the lines of those that
-    failed. Where it has a SETUP, lines of sh, that is in network and mount namespaces which they set up; where these
-    can't be made, it is tried without them if it has ANYWHERE."""
-    words, counts = [sys.executable, "-u", *sys.argv, "--run", name], None
+def run_part(name, part, say=print):
+    """Runs a part in a process of its own, tells each line that it writes, its time and its counts; returns these, and
+    the lines of the checks that failed. Where the part has a SETUP, lines of sh, it runs in network and mount namespaces
+    which they set up; where these can't be made, it is tried without them if it has ANYWHERE."""
+    began, counts, wrong = time.monotonic(), None, []
+    words = [sys.executable, "-u", *sys.argv, "--run", name]
     if hasattr(part, "SETUP"):
         inside = ["unshare", "-n", "-m", "sh", "-ec", f'{part.SETUP}\nexec "$0" "$@"']
         if shutil.which("unshare") and run(*inside, "true").returncode == 0:
             words = [*inside, *words, "--inside"]
         elif not hasattr(part, "ANYWHERE"):
-            print(f"{name}: not tried (no network of its own can be made)")
-            return 0, 0
+            say(f"{name}: not tried (no network of its own can be made)")
+            return 0, 0, []
     with subprocess.Popen(words, stdout=subprocess.PIPE, text=True) as running:
         for line in running.stdout:
             counts = re.fullmatch(r"(\d+) passed, (\d+) failed\n", line)
-            print("" if counts else line, end="", flush=True)
+            if not counts:
+                say(line.rstrip("\n"))
             wrong += [line] * line.startswith(WRONG)
     if not counts:
         wrong.append(f"{WRONG}{name} breaks off, status {running.returncode}\n")
-    return map(int, counts.groups() if counts else (0, 1))
+    passed, failed = map(int, counts.groups() if counts else (0, 1))
+    say(f"{name}, {time.monotonic() - began:.0f} s: {passed} passed, {failed} failed")
+    return passed, failed, wrong
+
+
+def run_aside(name, part):
+    """Runs a part beside others; tells what it wrote once it has ended."""
+    lines = []
+    result = run_part(name, part, lines.append)
+    print("\n".join(lines))
+    return result
 
 
 def run_harness(doc, *harnesses):
@@ -156,6 +247,7 @@ def run_harness(doc, *harnesses):
     and at the end what failed. The last line counts all."""
     read_options(doc)
     signal.signal(signal.SIGINT, signal.default_int_handler)  # (in the background a shell has it passed over)
+    sys.stdout.reconfigure(line_buffering=True)
     parts = {name: importlib.import_module(f"parts.{name}") for each in harnesses for name in PARTS[each].split()}
     checks = {name: checks_of(name, part) for name, part in parts.items()}
     for word in OPTIONS.part:
@@ -168,13 +260,14 @@ def run_harness(doc, *harnesses):
                 run_check(*each)
         end()
     COUNTS.update(dict(zip((True, False), map(int, re.findall(r"\d+", OPTIONS.before)))))
-    wrong = []
-    for name in filter(checks.get, parts):
-        began = time.monotonic()
-        passed, failed = run_part(name, parts[name], wrong)
-        print(f"{name}, {time.monotonic() - began:.0f} s: {passed} passed, {failed} failed", flush=True)
+    chosen = {name: part for name, part in parts.items() if checks[name]}
+    aside = {name: chosen.pop(name) for name in ASIDE if name in chosen}
+    with concurrent.futures.ThreadPoolExecutor(len(os.sched_getaffinity(0))) as pool:
+        ended = [*pool.map(run_aside, aside, aside.values())]
+    ended += itertools.starmap(run_part, chosen.items())
+    for passed, failed, wrong in ended:
         COUNTS.update({True: passed, False: failed})
-    print("".join(wrong), end="")
+        print("".join(wrong), end="")
     end()
 
 

@@ -11,7 +11,7 @@ PAGE = ROOT / "docs/he.1"
 SYNOPSIS = re.compile(r"(?<=^\.SH SYNOPSIS\n).*?(?=^\.SH )", re.MULTILINE | re.DOTALL)
 SETTINGS = ("attempt", "resolution", "count", "limit", "floor")
 NAMES_OF_SETTINGS = " ".join(f"{name}=" for name in SETTINGS)
-GROUPS = "file hour family"
+GROUPS = "file hour family host"
 # How a value is completed: bash's option of compopt and its words for compgen, what fish has, zsh's action.
 Values = namedtuple("Values", "compopt compgen fish zsh")
 VALUES = {

@@ -1,6 +1,6 @@
-"""Tries tools/from-capture and tools/compare-done, with a built program, on captures of clients (examples/captures),
-which must give the texts beside them; of races that are drawn (drawn_capture.py), whose timelines are known; and on
-such that are damaged, cut, or show too little; and how both compare races that were made up.
+"""Tries tools/from-capture and tools/compare-done, with a built program, on captures of clients (examples/captures and
+examples/incidents), which must give the texts beside them; of races that are drawn (drawn_capture.py), whose timelines
+are known; and on such that are damaged, cut, or show too little; and how both compare races that were made up.
 
 needs: tshark
 """
@@ -16,6 +16,7 @@ HE = OPTIONS.program
 CAPTURES = ROOT / "examples/captures"
 HOST = CAPTURES / "host-lines"
 TOOL = types.SimpleNamespace(**runpy.run_path(str(ROOT / "tools/from-capture"), run_name="from_capture"))
+INCIDENTS = ROOT / "examples/incidents"
 CLIENTS = {"curl": "curl", "wget": "wget", "ssh": "ssh", "go": "Go", "node": "node", "asyncio": "asyncio"}
 DRAWN = 1000
 MOST_SECONDS = 60
@@ -66,6 +67,16 @@ def check_clients():
         is_same(f"{client}: notes", compared.stderr == ran.stderr + lines)
         for end, text in (("timeline", ran.stdout), ("said", ran.stderr), ("compared", lines)):
             is_same(f"{client}.{end}", text == (CAPTURES / f"{client}.{end}").read_text())
+
+
+def check_incidents():
+    """Each timeline of examples/incidents is what is made of the capture there, with outcomes from its other races."""
+    timelines = sorted(INCIDENTS.glob("*.timeline"))
+    must(len(timelines) == 7, *timelines)
+    for timeline in timelines:
+        ran = from_capture(INCIDENTS / "wget.pcap", "--host", INCIDENTS / "host-lines", "--share",
+                           "--name", f"{timeline.stem}.test")
+        is_same(timeline.name, is_sound(ran) and ran.stdout == timeline.read_text())
 
 
 def check_versions():

@@ -142,7 +142,7 @@ def check_told():
              dead_start + rf"2 addresses tried: {DEAD_SIX} no answer in \d+ ms, {DEAD_FOUR} no answer in \d+ ms\n"),
             (["-4", SIX, port], 3, start.format(SIX) + "no usable address\n"),
             (["--resolver", "system", "no.such.name.test", port], 1, "he: [^\n]*\n"),
-            (["--host", "/no/such/file", FOUR, port], 1, "he: [^\n]*--host: /no/such/file\n"),
+            (["--machine", "/no/such/file", FOUR, port], 1, "he: [^\n]*--machine file: /no/such/file\n"),
         ]:
             Run(*words).must(status=status, told=told)
     for words in [["--set", "attempt=5"], ["--set", "speed=1"], ["--timeout", "0"], ["-4", "-6"]]:
@@ -542,24 +542,122 @@ def race_of(record):
 
 
 def check_explained():
-    """What --explain tells is the look-up, and what `he explain` says of the race; -v tells each attempt."""
+    """What --explain tells is the look-up, and what `he explain` says of the record; -v tells each attempt, and with -z
+    how it ended."""
     with serving(greet) as port:
         run, steps = Run("-z", "--explain", "both.test", port), Run("-z", "-v", "both.test", port)
     lines = run.told.splitlines()
     story = [line for line in lines if not line.startswith("he: ")]
     look_up = r"(?m)^he: \d+ ms: AAAA answer: 1 address, no name server asked$"
-    run.must(story == replayed(race_of(run.record), "explain").splitlines() and re.search(look_up, run.told))
+    run.must(story == replayed(run.record, "explain").splitlines() and re.search(look_up, run.told))
+    run.must(story[0].startswith(f"both.test:{port}, "))
     steps.must(SIX in steps.told and FOUR in steps.told)
+    last = rf"he: both\.test:{port} connected by IPv4 \({FOUR}\) in \d+ ms; \d+ ms lost on {SIX} \(failed\)"
+    steps.must(re.fullmatch(last, steps.told.splitlines()[-1]))
 
 
 def check_object():
-    """With -z and --json the output is the object that `he explain --json` makes of the race, won or not."""
+    """With -z and --json the output is the object that `he explain --json` makes of the record, won or not."""
     with serving(greet) as port:
         won = Run("-z", "--json", "both.test", port)
     lost = Run("-z", "--json", FOUR, unused_port())
     for run, status, end in ((won, 0, "won"), (lost, 3, "exhausted")):
         run.must(end in [event["event"] for event in json.loads(run.output)["events"]], status,
-                 output=replayed(race_of(run.record), "explain --json").encode())
+                 output=replayed(run.record, "explain --json").encode())
+
+
+# After the bar of a check's line: its times, in seconds, and the limit of a warning.
+TIMES = r" \| time=(?P<all_s>{0})s names=(?P<names_s>{0})s lost=(?P<lost_s>{0})s;(?P<warn_s>{0})".format(r"\d+\.\d{3}")
+
+
+def checked(words, status, wanted, **more):
+    """A run with --check: its status, its one line, a pattern of the text after `CONNECT `, and no line on standard
+    error. Returns the match."""
+    done = support.run(HE, "connect", "--check", *words, timeout=TIMEOUT, **more)
+    found = re.fullmatch(f"CONNECT {wanted}\n", done.stdout)
+    is_right = found and (done.returncode, done.stderr) == (status, "")
+    must(is_right, *words, f"status {done.returncode}, {done.stdout!r}, {done.stderr!r}, where {wanted} is wanted")
+    return found
+
+
+def checked_times(words, status, wanted, warn=100):
+    """Such a run that connects: its times in seconds are the text's in milliseconds, and the status is by them."""
+    found = checked(words, status, wanted + TIMES).groupdict()
+    took, names, lost, limit = (round(1000 * float(found[f"{time}_s"])) for time in ("all", "names", "lost", "warn"))
+    is_right = (took, lost, limit) == (int(found["all"]), int(found.get("lost", 0)), warn) and names + lost <= took
+    must(is_right and status == (lost > warn), *words, f"status {status},", found)
+
+
+@timed
+def check_monitored():
+    """--check writes a line for a monitor, and its status is that of a plugin: whether it connected, and whether it
+    lost more than --warn. The line has the text of `he explain` on its record."""
+    closed, dead = unused_port(), unused_port()
+    with serving(greet) as port, silent(DEAD_SIX, dead), silent(DEAD_FOUR, dead):
+        won = rf":{port} connected by IPv4 \({FOUR}\) in (?P<all>\d+) ms; "
+        on = r"(?P<lost>\d+) ms lost on "
+        for words, status, wanted, warn in [
+            ([FOUR, port], 0, f"OK - {FOUR}{won}nothing lost", 100),
+            (["--warn", 2000, "both.test", port], 0, rf"OK - both\.test{won}{on}{SIX} \(failed\)", 2000),
+            (["dead6.test", port], 1, rf"WARNING - dead6\.test{won}{on}{DEAD_SIX} \(no answer\)", 100),
+            (["--warn", 2000, "dead6.test", port], 0, rf"OK - dead6\.test{won}{on}{DEAD_SIX} \(no answer\)", 2000),
+            (["--warn", 0, "-z", "both.test", port], 1, rf"WARNING - both\.test{won}{on}{SIX} \(failed\)", 0),
+        ]:
+            checked_times(words, status, wanted, warn)
+        for words, wanted in [
+            ([FOUR, closed], rf"{FOUR}:{closed} not connected: its 1 address refused \(\d+ ms\)"),
+            ([SIX, closed], rf"\[{SIX}\]:{closed} not connected: its 1 address refused \(\d+ ms\)"),
+            (["both.test", closed], rf"both\.test:{closed} not connected: all 2 addresses refused \(\d+ ms\)"),
+            (["--timeout", 600, "dead.test", dead],
+             rf"dead\.test:{dead} not connected: timed out after 600 ms; neither of 2 addresses answered"),
+        ]:
+            checked(words, 2, rf"CRITICAL - {wanted}(; [^|]*)?")
+        run = Run("--check", "dead6.test", port)
+        told = re.fullmatch("CONNECT WARNING - (\\S+) (.*) \\| .*\n", run.output.decode())
+        story = replayed(run.record, "explain").splitlines()[0]
+        run.must(told and story.startswith(f"{told[1]}, ") and story.endswith(f" (race 1, line 1): {told[2]}"), 1, "")
+        told = Run("--check", "-v", "--explain", "both.test", port)
+        told.must(told.output.startswith(b"CONNECT OK - ") and replayed(told.record, "explain") in told.told)
+        checked(["both.test", port], 0, "OK - .*", preexec_fn=lambda: os.close(0))
+        for output in ("> /dev/full", ">&-"):
+            done = support.run("sh", "-c", f"{HE} connect --check {FOUR} {port} {output}")
+            must(done.returncode == 3 and done.stderr.startswith("he: cannot write the output\n"), output, done)
+
+
+def check_monitored_faults():
+    """With --check a name without an address is no connection. A fault of this machine or of the line has the status of
+    UNKNOWN, also if the line is refused, which standard error says."""
+    with serving(greet) as port, Zone(FOUR) as zone:
+        for words, wanted in [
+            (["--resolver", zone.at, "lacks.zone"], rf"lacks\.zone:{port} not connected: no such name \(\d+ ms\)"),
+            (["--resolver", DOWN, "both.zone"], rf"both\.zone:{port} not connected: the name could not be looked up in "
+             r"\d+ ms: no answer \(127\.0\.0\.99 was unreachable\)"),
+            (["--resolver", "system", "no.such.name.test"], rf"no\.such\.name\.test:{port} not connected: [^|]*"),
+        ]:
+            checked([*words, port], 2, f"CRITICAL - {wanted}")
+        for words, wanted in [
+            (["--machine", "/no/such/file", FOUR, port], "cannot read the --machine file: /no/such/file"),
+            ([FOUR, "htps"], "no such service: htps"),
+            (["--record", "/no/such/folder/file", FOUR, port], "/no/such/folder/file: No such file.*"),
+            (["a..b", port], ".*a\\.\\.b"), ([ON_LINK, port], f"a link-local address needs its interface: {ON_LINK}.*"),
+            (["a|b", port], r"not a host name: '\\x7c'; [^|]*: a\\x7cb"),
+        ]:
+            checked(words, 3, f"UNKNOWN - {wanted}")
+        for words, status in [
+            (["--check", "--warn", "x"], 3), (["--check", "--warn", "3600001"], 3), (["--check", "--json"], 3),
+            (["--check", "--record", "-"], 3), (["--check", "--set", "floor=1"], 3), (["--check", "a", "b"], 3),
+            (["--warn", "5"], 2), (["--chek"], 2),
+        ]:
+            done = support.run(HE, "connect", *words, FOUR, port)
+            must((done.returncode, done.stdout) == (status, "") and done.stderr.startswith("he: "), *words, done)
+        done = support.run(HE, "live", "--check")
+        must((done.returncode, done.stdout) == (2, ""), "live", done)
+        done = support.run(HE, "connect", "--check", "--help")
+        must((done.returncode, done.stderr) == (0, "") and "--warn" in done.stdout, "help", done)
+        needs("strace")
+        trace = ["strace", "-f", "-qq", "-o", "/dev/null", "-e", "inject=epoll_create1:error=EMFILE"]
+        done = support.run(*trace, HE, "connect", "--check", FOUR, port, timeout=TIMEOUT)
+        must((done.returncode, done.stdout) == (3, "CONNECT UNKNOWN - too many open files\n"), done)
 
 
 def check_lines():
@@ -567,10 +665,10 @@ def check_lines():
     with tempfile.NamedTemporaryFile("w", suffix=".lines") as file, serving(greet) as port:
         file.write(f"source {FOUR}/8 1\nroute 127.0.0.0/8 1")
         file.flush()
-        run = Run("--host", file.name, FOUR, port)
+        run = Run("--machine", file.name, FOUR, port)
         file.write("\nroute 127.0.0.0/8 x\n")
         file.flush()
-        wrong = Run("--host", file.name, FOUR, port)
+        wrong = Run("--machine", file.name, FOUR, port)
     run.must(run.record.count("source") == 1)
     wrong.must(status=1, told=".*line 3: number.*")
 
@@ -589,7 +687,7 @@ def check_record_file():
         record, pipe = pathlib.Path(folder, "record"), pathlib.Path(folder, "pipe")
         record.write_text("old\n")
         record.chmod(0o600)
-        failed = connect(record, "-z", "--host", "/no/such/file")
+        failed = connect(record, "-z", "--machine", "/no/such/file")
         must(failed.returncode == 1 and record.read_text() == "old\n", "after a fault:", failed, record.read_text())
         must(connect(record, "-z").returncode == 0 and record.read_text().startswith("record at "), record.read_text())
         must(os.listdir(folder) == ["record"], os.listdir(folder))

@@ -1,21 +1,23 @@
-"""Runs the command lines that stand in README.md, docs/ and the manual page, and compares what they print with what is
+"""Runs the command lines in README.md, docs/ and the manual page, and compares what they print with what is
 written below them. A file that one page makes is there for the pages after it, of which README.md is the last.
 
 A line that begins with `$ ` is run by a shell, with the built program as `he`; the lines after it, up to the next
 one or the block's end, are what standard output and standard error must hold. A `$ cat FILE` whose file isn't there
 yet makes the file. An image `docs/NAME.svg` must be what `he draw --svg NAME.timeline` draws then. Where `he live`
 runs, a server listens at port 8080 of 127.0.0.1, and ticks may differ by 100, at a second try at the latest (a busy
-machine is late); where that port is taken, these lines are not tried. Of the other lines of the shell blocks of README
-and LIBRARY those that begin with `he` must end with status 0, and those that begin with `make` must name a target; of
-those that look for a host on the network, or never end, only the words are tried.
+machine is late); where that port is taken, these lines are not tried, nor those with `tools/from-capture` where tshark
+isn't there. Of the other lines of the shell blocks of README, INCIDENT and LIBRARY those that begin with `he` must end
+with status 0, and those that begin with `make` must name a target; of those that look for a host on the network, or
+never end, only the words are tried. (Blocks of `console` are tried in a network, by session.py.)
 """
 import contextlib
 import os
 import re
+import shutil
 import subprocess
 
 import support
-from support import DATA, OPTIONS, ROOT, tell
+from support import DATA, OPTIONS, ROOT, settled, tell
 
 PORT = 8080
 MOST_TICKS_APART = 100
@@ -66,7 +68,7 @@ def run(command, folder):
 
 def tried(line):
     """The line as it is run: one that looks for a host on the network, or never ends, asks for help after its words."""
-    return f"{line.split(' <')[0]} --help" if line.startswith(("he names", "he connect", "he proxy")) else line
+    return f"{line.split(' <')[0]} --help" if line.startswith(("he names", "he connect", "he probe", "he proxy")) else line
 
 
 def run_shell_lines(text, folder):
@@ -79,14 +81,21 @@ def run_shell_lines(text, folder):
 
 
 def try_block(block, folder, is_live):
-    """As run_block: a block with `he live` once more where it isn't right, and not at all where its port is taken."""
+    """As run_block: a block with `he live` again where it isn't right; not at all where something it needs lacks."""
     if "he live" in block and not is_live:
         print(f"port {PORT} is taken: a block with he live is not tried")
         return []
-    ends = list(run_block(block, folder))
-    if "he live" in block and any(ends):
-        print("tried again: machine busy")
+    if "tools/from-capture" in block and not shutil.which("tshark"):
+        print("tshark isn't installed: a block with tools/from-capture is not tried")
+        return []
+    if "he live" not in block:
+        return list(run_block(block, folder))
+
+    def attempt():
         ends = list(run_block(block, folder))
+        return not any(ends), ends
+
+    _, ends, _ = settled(attempt, "a block with he live")
     return ends
 
 
@@ -109,6 +118,8 @@ def check_pages():
     (folder / "bin").mkdir()
     (folder / "bin/he").symlink_to(OPTIONS.program)
     os.environ["PATH"] = f"{folder}/bin:{os.environ['PATH']}"
+    for name in ("examples", "tools"):
+        (folder / name).symlink_to(ROOT / name)
     # What `he proxy --record day/` leaves.
     record = folder / "day/2026-01-02/12-00-00.000-example.org-443.timeline"
     record.parent.mkdir(parents=True)
@@ -121,7 +132,7 @@ def check_pages():
             text = page.read_text()
             blocks = blocks_of_page(text) if page.suffix == ".1" else blocks_of_markdown(text)
             ends = [end for block in blocks for end in try_block(block, folder, is_live)]
-            if page.name in ("README.md", "LIBRARY.md"):
+            if page.name in ("README.md", "INCIDENT.md", "LIBRARY.md"):
                 ends += run_shell_lines(text, folder)
             for end in ends:
                 tell(end is None, f"{page.relative_to(ROOT)}: {end}")

@@ -39,6 +39,9 @@ LEAST_MEMORY, MOST_MEMORY, MEMORY_STEP = 2_048, 1_048_576, 256  # KiB
 # The example that is repeated, a race of 58 kB, and how often; and how much of the shorter text's time the longer one
 # may take: four times as much is in proportion, sixteen times is the square. Less time (in seconds) is not compared.
 EXAMPLE, SHORT, LONG, MOST_GROWTH, LEAST_TIME = "most-lines-of-a-race", 32, 128, 9, 0.02
+# The C library gives a thread an arena of its own where another allocates just then, and each reserves 64 MiB that it
+# need not use: with one for all, the bound is what the program takes.
+ONE_ARENA = {"MALLOC_ARENA_MAX": "1"}
 # Each command with the memory that it may map, in MiB (`compare` and `summary` hold the whole text, and threads have
 # stacks), how many times the processor time of the first one it may take, where that is bounded (MEASURED has what it
 # takes: a story and a comparison have two transcripts of a race), and the file that has what it writes.
@@ -371,5 +374,6 @@ def bounded(command, memory, file, is_piped):
     with contextlib.ExitStack() as held:
         if is_piped:
             file = held.enter_context(subprocess.Popen(["cat", file], stdout=subprocess.PIPE)).stdout
-        ran = he(command, stdin=file, stderr=subprocess.STDOUT, **limited("AS", memory << 20))
+        ran = he(command, stdin=file, stderr=subprocess.STDOUT, env={**os.environ, **ONE_ARENA},
+                 **limited("AS", memory << 20))
     return support.seconds_of_children() - before, ran.returncode, ran.stdout

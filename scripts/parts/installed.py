@@ -6,7 +6,7 @@ import os
 from support import OPTIONS, ROOT, run, tell
 
 FILES = ["bin/he", "share/man/man1/he.1", "share/bash-completion/completions/he", "share/zsh/site-functions/_he",
-         "share/fish/vendor_completions.d/he.fish", "share/doc/he/LICENSE"]
+         "share/fish/vendor_completions.d/he.fish", "share/doc/he/JSON.md", "share/doc/he/LICENSE"]
 
 
 def check_files():

@@ -1,35 +1,38 @@
-"""Makes libhe of the proved library of crates/he_c, and tries it from C and from Python.
+"""Makes libhe of the proved library of crates/he_c, and tries its texts, its steps and its ABI.
 
-needs: the proved library, by `make build-library`; gcc; valgrind where it is there
+needs: the proved library, by `make build-library`; gcc
 """
-import contextlib
 import ctypes
 import functools
 import importlib
 import os
 import re
-import shutil
 import socket
 import sys
 import time
-from pathlib import Path
 
-from support import DATA, OPTIONS, ROOT, NotTried, data_of, has_six, listener_at, must, needs, run, silent, tell
+from support import DATA, OPTIONS, ROOT, NotTried, data_of, must, needs, run, tell
 
 # The functions, with the words by which the program writes the same.
 CALLS = {"replay": ["replay"], "order": ["order"], "explain": ["explain", "--json"]}
 # What the library may call, beside the loader's own weak names.
 NEEDED = {"malloc", "realloc", "free", "memcpy", "memmove", "memset", "memcmp", "bcmp"}
+# What he_host_lines calls beside it, to ask Linux.
+ASKED = {"socket", "connect", "getsockname", "close", "getifaddrs", "freeifaddrs", "inet_pton", "fopen", "fclose",
+         "fscanf", "__isoc99_fscanf", "__isoc23_fscanf", "snprintf", "strcmp", "strchr", "strlen", "memchr",
+         "_GLOBAL_OFFSET_TABLE_"}
+MOST_BYTES = 300 << 10  # of libhe.so
 HEADER = (ROOT / "include/he.h").read_text()
 NUMBERS = {name: int(number) for name, number in re.findall(r"HE_(\w+) = (\d+)", HEADER)}
-DONE, FAULT, NO_ROOM = (NUMBERS[name] for name in ("DONE", "FAULT", "NO_ROOM"))
-START, WAIT, WON, EXHAUSTED, LIMIT = (NUMBERS[name] for name in ("START", "WAIT", "WON", "EXHAUSTED", "LIMIT"))
-# What the program says of a fault, by the kind's number.
-KINDS = {NUMBERS["NO_FAULT"]: None, NUMBERS["NO_DEFAULT_ROW"]: "policy has no ::/0",
-         NUMBERS["NO_MAPPED_ROW"]: "policy has no ::ffff:0:0/96",
-         NUMBERS["SHARED_PRECEDENCE"]: r"policy rows \d+ and \d+ share a precedence"}
-KINDS |= {NUMBERS[word.upper().replace(" ", "_")]: word for word in (
+DONE, FAULT, TOO_SMALL = (NUMBERS[name] for name in ("DONE", "FAULT", "BUFFER_TOO_SMALL"))
+START, WAIT, WON, EXHAUSTED, LIMIT = (
+    NUMBERS[f"ACTION_{name}"] for name in ("START", "WAIT", "WON", "EXHAUSTED", "LIMIT"))
+# What the program says of a fault, by the kind's number: the words of he_kind_text, with the rows of a policy table.
+KINDS = {NUMBERS[f"KIND_{word.upper().replace(' ', '_')}"]: word for word in (
     "header", "word", "number", "address", "prefix", "repeated", "range", "too many", "unfinished")}
+KINDS |= {NUMBERS["KIND_NONE"]: "", NUMBERS["KIND_NO_DEFAULT_ROW"]: "policy has no ::/0",
+          NUMBERS["KIND_NO_MAPPED_ROW"]: "policy has no ::ffff:0:0/96",
+          NUMBERS["KIND_SHARED_PRECEDENCE"]: "policy rows share a precedence"}
 FILLER = b"\xa5"
 NEVER = 1 << 40  # a tick
 MOST_MICROSECONDS = 20, 2000  # of a call of he_next: 10 addresses, the largest race
@@ -53,10 +56,8 @@ class Library:
         sys.dont_write_bytecode = True  # examples/python is loaded
         os.environ["HE_LIBRARY"] = str(file)
         sys.path.append(str(ROOT / "examples/python"))
-        self.example = importlib.import_module("happy_eyeballs")
+        self.example = importlib.import_module("happy_eyeballs._library")
         self.he = self.example.he
-        for name in (*CALLS, "check"):
-            self.call_of(name).argtypes = self.he.he_replay.argtypes
 
     def call_of(self, name):
         return getattr(self.he, f"he_{name}")
@@ -64,12 +65,12 @@ class Library:
     def text(self, name, text, size=1 << 21):
         """The answer, what is told, and the whole room."""
         room = ctypes.create_string_buffer(FILLER * size, size)
-        told = self.example.Told()
+        told = self.example.Result()
         answer = self.call_of(name)(text, len(text), room, size, ctypes.byref(told))
         return answer, told, room.raw
 
     def step(self, record, started, now):
-        step, told = self.example.Step(), self.example.Told()
+        step, told = self.example.Step(), self.example.Result()
         answer = self.he.he_next(record, len(record), started, now, ctypes.byref(step), ctypes.byref(told))
         return answer, step, told
 
@@ -80,7 +81,7 @@ def library():
 
 
 def header_names():
-    return set(re.findall(r"^uint32_t (he_\w+)\(", HEADER, re.M))
+    return set(re.findall(r"^\w+ (he_\w+)\(", HEADER, re.M))
 
 
 def check_symbols():
@@ -93,7 +94,10 @@ def check_symbols():
         found = {name for kind, name in names if kind not in "Uw"}
         needed = {name.split("@")[0] for kind, name in names if kind == "U"}
         tell(found == header_names(), f"{file.name} exports {sorted(found)}, and he.h has {sorted(header_names())}")
-        tell(needed <= NEEDED, f"{file.name} needs {sorted(needed - NEEDED)}")
+        tell(needed <= NEEDED | ASKED, f"{file.name} needs {sorted(needed - NEEDED - ASKED)}")
+    size = shared.stat().st_size
+    tell(size < MOST_BYTES, f"libhe.so has {size} bytes, of at most {MOST_BYTES}")
+    print(f"    libhe.so: {size} bytes")
     told = run("readelf", "-dlW", shared).stdout
     tell("[libhe.so.1]" in told, "libhe.so has not the soname libhe.so.1")
     tell("GNU_RELRO" in told and re.search(r"\bNOW\b", told), "libhe.so is not linked with relro and now")
@@ -108,22 +112,53 @@ def check_versions():
     tell(found == number == 10000 * major + 100 * minor + patch, f"he_version: {found}, he.h {number}, {version[0]}")
 
 
+STRUCTS = r"""
+#include <he.h>
+#include <stdio.h>
+#define PUT(name, member) printf("%s %zu", #member, offsetof(struct name, member))
+int main(void)
+{
+    PRINTS
+}
+"""
+
+
+def check_abi():
+    """The functions and numbers of he.h, and the sizes and the offsets of its structs, are those of library/abi."""
+    lines = [line for line in (ROOT / "library/abi").read_text().splitlines() if not line.startswith("#")]
+    names = {line for line in lines if not line.startswith("struct ")}
+    wanted = header_names() | {f"HE_{name} {number}" for name, number in NUMBERS.items()}
+    tell(names == wanted, f"he.h and library/abi differ in {sorted(names ^ wanted)}")
+    prints = []
+    for name, members in re.findall(r"^struct (he_\w+) \{\n(.*?)^\};", HEADER, re.M | re.S):
+        own = re.findall(r"^\s*uint\d+_t (\w+)", members, re.M)
+        prints.append(f'printf("struct {name} %zu: ", sizeof(struct {name}));')
+        prints.append(' printf(", "); '.join(f"PUT({name}, {member});" for member in own) + ' puts("");')
+    source = prefix() / "structs.c"
+    source.write_text(STRUCTS.replace("PRINTS", "\n    ".join(prints)))
+    built = run("gcc", f"-I{prefix()}/include", "-o", prefix() / "structs", source)
+    must(built.returncode == 0, built.stderr)
+    found = run(prefix() / "structs").stdout.splitlines()
+    tell(found == [line for line in lines if line.startswith("struct ")], f"the structs of he.h: {found}")
+
+
 def check_bare():
-    """A text and a room of length 0 may be null pointers."""
+    """A text and a buffer of length 0 may be null pointers."""
     example = library().example
     for name in (*CALLS, "check"):
-        told = example.Told()
+        told = example.Result()
         answer = library().call_of(name)(None, 0, None, 0, ctypes.byref(told))
-        wanted = (NO_ROOM, len(b"0 races, 0 lines\n")) if name == "check" else (DONE, 0)
+        wanted = (TOO_SMALL, len(b"0 races, 0 lines\n")) if name == "check" else (DONE, 0)
         tell((answer, told.length, told.kind) == (*wanted, 0), f"he_{name} of nothing: {answer}, {told.length} bytes")
-    step, told = example.Step(), example.Told()
+    step, told = example.Step(), example.Result()
     answer = library().he.he_next(None, 0, 0, 1, ctypes.byref(step), ctypes.byref(told))
-    tell((answer, told.line, told.kind) == (FAULT, 1, NUMBERS["HEADER"]), f"he_next of nothing: {answer}, {told.kind}")
+    found = answer, told.line, told.kind
+    tell(found == (FAULT, 1, NUMBERS["KIND_HEADER"]), f"he_next of nothing: {found}")
 
 
 def is_told(told, fault):
-    """The numbers of a fault are those of the program's words, of which there are none where there is no fault."""
-    words = KINDS.get(told.kind, "a kind that he.h has not")
+    """The numbers of a fault are those of the program's words, of which there are none without a fault."""
+    words = KINDS.get(told.kind, "a kind that he.h has not").replace("rows share", r"rows \d+ and \d+ share")
     return re.fullmatch(f"he: line {told.line}: {words}\n" if words else "", fault.decode())
 
 
@@ -139,7 +174,7 @@ def compare(name, text, wanted, fault):
     tell(answer == (FAULT if fault else DONE) and room == wanted, f"{where}: not with just enough room")
     if size:
         answer, told, room = library().text(name, text, size - 1)
-        told_so = answer == NO_ROOM and told.length == size and room == FILLER * (size - 1)
+        told_so = answer == TOO_SMALL and told.length == size and room == FILLER * (size - 1)
         tell(told_so, f"{where}: not with room one byte too small")
 
 
@@ -308,86 +343,6 @@ def check_times():
         tell(good, f"{name}: answer {answer}, line {told.line}, kind {told.kind}, of at most {most} microseconds")
 
 
-@contextlib.contextmanager
-def servers():
-    """A port at which 127.0.0.1 and ::1 answer, 127.0.0.2 refuses, and 127.0.0.3 is silent."""
-    with contextlib.ExitStack() as held:
-        port = held.enter_context(listener_at("127.0.0.1")).getsockname()[1]
-        if has_six():
-            held.enter_context(listener_at("::1", port))
-        held.enter_context(silent("127.0.0.3", port))
-        yield port
-
-
-# The addresses of a race, how it ends, and what became of each.
-RACES = [
-    (["127.0.0.1"], "won 0", ["won"]),
-    (["127.0.0.2", "127.0.0.1"], "won 1", ["failed", "won"]),
-    (["127.0.0.3", "127.0.0.1"], "won 1", ["cancelled", "won"]),
-    (["127.0.0.3", "127.0.0.2", "127.0.0.1"], "won 2", ["cancelled", "failed", "won"]),
-    (["127.0.0.2", "127.0.0.4"], "exhausted", ["failed", "failed"]),
-    *([(["127.0.0.2", "::1"], "won 0", ["won"])] if has_six() else []),
-    (["127.0.0.1", "127.0.0.1"], "won 0", ["won"]),
-]
-
-
-def judge(what, race, transcript, record):
-    ips, result, marks = race
-    found = re.findall(r"^attempt \d+ \d+ \S+ (\w+) \d+$", transcript, re.M)
-    last = transcript.splitlines()[-1] if transcript else ""
-    tell(last.startswith(result) and found == marks, f"{what} {ips}:\n{transcript}")
-    answer, told, room = library().text("replay", record.encode(), 1 << 16)
-    same = answer == DONE and room[:told.length].decode() == transcript
-    tell(same, f"{what} {ips}: the record does not replay:\n{record}")
-    replayed = run(OPTIONS.program, "replay", input=record.encode()).stdout.decode()
-    tell(replayed == transcript, f"{what} {ips}: he replay has another transcript:\n{replayed}")
-
-
-def build_by_pc(words, source):
-    """he.pc tells how to build a program with the shared library."""
-    if not shutil.which("pkg-config"):
-        print("    no pkg-config: he.pc is not tried")
-        return
-    paths = {**os.environ, "PKG_CONFIG_PATH": f"{prefix()}/lib/pkgconfig", "LD_LIBRARY_PATH": f"{prefix()}/lib"}
-    told = run("pkg-config", "--cflags", "--libs", "he", env=paths)
-    built = run("gcc", *words, "-o", prefix() / "shared", source, *told.stdout.split())
-    tell(built.returncode == 0, f"examples/c does not build by he.pc: {told.stderr}{built.stderr}")
-    ran = run(prefix() / "shared", "1", "127.0.0.1", env=paths)
-    tell(ran.returncode == 3 and " failed " in ran.stdout, f"examples/c with libhe.so: {ran.stdout}{ran.stderr}")
-
-
-def check_example_in_c():
-    """It connects past dead and refused addresses, and its record replays to the transcript that it prints."""
-    if not has_six():
-        print("    no ::1: it is not tried")
-    source = ROOT / "examples/c/connect.c"
-    words = ["-std=c11", "-D_GNU_SOURCE", "-Wall", "-Wextra", "-Werror", "-g", f"-I{prefix()}/include"]
-    names = {"connect": ["-O2"], "checked": ["-O1", "-fsanitize=address,undefined", "-fno-sanitize-recover=all"]}
-    runs = []
-    for name, more in names.items():
-        built = run("gcc", *words, *more, "-o", prefix() / name, source, prefix() / "lib/libhe.a")
-        if "-fsanitize" in " ".join(more) and re.search("cannot find .*(asan|ubsan)", built.stderr):
-            print("    no libraries of gcc's sanitizers: examples/c is not tried with them")
-            continue
-        tell(built.returncode == 0, f"examples/c does not build: {built.stderr}")
-        runs.append([prefix() / name])
-    build_by_pc(words, source)
-    if shutil.which("valgrind"):
-        runs.append(["valgrind", "-q", "--error-exitcode=9", "--leak-check=full", prefix() / "connect"])
-    else:
-        print("    no valgrind: examples/c is not tried with it")
-    with servers() as port:
-        for before in runs:
-            for race in RACES:
-                record = prefix() / "record"
-                record.unlink(missing_ok=True)
-                done = run(*before, str(port), *race[0], env={**os.environ, "RECORD": str(record)})
-                status = 0 if race[1].startswith("won") else 3
-                what = f"{Path(before[0]).name}, status {done.returncode}, {done.stderr}"
-                tell(done.returncode == status, f"{what}: {race[0]}")
-                judge(what, race, done.stdout, record.read_text() if record.exists() else "")
-
-
 # Calls each function on the text of standard input, and refuses each growth in turn, up to a call in which none is: it
 # answers HE_NO_MEMORY and leaves nothing, or what it answers with ample memory, where it can do without.
 REFUSING = r"""
@@ -396,7 +351,7 @@ REFUSING = r"""
 #include <stdlib.h>
 #include <string.h>
 
-enum { ROOM = 1 << 20, NEVER = -1 };
+enum { ROOM = 1 << 20, NEVER = -1, CALLS = 12 };
 static long left = NEVER;
 void *__real_malloc(size_t), *__real_realloc(void *, size_t);
 void *__wrap_malloc(size_t size) { return left != NEVER && left-- == 0 ? NULL : __real_malloc(size); }
@@ -406,21 +361,33 @@ static uint8_t text[ROOM], nothing[ROOM];
 static _Alignas(16) uint8_t ample[ROOM], room[ROOM];
 static size_t length;
 
-static uint32_t call(int which, uint8_t *out, struct he_told *told)
+static uint32_t call(int which, uint8_t *out, struct he_result *told)
 {
-    typedef uint32_t teller(const uint8_t *, size_t, uint8_t *, size_t, struct he_told *);
+    typedef uint32_t teller(const uint8_t *, size_t, uint8_t *, size_t, struct he_result *);
     teller *tellers[] = {he_replay, he_order, he_explain, he_check};
+    static const uint8_t words[] = "to example.org 443", addresses[] = {192, 0, 2, 1, 192, 0, 2, 2};
+    static const struct he_step step = {.family = 4, .tick = 10, .pause_from = 9, .pause_until = 10, .address = {10}};
+    static const struct he_way way = {.family = 4, .interface = 2, .prefix_length = 24, .source = {192, 0, 2, 9}};
     memset(out, 0, ROOM);
     if (which < 4)
         return tellers[which](text, length, out, ROOM, told);
-    return he_next(text, length - 4, 0, 7200, (struct he_step *)out, told); /* without `end`; late, so read twice */
+    switch (which) {
+    case 4: return he_next(text, length - 4, 0, 7200, (struct he_step *)out, told); /* no `end`; late: read twice */
+    case 5: return he_answer_line(4, addresses, sizeof addresses, 20, out, ROOM, told);
+    case 6: return he_connect_line(&step, 1, 20, out, ROOM, told);
+    case 7: return he_pause_line(&step, out, ROOM, told);
+    case 8: return he_source_line(&way, out, ROOM, told);
+    case 9: return he_route_line(&way, out, ROOM, told);
+    case 10: return he_record_line(words, sizeof words - 1, out, ROOM, told);
+    default: return he_setting_line((const uint8_t *)"limit", 5, 300, out, ROOM, told);
+    }
 }
 
 int main(void)
 {
-    struct he_told wanted, told;
+    struct he_result wanted, told;
     length = fread(text, 1, ROOM, stdin);
-    for (int which = 0; which < 5; which++) {
+    for (int which = 0; which < CALLS; which++) {
         uint32_t answer = call(which, ample, &wanted);
         int given_up = 0;
         for (long number = 0;; number++) {
@@ -454,12 +421,6 @@ def check_refused():
     text = (DATA / "ipv6-late-but-within-delay-leads.timeline").read_bytes()
     done = run(prefix() / "refusing", input=text)
     lines = done.stdout.decode().splitlines()
-    tell(len(lines) == 5 and all(line.startswith("passed") for line in lines), f"refused memory: {lines}")
+    tell(len(lines) == 12 and all(line.startswith("passed") for line in lines), f"refused memory: {lines}")
     given_up = [int(line.split()[-1]) for line in lines]
     tell(all(given_up), f"never HE_NO_MEMORY where growths are refused: {given_up}")
-
-
-def check_example_in_python():
-    tested = run(sys.executable, "-m", "unittest", "test_happy_eyeballs", cwd=ROOT / "examples/python",
-                 env={**os.environ, "HE_LIBRARY": str(prefix() / "lib/libhe.so.1"), "HE": OPTIONS.program})
-    must(tested.returncode == 0, tested.stderr)

@@ -33,20 +33,29 @@ TYPED = (
 
 
 def of_page():
-    """From each command to its options: those of all commands stand in OPTIONS, a command's own below its name."""
+    """From each command to its options: OPTIONS has those of all commands, and a command's section its own and the names
+    of those in COMMON OPTIONS."""
     text = PAGE.read_text().replace("\\-", "-")
     sections = dict(re.findall(r"^\.SH ([A-Z ]+)\n(.*?)(?=^\.SH |\Z)", text, re.MULTILINE | re.DOTALL))
-    every = options_of_tags(sections["OPTIONS"])
+    every, common = options_of_tags(sections["OPTIONS"]), tags(sections["COMMON OPTIONS"])
     told = {"": every}
     parts = re.findall(r"^\.SS ([a-z]+)\n(.*?)(?=^\.SS |\Z)", sections["COMMANDS"], re.MULTILINE | re.DOTALL)
     for command, body in parts:
+        shared = re.findall(r"^Also\n(.*)\nof COMMON OPTIONS\.$", body, re.MULTILINE)
+        names = {name for line in shared for name in re.findall(OPTION, line)}
         told[command] = set() if command == "help" else options_of_tags(body) | (every - {"-V", "--version"})
+        told[command] |= {name for tag in common if tag & names for name in tag}
     return told
+
+
+def tags(body):
+    """The options in each tag of a list."""
+    return [set(re.findall(OPTION, tag)) for tag in re.findall(r"^\.TP\n(.*)$", body, re.MULTILINE)]
 
 
 def options_of_tags(body):
     """The options in the tags of a list, each the line after `.TP`."""
-    return {option for tag in re.findall(r"^\.TP\n(.*)$", body, re.MULTILINE) for option in re.findall(OPTION, tag)}
+    return set().union(*tags(body))
 
 
 def check_options():

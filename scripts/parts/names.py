@@ -126,32 +126,30 @@ def look_up(*words):
     return support.run(OPTIONS.program, "names", *words, timeout=support.TIMEOUT)
 
 
-def finds(host, v6, v4, *words, ticks=lambda v6, v4: max(v6, v4) < NOISE, what="", told=""):
-    """The host has these addresses, in this order, and the ticks are right, at a second try at the latest; told is why
+def finds(host, v6, v4, *words, ticks=lambda v6, v4: max(v6, v4) < NOISE, what="", told="", begin=lambda: None):
+    """The host has these addresses, in this order, and the ticks are right, each try after this beginning; told is why
     the look-up of a family failed."""
-    for is_last in (False, True):
+    def attempt():
+        begin()
         done = look_up(host, *words)
         found = re.fullmatch(answers_of(v6, v4), done.stdout)
-        on_time = found and ticks(*map(int, found.groups()))
-        if is_last or on_time or not found:
-            break
-        print(f"{host} {what}: {done.stdout!r}: tried again: machine busy")
-    right = done.returncode == (1 if told else 0) and done.stderr == told and on_time
+        return not found or ticks(*map(int, found.groups())), found, done
+
+    on_time, found, done, _ = support.settled(attempt, f"{host} {what}")
+    right = found and on_time and done.returncode == (1 if told else 0) and done.stderr == told
     tell(right, f"{host} {what}{words}", (done.returncode, done.stdout, done.stderr))
     return done.stdout
 
 
 def lacks(host, fault, *words, status=1, millis=0, what=""):
-    """The host has no address, for this reason, which is told with the host's name, after so many milliseconds, at a
-    second try at the latest."""
-    for is_last in (False, True):
+    """The host has no address, for this reason, which is told with the host's name, after so many milliseconds."""
+    def attempt():
         before = time.monotonic()
         done = look_up(host, *words)
         took = 1_000 * (time.monotonic() - before)
-        on_time = millis <= took < millis + 3 * NOISE
-        if is_last or on_time:
-            break
-        print(f"{host} {what}: {took:.0f} ms: tried again: machine busy")
+        return millis <= took < millis + 3 * NOISE, took, done
+
+    on_time, took, done, _ = support.settled(attempt, f"{host} {what}")
     told = fault.replace("\n", f": {re.escape(host)}\n") if status == 1 else fault
     right = done.returncode == status and not done.stdout and re.fullmatch(told, done.stderr, re.DOTALL)
     tell(right and on_time, f"{host} {what}{words}", (done.returncode, done.stdout, done.stderr, took))

@@ -379,8 +379,8 @@ def check_servers():
     rows = itertools.count(1)
     for (least, most), each in SERVERS.items():
         for kinds in each:
-            serve(next(rows), kinds)
-            finds("both.test", [V6], [V4], what=f"{kinds} ",
+            servers = serve(next(rows), kinds)
+            finds("both.test", [V6], [V4], what=f"{kinds} ", begin=lambda: [server.seen.clear() for server in servers],
                   ticks=lambda v6, v4: least <= min(v6, v4) and max(v6, v4) <= most + NOISE)
     for row, (kinds, fault, millis) in enumerate(FAILURES, 100):
         serve(row, kinds, "options timeout:1 attempts:1\n")

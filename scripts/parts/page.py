@@ -21,7 +21,7 @@ VOID = {"meta", "input"}
 NO_TEXT = {"style", "script", "title"}
 # The numbers above all races, by the words after them.
 PERCENTS = (50, 90, 99)
-COUNTED = ("races", "median ms", "p90 ms", "p99 ms", "won by IPv6", "won by IPv4", "not won")
+COUNTED = ("races", "median ms", "p90 ms", "p99 ms", "connected by IPv6", "connected by IPv4", "not connected")
 
 # What a section shows: its anchor, the end by which it is sorted, its heading, its rows and its story. A row: its
 # label, its words and its bars, each with its kind, the tick where it begins and its length; a dot has no length.
@@ -85,11 +85,15 @@ class Page(html.parser.HTMLParser):
                 shown.heading[0] += data
 
 
+# The class of a bar by the last word of its row: no answer has the colour of a failure.
+CLASSES = {"connected": "won", "failed": "failed", "answer": "silent", "stopped": "stopped", "unknown": "stopped"}
+
+
 def bars(row, end):
     """The bars of a row of a picture, with their ticks up to the end of the race."""
     length = min(row.stop, end) - row.start
     if row.between == "attempt":
-        return [(row.last, row.start, length)]
+        return [(CLASSES[row.words.split()[-1]], row.start, length)]
     if row.between in ("wait", "pause"):
         return [(row.between, row.start, length)] + ([("dot", row.start)] if row.between == "wait" else [])
     return [] if row.first == " " else [("dot", row.start)]
@@ -97,7 +101,7 @@ def bars(row, end):
 
 def section(file, number, race):
     end = race.report.result.tick
-    heading = f"{end} ms {plain_story.heading(number, race)}{plain_story.ending(race.report)}"
+    heading = f"{end} ms {plain_story.heading(number, race)}{plain_story.result(race, race.report)}"
     anchor = f"race-{number}" + (f"-of-{file + 1}" if file else "")
     rows = [[row.label, row.words, bars(row, end)] for row in plain_drawn.rows(race)]
     # (a line end after the tag is none of the text)

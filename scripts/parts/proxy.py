@@ -202,7 +202,7 @@ def check_lines_once():
     missing, or that has a wrong line, is told then."""
     path, lines = OPTIONS.folder / "lines", f"source {FOUR}/8 7\nroute 127.0.0.0/8 7"
     path.write_text(lines)
-    with Proxy("--host", path) as proxy, serving(greet) as port:
+    with Proxy("--machine", path) as proxy, serving(greet) as port:
         path.unlink()
         got = proxy.ask(FOUR, port, 6)
         must(got == (0, b"hello\n"), got, repr(proxy.said()))
@@ -212,8 +212,8 @@ def check_lines_once():
     for text in (None, "source here 1\n", "race 1\nend\n"):
         if text:
             path.write_text(text)
-        done = support.run(HE, "proxy", "--listen", f"{FOUR}:{unused_port()}", "--host", path, timeout=TIMEOUT)
-        must((done.returncode, done.stderr.count("\n")) == (1, 1) and "--host" in done.stderr, text, done)
+        done = support.run(HE, "proxy", "--listen", f"{FOUR}:{unused_port()}", "--machine", path, timeout=TIMEOUT)
+        must((done.returncode, done.stderr.count("\n")) == (1, 1) and "--machine" in done.stderr, text, done)
 
 
 # Is 15 ms late after each attempt begins, as a busy machine may be; port 9 is that of no attempt.
@@ -278,7 +278,7 @@ def check_refusals():
             (b"CONNECT no.port HTTP/1.1\r\n\r\n", rb"HTTP/1\.1 400 .*"),
             (b"CONNECT a:0 HTTP/1.1\r\n\r\n", rb"HTTP/1\.1 400 .*"),
             (b"CONNECT a:65536 HTTP/1.1\r\n\r\n", rb"HTTP/1\.1 400 .*"),
-            (b"GET http://example.org/ HTTP/1.1\r\nHost: example.org\r\n\r\n", rb"HTTP/1\.1 501 .*socks5h://.*"),
+            (b"GET https://example.org/ HTTP/1.1\r\nHost: example.org\r\n\r\n", rb"HTTP/1\.1 501 .*socks5h://.*"),
             (b"POST / HTTP/1.1\r\n\r\n", rb"HTTP/1\.1 501 .*"),
             (b"\x16\3\1\0\5\1\0\0\1\0", rb""),
         ]:
@@ -445,7 +445,7 @@ def check_starts():
             (["--listen", f"{FOUR}:{port}"], 1, rf"he: .*{re.escape(FOUR)}:{port}.*\n"),
             (["--listen", f"{WIDE_FOUR}:{unused_port()}"], 1, r"he: .*--allow.*\n"),
             (["--listen", f"{FOUR}:0"], 2, r"he: .*"), (["--listen", FOUR], 2, r"he: .*"),
-            (["--allow", "192.0.2.1/24"], 2, r"he: .*"), (["--most", "0"], 2, r"he: .*"),
+            (["--allow", "192.0.2.1/24"], 2, r"he: .*"), (["--max-clients", "0"], 2, r"he: .*"),
             (["--record", "/proc/no"], 1, r"he: .*/proc/no.*\n"),
         ]:
             listen = [] if "--listen" in words else ["--listen", f"{FOUR}:{unused_port()}"]
@@ -490,8 +490,8 @@ def check_allow():
 
 @timed
 def check_most():
-    """As many sessions as --most says run at once; the next one is served when one ends."""
-    with Proxy("--most", 3) as proxy, serving(echo) as port, contextlib.ExitStack() as held:
+    """As many sessions as --max-clients says run at once; the next one is served when one ends."""
+    with Proxy("--max-clients", 3) as proxy, serving(echo) as port, contextlib.ExitStack() as held:
         clients = [held.enter_context(proxy.connect()) for _ in range(3)]
         codes = [socks(client, FOUR, port) for client in clients]
         late = held.enter_context(proxy.connect(0.4))
@@ -576,7 +576,7 @@ def check_signals():
 def check_record_most():
     """Of the records so many are kept, and the oldest days go first; those that somebody removed are not counted."""
     earlier = [f"{day}/00-00-0{n}.000-a-1.timeline" for day in ("2001-01-01", "2001-01-02") for n in range(4)]
-    with Proxy("--record-most", 10, earlier=earlier) as proxy, serving(greet) as port:
+    with Proxy("--max-records", 10, earlier=earlier) as proxy, serving(greet) as port:
         for _ in range(8):
             proxy.ask(FOUR, port, ALL)
         is_kept = comes(lambda: sum(path.parent.name[:4] != "2001" for path in proxy.files()) == 8, SOON)

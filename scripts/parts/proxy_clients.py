@@ -25,7 +25,7 @@ SILENT = 1_000  # clients that say nothing
 OTHERS = ("127.0.0.2", "127.0.0.3")  # addresses of this machine from which clients come
 QUARTER = 100  # clients of one address that have asked for nothing
 SETTLES = 2  # seconds within which those that came last have their places
-MOST_HEAD = 8_192  # bytes of a request's head
+MOST_HEAD = 16_384  # bytes of a request's head
 MOST_IDLE = 20  # kB of memory of a tunnel on which nothing moves
 SIOCOUTQ = 0x5411
 KEEPALIVE = 2  # the timer of a socket in /proc/net/tcp
@@ -157,7 +157,7 @@ def check_places():
 @timed
 def check_most_said():
     """The log says when as many sessions run as may, and when that is over, once each."""
-    with Proxy("--most", 3) as proxy, serving(echo) as port:
+    with Proxy("--max-clients", 3) as proxy, serving(echo) as port:
         with contextlib.ExitStack() as held:
             clients = [held.enter_context(proxy.connect()) for _ in range(3)]
             for client in clients:
@@ -204,7 +204,7 @@ def check_idle_seconds():
 def check_idle_memory():
     """A tunnel on which nothing moves takes little memory, also after many bytes went through it."""
     count = 400
-    with Proxy("-q", "--most", 2 * count) as proxy, serving(echo) as port, contextlib.ExitStack() as held:
+    with Proxy("-q", "--max-clients", 2 * count) as proxy, serving(echo) as port, contextlib.ExitStack() as held:
         def add():
             client = held.enter_context(proxy.connect())
             must(socks(client, FOUR, port) == 0, proxy.said())
@@ -280,7 +280,7 @@ def check_requests():
 
 
 def check_long_head():
-    """A request's head has room for eight KiB; one that is longer is refused then, and not read on."""
+    """A request's head has room for 16 KiB; one that is longer is refused then, and not read on."""
     with Proxy() as proxy, proxy.connect(SOON) as client:
         client.sendall(b"GET / HTTP/1.1\r\nA: " + b"a" * (2 * MOST_HEAD))
         status, head = head_of(client)

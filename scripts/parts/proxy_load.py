@@ -308,7 +308,7 @@ def check_day():
     """As many races as a busy day has: each is won, memory stays, and no more records than should be are kept."""
     count, most = (100_000, 10_000) if IS_FULL else (1_000, 500)
     memories, wrong = [], []
-    with Proxy("-q", "--record-most", most) as proxy, serving(greet) as port:
+    with Proxy("-q", "--max-records", most) as proxy, serving(greet) as port:
         def races(_):
             for _ in range(count // 80):
                 if (got := proxy.ask("four.test", port, 6)) != (0, b"hello\n"):

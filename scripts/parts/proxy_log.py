@@ -13,6 +13,7 @@ import time
 import unittest.mock
 from concurrent.futures import ThreadPoolExecutor
 
+import plain_accounts
 import support
 from parts.proxy import ALL, RECORD, SOON, Proxy, all_of, echo, socks
 from support import DEAD_FOUR, DEAD_SIX, FOUR, OPTIONS, Zone, comes, greet, must, needs, run, serving, silent, timed, unused_port
@@ -92,8 +93,9 @@ def check_facts():
             attempts = support.attempts_of(transcript)
             must(said["winner"] == FOUR and int(said["names"]) == attempts[0][0], said, transcript)
             won = re.search(r"(?m)^won \d+ (\d+)", transcript) or re.search(r"won\D+(\d+)", transcript)
-            lost = attempts[-1][0] - int(re.search(r"(?m)^a (\d+) ", record)[1])
+            lost = plain_accounts.lost(record)
             must((int(said["ms"]), int(said["lost"])) == (int(won[1]), lost), said, transcript)
+            must((lost > 0) == (host == "dead6.test"), said, transcript)
             stamp = said["start"].replace("T", "/").replace(":", "-").removesuffix("Z")
             must(said["record"].startswith(f"{stamp}-{host}-{port}"), said)
 
@@ -191,7 +193,7 @@ REQUESTS = (
     (b"GET /proxy.pac?x=1 HTTP/1.1", b"200", "GET", "/proxy.pac?x=1", "page"),
     (b"HEAD /proxy.pac HTTP/1.1", b"200", "HEAD", "/proxy.pac", "page"),
     (b"GET /no/page HTTP/1.1", b"501", "GET", "/no/page", "page"),
-    (b"GET http://example.org/ HTTP/1.1", b"501", "GET", "http://example.org/", "page"),
+    (b"GET https://example.org/ HTTP/1.1", b"501", "GET", "https://example.org/", "page"),
     (b"POST / HTTP/1.1", b"501", "POST", "/", "refused"),
     (b"BREW /%s HTTP/1.1" % (b"x" * 300), b"501", "BREW", "/" + "x" * 255, "refused"),
     (b'GET /a"b\\c HTTP/1.1', b"501", "GET", '/a"b\\c', "page"),
@@ -254,7 +256,7 @@ def check_twins():
 def check_trims_few():
     """One connection removes a few records at most, the oldest first, until as many are left as are kept."""
     earlier = [f"2001-01-0{day}/00-00-{n:02}.000-a-1.timeline" for day in (1, 2) for n in range(10)]
-    with Proxy("--record-most", 5, earlier=earlier) as proxy, serving(greet) as port:
+    with Proxy("--max-records", 5, earlier=earlier) as proxy, serving(greet) as port:
         left = earlier
         for so_far in range(1, 12):
             proxy.ask(FOUR, port, ALL)
@@ -278,7 +280,8 @@ class Sections(list):
 
 @timed
 def check_page():
-    """The page has the last hundred races, the newest first, at every place where the proxy listens."""
+    """The page has the last hundred races, the newest first, at every place where the proxy listens, each with what its
+    record says."""
     other = unused_port()
     with Proxy("--listen", f"{FOUR}:{other}") as proxy, serving(greet) as port:
         for _ in range(PAGE_RACES + 5):
@@ -288,7 +291,9 @@ def check_page():
         for place in (proxy.port, other):
             with socket.create_connection((FOUR, place), SOON) as client:
                 client.sendall(f"GET / HTTP/1.1\r\nHost: {FOUR}:{place}\r\n\r\n".encode())
-                shown = Sections(all_of(client))
+                page = all_of(client)
+            shown, said = Sections(page), page.count(f"<small>{FOUR}:{port} for {FOUR}, ".encode())
+            must(said == PAGE_RACES, place, said, "races with the host and port of their record")
             must(len(shown) == PAGE_RACES and shown == sorted(names, key=lambda name: name[-24:])[:4:-1], place, len(shown),
                  shown[:3], names[-3:])
 

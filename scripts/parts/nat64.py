@@ -1,0 +1,332 @@
+"""Connects by a built program's `he connect` on a machine with only IPv6, whose network has a NAT64 (RFC 6146) for
+64:ff9b::/96 and for a /64 prefix, and looks at what comes of it.
+
+needs: /dev/net/tun, for a translator of its own
+"""
+import contextlib
+import ctypes
+import ipaddress
+import os
+import pathlib
+import re
+import socket
+import struct
+import tempfile
+import threading
+
+import support
+from support import (A, AAAA, NXDOMAIN, OPTIONS, TIMEOUT, NameServer, NotTried, addresses, greet, in_thread, kind_of,
+                     labels_of, message, must, replayed, timed)
+
+HE = OPTIONS.program
+HOME = "2001:db8:1e::1"  # this machine
+SERVER, PRIVATE, VPN = "203.0.113.80", "10.9.8.7", "198.51.100.7"
+WELL_KNOWN, LONG = "64:ff9b::/96", "2001:db8:122:344::/64"
+DOWN = "[::1]:9"  # where no name server is
+SETUP = f"""
+ip link set lo up
+ip link add here type veth peer name there
+ip link set here up
+ip link set there up
+ip address add {HOME}/64 dev here nodad
+ip -6 route add default dev here
+mount -t sysfs sysfs /sys
+mkdir -p /run/he
+mount -t tmpfs tmpfs /run/he
+""" + support.file_of_etc("hosts", f"{SERVER} listed.test\n")
+NEW_NETWORK = 0x40000000  # CLONE_NEWNET of unshare(2)
+
+
+def embedded(prefix, host):
+    """The address of the host by the prefix (RFC 6052 section 2.2): the table, bit by bit."""
+    block = ipaddress.ip_network(prefix)
+    bits = f"{int(block.network_address):0128b}"[:block.prefixlen]
+    for bit in f"{int(ipaddress.ip_address(host)):032b}":
+        bits += "0" * 8 if len(bits) == 64 else ""
+        bits += bit
+    return str(ipaddress.ip_address(int(bits.ljust(128, "0"), 2)))
+
+
+def open_tun(name):
+    """The descriptor of a TUN device of this network."""
+    tun = os.open("/dev/net/tun", os.O_RDWR)
+    libc = ctypes.CDLL(None, use_errno=True)
+    asked = ctypes.create_string_buffer(struct.pack("16sH22x", name.encode(), 0x1001))  # IFF_TUN, IFF_NO_PI
+    if libc.ioctl(tun, 0x400454CA, asked):
+        raise NotTried(f"no TUN device: {os.strerror(ctypes.get_errno())}")
+    return tun
+
+
+def checksum(data):
+    total = sum(struct.unpack(f"!{len(data) // 2}H", data)) if len(data) % 2 == 0 else checksum_odd(data)
+    while total >> 16:
+        total = (total & 0xFFFF) + (total >> 16)
+    return ~total & 0xFFFF
+
+
+def checksum_odd(data):
+    return sum(struct.unpack(f"!{len(data) // 2 + 1}H", data + b"\0"))
+
+
+def with_checksum(pseudo, segment):
+    """The TCP segment with its checksum for these addresses."""
+    bare = segment[:16] + b"\0\0" + segment[18:]
+    return segment[:16] + struct.pack("!H", checksum(pseudo + bare)) + segment[18:]
+
+
+class Translator:
+    """A NAT64 between this network and one of its own, where the IPv4 servers are: TCP alone, one client."""
+
+    def __init__(self, *prefixes):
+        # The address by which the servers see this machine, and the host, by the host's IPv6 address.
+        self.hosts = {socket.inet_pton(socket.AF_INET6, embedded(prefix, host)):
+                      (socket.inet_aton(f"192.0.2.{64 + number}"), socket.inet_aton(host))
+                      for number, prefix in enumerate(prefixes) for host in (SERVER, PRIVATE)}
+        self.six = open_tun("six")
+        support.run("ip", "link", "set", "six", "up")
+        for prefix in prefixes:
+            support.run("ip", "-6", "route", "add", prefix, "dev", "six")
+        self.routes = {}
+        ready = threading.Event()
+        in_thread(self.serve, ready)
+        must(ready.wait(TIMEOUT), "no network of the servers")
+        in_thread(self.to_four)
+        in_thread(self.to_six)
+
+    def serve(self, ready):
+        """The servers' network, which is this thread's alone."""
+        if ctypes.CDLL(None).unshare(NEW_NETWORK):
+            raise NotTried("no network of the servers")
+        self.four = open_tun("four")
+        for line in ("link set lo up", "link set four up", "address add 192.0.2.1/24 dev four",
+                     *(f"address add {host}/32 dev lo" for host in (SERVER, PRIVATE))):
+            support.run("ip", *line.split())
+        self.listeners = [support.listener_at(host, 4430) for host in (SERVER, PRIVATE)]
+        for listener in self.listeners:
+            support.accept_all(listener, greet)
+        ready.set()
+
+    def to_four(self):
+        while True:
+            packet = os.read(self.six, 65_536)
+            if packet[0] >> 4 != 6 or packet[6] != socket.IPPROTO_TCP:
+                continue
+            source, target, segment = packet[8:24], packet[24:40], packet[40:]
+            if target not in self.hosts:
+                continue
+            client, host = self.hosts[target]
+            self.routes[client + segment[:4]] = source, target
+            pseudo = client + host + struct.pack("!BBH", 0, socket.IPPROTO_TCP, len(segment))
+            head = struct.pack("!BBHHHBBH", 0x45, 0, 20 + len(segment), 0, 0x4000, 63, socket.IPPROTO_TCP, 0)
+            head = head + client + host
+            head = head[:10] + struct.pack("!H", checksum(head)) + head[12:]
+            os.write(self.four, head + with_checksum(pseudo, segment))
+
+    def to_six(self):
+        while True:
+            packet = os.read(self.four, 65_536)
+            if packet[0] >> 4 != 4 or packet[9] != socket.IPPROTO_TCP:
+                continue
+            segment = packet[(packet[0] & 15) * 4:]
+            source, target = self.routes.get(packet[16:20] + segment[2:4] + segment[:2], (None, None))
+            if source is None:
+                continue
+            pseudo = target + source + struct.pack("!IHBB", len(segment), 0, 0, socket.IPPROTO_TCP)
+            head = struct.pack("!IHBB", 6 << 28, len(segment), socket.IPPROTO_TCP, 63)
+            os.write(self.six, head + target + source + with_checksum(pseudo, segment))
+
+
+class Discovering(NameServer):
+    """A name server without DNS64, except that ipv4only.arpa. has its addresses by these prefixes. Each other name has
+    those of its label."""
+
+    NAMES = {"four": [SERVER], "both": [HOME, SERVER], "none": [], "own": ["127.0.0.1"], "private": [PRIVATE]}
+
+    def __init__(self, *prefixes):
+        self.names = self.NAMES | {"ipv4only": [embedded(prefix, host) for prefix in prefixes
+                                                for host in ("192.0.0.170", "192.0.0.171")]}
+        super().__init__("::1")
+
+    def replies(self, query, _):
+        label = labels_of(query)[0]
+        if label not in self.names:
+            return [(0, message(query, code=NXDOMAIN))]
+        return [(0, message(query, addresses(kind_of(query), *self.names[label])))]
+
+    def asked(self):
+        """The queries, each as its label and its type."""
+        return [(labels_of(query)[0], kind_of(query)) for _, query, _ in self.seen]
+
+
+class Run(support.Run):
+    def __init__(self, *words, given=b""):
+        with tempfile.TemporaryDirectory() as folder:
+            record = pathlib.Path(folder, "record")
+            done = support.run(HE, "connect", "--record", record, *words, input=given, timeout=TIMEOUT)
+            text = record.read_text() if record.exists() else ""
+        super().__init__(done, replayed(text) if text else "", text)
+        self.words, self.output, self.told = words, done.stdout, done.stderr.decode()
+
+    def must(self, is_right, *told):
+        must(is_right, *self.words, *told, f"status {self.status}, {self.output!r}, {self.told!r}, {self.record!r}")
+
+
+TRANSLATORS = []
+
+
+def translator():
+    """The translator, which is made once."""
+    if not os.path.exists("/dev/net/tun"):
+        raise NotTried("no /dev/net/tun")
+    if not TRANSLATORS:
+        TRANSLATORS.append(Translator(WELL_KNOWN, LONG))
+    return TRANSLATORS[0]
+
+
+def check_vectors():
+    """The embedding of this file is that of RFC 6052 section 2.4."""
+    for prefix, wanted in [("2001:db8::/32", "2001:db8:c000:221::"), ("2001:db8:100::/40", "2001:db8:1c0:2:21::"),
+                           ("2001:db8:122::/48", "2001:db8:122:c000:2:2100::"),
+                           ("2001:db8:122:300::/56", "2001:db8:122:3c0:0:221::"),
+                           ("2001:db8:122:344::/64", "2001:db8:122:344:c0:2:2100:0"),
+                           ("2001:db8:122:344::/96", "2001:db8:122:344::c000:221"),
+                           ("64:ff9b::/96", "64:ff9b::c000:221")]:
+        must(ipaddress.ip_address(embedded(prefix, "192.0.2.33")) == ipaddress.ip_address(wanted), prefix)
+
+
+def check_literal():
+    """An IPv4 literal is reached by the prefix that the network's name server shows, whatever its length; the record
+    has the embedded address and why there is no IPv4 one."""
+    translator()
+    for prefix in (WELL_KNOWN, LONG):
+        at = embedded(prefix, SERVER)
+        with Discovering(prefix) as server:
+            run = Run("--resolver", server.at, SERVER, 4430)
+            run.must(run.status == 0 and run.output == b"hello\n" and run.won == at)
+            run.must(server.asked() == [("ipv4only", AAAA)], server.asked())
+            run.must(is_by_nat64(run, SERVER, at, prefix))
+            told = Run("-v", "--resolver", server.at, SERVER, 4430).told
+            must(f"he: {at} is {SERVER}\n" in told, told)
+
+
+def is_by_nat64(run, host, at, prefix):
+    """Whether the record of a run says that the host was raced at this address, embedded by this prefix."""
+    return (re.search(rf"(?m)^record to {host} 4430\nrecord lookup a nat64\nrecord nat64 {prefix}$", run.record)
+            and re.search(rf"(?m)^aaaa \d+ {at}\na 0 none$", run.record))
+
+
+def check_name():
+    """A name without IPv6 addresses, by a name server without DNS64, is reached so too: A and the prefix are asked for
+    once it is known that there is no AAAA. A name with an IPv6 address is not asked for A."""
+    translator()
+    for prefix in (WELL_KNOWN, LONG):
+        at = embedded(prefix, SERVER)
+        with Discovering(prefix) as server:
+            run = Run("--resolver", server.at, "four.test", 4430)
+            run.must(run.status == 0 and run.output == b"hello\n" and run.won == at)
+            run.must(server.asked() == [("four", AAAA), ("four", A), ("ipv4only", AAAA)], server.asked())
+            run.must(is_by_nat64(run, "four.test", at, prefix))
+    with Discovering(WELL_KNOWN) as server, support.listener_at(HOME) as listener:
+        support.accept_all(listener, greet)
+        for words in ([], ["-6"]):
+            run = Run(*words, "--resolver", server.at, "both.test", listener.getsockname()[1])
+            run.must(run.status == 0 and run.won == HOME and "record lookup a not-asked\n" in run.record)
+        run.must(server.asked() == [("both", AAAA)] * 2, server.asked())
+
+
+def check_no_name():
+    """A name that has no address at all, one that is no name, and one whose only address is this machine's own are as
+    without a NAT64, and the prefix is not asked for."""
+    with Discovering(WELL_KNOWN) as server:
+        for name, asked, status in [("none", [AAAA, A], 3), ("lacks", [AAAA, A], 1), ("own", [AAAA, A], 3)]:
+            server.seen.clear()
+            run = Run("--resolver", server.at, f"{name}.test", 4430)
+            run.must(run.status == status and not run.attempts and "NAT64" not in run.told)
+            run.must(server.asked() == [(name, kind) for kind in asked], server.asked())
+
+
+@timed
+def check_time():
+    """A race through the NAT64 begins as soon as the prefix is known."""
+    translator()
+    with Discovering(WELL_KNOWN) as server:
+        for host in (SERVER, "four.test"):
+            run = Run("--resolver", server.at, host, 4430)
+            run.must(run.attempts and run.attempts[0][0] < 200, run.attempts)
+
+
+def check_two_prefixes():
+    """A network with two prefixes: the host is raced by both."""
+    translator()
+    with Discovering(LONG, WELL_KNOWN) as server:
+        run = Run("--resolver", server.at, SERVER, 4430)
+        run.must(run.status == 0 and run.won in (embedded(LONG, SERVER), embedded(WELL_KNOWN, SERVER)))
+        run.must(all(embedded(prefix, SERVER) in run.record for prefix in (LONG, WELL_KNOWN)))
+
+
+def check_probe():
+    """A probe goes to the embedded addresses, and its record says so."""
+    translator()
+    with Discovering(LONG, WELL_KNOWN) as server, tempfile.TemporaryDirectory() as folder:
+        for host in (SERVER, "four.test"):
+            record = pathlib.Path(folder, host)
+            words = "--record", record, "--resolver", server.at, host, 4430
+            done = support.run(HE, "probe", *words, timeout=TIMEOUT)
+            rows = [line.split()[:2] for line in done.stdout.splitlines() if ":" in line.split()[0]]
+            wanted = {embedded(prefix, SERVER) for prefix in (LONG, WELL_KNOWN)}
+            must({row[0] for row in rows} == wanted and done.returncode == 0, done.stdout, done.stderr)
+            said = re.findall("(?m)^record (?:lookup|nat64) .*", record.read_text())
+            must(said[0] == "record lookup a nat64", record.read_text())
+            must(set(said[1:]) == {f"record nat64 {prefix}" for prefix in (LONG, WELL_KNOWN)}, record.read_text())
+
+
+def check_listed():
+    """So is a name of the hosts file that has only IPv4 addresses."""
+    translator()
+    with Discovering(WELL_KNOWN) as server:
+        run = Run("--resolver", server.at, "listed.test", 4430)
+        run.must(run.status == 0 and run.output == b"hello\n" and run.won == embedded(WELL_KNOWN, SERVER))
+
+
+def check_private():
+    """A private address is not embedded by 64:ff9b::/96, but is by a prefix of the network's own."""
+    translator()
+    with Discovering(WELL_KNOWN) as server:
+        for host, lack in [(PRIVATE, ""), ("private.test", "he: private.test has no IPv6 address\n")]:
+            run = Run("--resolver", server.at, host, 4430)
+            told = f"{lack}he: this machine has no IPv4, and its network's NAT64 no address for {host}\n"
+            run.must(run.status == 3 and not run.attempts and run.told.endswith(told))
+    with Discovering(LONG, WELL_KNOWN) as server:
+        run = Run("--resolver", server.at, PRIVATE, 4430)
+        run.must(run.status == 0 and run.won == embedded(LONG, PRIVATE))
+        run.must(embedded(WELL_KNOWN, PRIVATE) not in run.record)
+
+
+def check_none():
+    """A network without a NAT64, and one whose name server does not answer."""
+    told = "he: this machine has no IPv4, and its network no NAT64\n"
+    with Discovering() as server:
+        run = Run("--resolver", server.at, SERVER, 4430)
+        run.must(run.status == 3 and run.told == told and "nat64" not in run.record)
+        run = Run("--resolver", server.at, "four.test", 4430)
+        run.must(run.status == 3 and run.told.endswith(f"he: four.test has no IPv6 address\n{told}"))
+    run = Run("--resolver", DOWN, SERVER, 4430)
+    told = (r"he: this machine has no IPv4, and its network's NAT64 is unknown: "
+            r"AAAA of ipv4only\.arpa: name server .*\n")
+    run.must(run.status == 3 and re.fullmatch(told, run.told))
+
+
+def check_own():
+    """Loopback, an address to which the kernel has a way, as by a VPN, and any with -4 is not embedded; nor one with
+    lines of a file."""
+    with Discovering(WELL_KNOWN) as server, support.listener_at("127.0.0.1") as listener:
+        support.accept_all(listener, greet)
+        run = Run("--resolver", server.at, "127.0.0.1", listener.getsockname()[1])
+        run.must(run.status == 0 and run.won == "127.0.0.1" and not server.asked())
+        run = Run("-4", "--set", "limit=1000", "--resolver", server.at, SERVER, 4430)
+        run.must(run.status == 3 and not server.asked())
+        support.run("ip", "address", "add", f"{VPN}/32", "dev", "here")
+        with contextlib.ExitStack() as undo:
+            undo.callback(support.run, "ip", "address", "del", f"{VPN}/32", "dev", "here")
+            run = Run("--set", "limit=1000", "--resolver", server.at, VPN, 4430)
+            run.must(run.status == 3 and not server.asked())
