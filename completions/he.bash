@@ -12,17 +12,17 @@ _he() {
     [ "$word" = = ] && word=
     [ "$before" = = ] && before=${COMP_WORDS[COMP_CWORD - 2]}
     if [ "$COMP_CWORD" -eq 1 ]; then
-        mapfile -t COMPREPLY < <(compgen -W 'connect proxy names host live replay explain draw summary compare order check help --help -h --version -V' -- "$word")
+        mapfile -t COMPREPLY < <(compgen -W 'connect proxy probe names host live replay explain draw summary compare order check help --help -h --version -V' -- "$word")
         return
     fi
     case "$command $before" in
-        "connect --timeout" | "connect --wait" | "proxy --timeout" | "live --timeout")
+        "connect --timeout" | "connect --wait" | "connect --warn" | "proxy --timeout" | "probe --timeout" | "probe --pace" | "live --timeout")
             return ;;
         "connect --set" | "proxy --set" | "live --set" | "replay --set" | "explain --set" | "draw --set" | "summary --set" | "compare --set")
             compopt -o nospace; mapfile -t COMPREPLY < <(compgen -W 'attempt= resolution= count= limit= floor=' -- "$word"); return ;;
-        "connect --host" | "connect --record" | "proxy --host" | "proxy --history" | "names --record" | "live --record" | "draw --html")
+        "connect --machine" | "connect --record" | "proxy --machine" | "proxy --history" | "probe --machine" | "probe --record" | "names --record" | "live --record" | "draw --html")
             compopt -o filenames; mapfile -t COMPREPLY < <(compgen -f -- "$word"); return ;;
-        "connect --resolver" | "proxy --resolver" | "names --resolver")
+        "connect --resolver" | "proxy --resolver" | "probe --resolver" | "names --resolver")
             mapfile -t COMPREPLY < <(compgen -W system -- "$word"); return ;;
         "proxy --listen")
             return ;;
@@ -30,20 +30,21 @@ _he() {
             return ;;
         "proxy --record")
             return ;;
-        "proxy --record-most" | "proxy --most" | "replay --workers" | "draw --width" | "summary --slowest")
+        "proxy --max-records" | "proxy --max-clients" | "probe --count" | "replay --workers" | "draw --width" | "summary --slowest")
             return ;;
-        "proxy --idle")
+        "proxy --idle" | "probe --interval")
             return ;;
         "host --for")
             return ;;
         "live --port")
             mapfile -t COMPREPLY < <(compgen -A service -- "$word"); return ;;
         "summary --by")
-            mapfile -t COMPREPLY < <(compgen -W 'file hour family' -- "$word"); return ;;
+            mapfile -t COMPREPLY < <(compgen -W 'file hour family host' -- "$word"); return ;;
     esac
     case $command in
-        connect) options='-4 -6 -z --timeout --set --wait --host --resolver --record --json --explain --verbose -v --help -h' words=HOST ;;
-        proxy) options='--listen --allow --allow-private -4 -6 --timeout --set --host --resolver --record --record-most --history --most --idle --quiet -q --log-json --help -h' words= ;;
+        connect) options='-4 -6 -z --timeout --set --wait --machine --resolver --record --json --check --warn --explain --verbose -v --help -h' words=HOST ;;
+        proxy) options='--listen --allow --allow-private -4 -6 --timeout --set --machine --resolver --record --max-records --history --max-clients --idle --quiet -q --log-json --help -h' words= ;;
+        probe) options='-4 -6 --timeout --pace --count --interval --machine --resolver --record --json --openmetrics --quiet -q --verbose -v --help -h' words=HOST ;;
         names) options='--resolver --record --json --verbose -v --help -h' words=HOST ;;
         host) options='--for --json --help -h' words= ;;
         live) options='--port --timeout --set --record --must-connect --verbose -v --help -h' words=FILE ;;
@@ -62,7 +63,7 @@ _he() {
             case $words in
                 FILE) compopt -o filenames; mapfile -t COMPREPLY < <(compgen -f -- "$word") ;;
                 HOST) mapfile -t COMPREPLY < <(_he_hosts "$word" | sort -u) ;;
-                COMMAND) mapfile -t COMPREPLY < <(compgen -W 'connect proxy names host live replay explain draw summary compare order check help' -- "$word") ;;
+                COMMAND) mapfile -t COMPREPLY < <(compgen -W 'connect proxy probe names host live replay explain draw summary compare order check help' -- "$word") ;;
             esac ;;
     esac
 }
