@@ -1,2 +1,5 @@
-mod CallDetails
+mod AddressLaws
 mod Explained
+mod LineLaws
+mod OneMore
+mod RecordLaws

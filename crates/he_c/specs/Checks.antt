@@ -16,8 +16,8 @@ IsCheckOf input text None = (checked : Checked) × IsRight input false checked �
 IsCheckOf input text (Some fault) = (races : List Race) × HasRaces input false races (Some fault)
 
 -- the results of the check of the input
-pub record LeavesCheck (input old new : List ℕ) (told : CallDetails) (answer : ℕ) : Type 0 where
+pub record LeavesCheck (input old new : List ℕ) (details : CallDetails) (answer : ℕ) : Type 0 where
   pub text : List ℕ
   pub fault : Option InputFault
   pub checked : IsCheckOf input text fault
-  pub left : Leaves text fault old new told answer
+  pub left : Leaves text fault old new details answer

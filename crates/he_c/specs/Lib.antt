@@ -1,5 +1,9 @@
+pub mod Addresses
 pub mod Answers
 pub mod Checks
+pub mod Kinds
+pub mod Lines
 pub mod Outputs
+pub mod Records
 pub mod Steps
 pub mod Telling

@@ -11,7 +11,7 @@ use Rattle.he_next.specs.declared.step.Step.{Step}
 use Rattle.he_next.specs.Faults.{IsNextFault}
 use Rattle.he_next.specs.Steps.{IsStep}
 use Rattle.he_inputs.specs.declared.input_fault.InputFault.{InputFault}
-use Rattle.he_c.specs.Answers.{fault_kind, fault_line, nothing_told}
+use Rattle.he_c.specs.Answers.{fault_kind, fault_line, no_details}
 use Rattle.he_c.specs.declared.answer.CallDetails.{CallDetails}
 use Rattle.he_c.specs.declared.codes.TheConstants.{START, WAIT, WON, EXHAUSTED, LIMIT}
 use Rattle.he_c.specs.declared.step.StepNumbers.{StepNumbers}
@@ -63,15 +63,15 @@ no_step = record {
 
 -- the numbers are those of the record's step
 pub record LeavesStep (record_text : List ℕ) (started now : ℕ) (numbers : StepNumbers)
-    (told : CallDetails) : Type 0 where
+    (details : CallDetails) : Type 0 where
   pub step : Step
   pub is : IsStep record_text started now step
   pub pauses : PausesAs step.pause numbers
   pub acts : ActsAs step.action numbers
-  pub tells : told ≡ nothing_told
+  pub tells : details ≡ no_details
 
 -- the details have the reason that the record has no step
-pub record LeavesFault (record_text : List ℕ) (started now : ℕ) (told : CallDetails) : Type 0 where
+pub record LeavesFault (record_text : List ℕ) (started now : ℕ) (details : CallDetails) : Type 0 where
   pub fault : InputFault
   pub is : IsNextFault record_text started now (faults.Record fault)
-  pub tells : told ≡ record { length = 0; line = fault_line (Some fault); kind = fault_kind (Some fault) }
+  pub tells : details ≡ record { length = 0; line = fault_line (Some fault); kind = fault_kind (Some fault) }

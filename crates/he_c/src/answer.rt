@@ -1,13 +1,13 @@
 // The results of a call.
 
 ghost use Rattle.std.specs.Prelude.{◌≡◌, ◌≢◌};
-ghost use Rattle.he_c.specs.Answers.{Leaves, answer_by, nothing_told, told_of};
+ghost use Rattle.he_c.specs.Answers.{Leaves, answer_by, no_details, details_of};
 ghost use Rattle.he_c.specs.declared.codes.TheConstants.{NO_MEMORY};
 
-use crate::codes::{DONE, FAULT, NO_ROOM, fault_kind, fault_line};
+use crate::codes::{BUFFER_TOO_SMALL, DONE, FAULT, fault_kind, fault_line};
 use he_inputs::InputFault;
 
-/// The details of a call, besides its answer: `struct he_told` of `he.h`.
+/// The details of a call, besides its answer: `struct he_result` of `he.h`.
 #[repr(C)]
 #[derive(Clone, Copy)]
 pub struct CallDetails {
@@ -35,24 +35,24 @@ fn answer_by(fault: Option<InputFault>) -> u32
     }
 }
 
-// Copies the text to the front of the room if it fits, and sets the details of the text and the fault.
+// Copies the text to the front of the buffer if it fits, and sets the details of the text and the fault.
 pub(crate) fn leave(
     text: &[u8],
     fault: Option<InputFault>,
-    room: &mut [u8],
-    told: &mut CallDetails,
+    buffer: &mut [u8],
+    details: &mut CallDetails,
 ) -> u32
-    ensures left { Leaves text.now fault room.old room.new told.new result }
+    ensures left { Leaves text.now fault buffer.old buffer.new details.new result }
     ensures done { result ≢ NO_MEMORY }
 {
-    *told = CallDetails {
+    *details = CallDetails {
         length: text.len() as u64,
         line: fault_line(fault),
         kind: fault_kind(fault),
     };
-    if text.len() > room.len() {
-        return NO_ROOM;
+    if text.len() > buffer.len() {
+        return BUFFER_TOO_SMALL;
     }
-    room[..text.len()].copy_from_slice(text);
+    buffer[..text.len()].copy_from_slice(text);
     answer_by(fault)
 }

@@ -13,16 +13,18 @@ pub const DONE: u32 = 0;
 /// The text has a fault, whose line and kind are reported.
 pub const FAULT: u32 = 1;
 
-/// The room is too small; the length needed is reported.
-pub const NO_ROOM: u32 = 2;
+/// The buffer is too small; the length needed is reported.
+pub const BUFFER_TOO_SMALL: u32 = 2;
 
 /// An allocation failed.
 pub const NO_MEMORY: u32 = 3;
 
 /// The record of a running race has more than one race.
-pub const NOT_ONE: u32 = 4;
+pub const NOT_ONE_RACE: u32 = 4;
 
-// The kinds of faults, in the order of `TextKind`; 0 is no fault.
+// The kinds of faults, in the order of `TextKind`. No text has another kind of fault: that has the number of none.
+pub const NO_KIND: u32 = 0;
+
 pub const HEADER: u32 = 1;
 
 pub const WORD: u32 = 2;
@@ -46,10 +48,6 @@ pub const NO_DEFAULT_ROW: u32 = 10;
 pub const NO_MAPPED_ROW: u32 = 11;
 
 pub const SHARED_PRECEDENCE: u32 = 12;
-
-pub const OTHER_POLICY: u32 = 13;
-
-pub const MEMORY: u32 = 14;
 
 /// An attempt starts.
 pub const START: u32 = 1;
@@ -80,7 +78,7 @@ pub(crate) fn kind_code(kind: TextKind) -> u32
         TextKind::TooMany => TOO_MANY,
         TextKind::Unfinished => UNFINISHED,
         TextKind::Policy(fault) => policy_code(fault),
-        TextKind::Memory => MEMORY,
+        TextKind::Memory => NO_KIND,
     }
 }
 
@@ -91,7 +89,7 @@ fn policy_code(fault: PolicyFault) -> u32
         PolicyFault::NoDefault => NO_DEFAULT_ROW,
         PolicyFault::NoMapped => NO_MAPPED_ROW,
         PolicyFault::SharedPrecedence(_, _) => SHARED_PRECEDENCE,
-        _ => OTHER_POLICY,
+        _ => NO_KIND,
     }
 }
 
@@ -99,7 +97,7 @@ pub(crate) fn fault_kind(fault: Option<InputFault>) -> u32
     ensures { result ≡ fault_kind fault }
 {
     match fault {
-        None => 0,
+        None => NO_KIND,
         Some(InputFault::Read) => UNFINISHED,
         Some(InputFault::Text(found)) => kind_code(found.kind),
     }

@@ -3,12 +3,12 @@
 ghost use Rattle.std.specs.Prelude.{◌≡◌, ◌≢◌, ◌≤◌, Some};
 ghost use Rattle.he_next.specs.Faults.{IsNextFault};
 ghost use Rattle.he_next.specs.declared.fault.NextFault.TheVariants as faults;
-ghost use Rattle.he_c.specs.Answers.{fault_kind, fault_line, nothing_told};
+ghost use Rattle.he_c.specs.Answers.{fault_kind, fault_line, no_details};
 ghost use Rattle.he_c.specs.Steps.{LeavesFault, LeavesStep, no_step};
-ghost use Rattle.he_c.specs.declared.codes.TheConstants.{DONE, FAULT, NOT_ONE, NO_MEMORY, NO_ROOM};
+ghost use Rattle.he_c.specs.declared.codes.TheConstants.{DONE, FAULT, NOT_ONE_RACE, NO_MEMORY, BUFFER_TOO_SMALL};
 
 use crate::answer::{CallDetails, NOTHING};
-use crate::codes::{DONE, FAULT, NO_MEMORY, NOT_ONE, fault_kind, fault_line};
+use crate::codes::{DONE, FAULT, NO_MEMORY, NOT_ONE_RACE, fault_kind, fault_line};
 use crate::step::{NO_STEP, StepNumbers, numbers_of};
 use he_inputs::InputFault;
 use he_next::{NextFault, next_step};
@@ -23,33 +23,33 @@ pub extern "C" fn he_next(
     started: u64,
     now: u64,
     step: &mut StepNumbers,
-    told: &mut CallDetails,
+    details: &mut CallDetails,
 ) -> u32
-    ensures done { result ≡ DONE → LeavesStep lines.now started now step.new told.new }
-    ensures fault { result ≡ FAULT → LeavesFault lines.now started now told.new }
-    ensures not_one { result ≡ NOT_ONE → IsNextFault lines.now started now faults.NotOne }
+    ensures done { result ≡ DONE → LeavesStep lines.now started now step.new details.new }
+    ensures fault { result ≡ FAULT → LeavesFault lines.now started now details.new }
+    ensures not_one { result ≡ NOT_ONE_RACE → IsNextFault lines.now started now faults.NotOne }
     ensures none { result ≢ DONE → step.new ≡ no_step }
-    ensures silent { result ≢ FAULT → told.new ≡ nothing_told }
-    ensures known { result ≤ NOT_ONE }
-    ensures room { result ≢ NO_ROOM }
+    ensures silent { result ≢ FAULT → details.new ≡ no_details }
+    ensures known { result ≤ NOT_ONE_RACE }
+    ensures fits { result ≢ BUFFER_TOO_SMALL }
 {
     *step = NO_STEP;
-    *told = NOTHING;
+    *details = NOTHING;
     match next_step(alloc, lines, started as usize, now) {
         Ok(found) => {
             *step = numbers_of(found);
             DONE
         }
         Err(NextFault::Record(fault)) => {
-            *told = fault_told(fault);
+            *details = fault_details(fault);
             FAULT
         }
-        Err(NextFault::NotOne) => NOT_ONE,
+        Err(NextFault::NotOne) => NOT_ONE_RACE,
         Err(NextFault::Memory) => NO_MEMORY,
     }
 }
 
-fn fault_told(fault: InputFault) -> CallDetails
+fn fault_details(fault: InputFault) -> CallDetails
     ensures { result ≡ record { length = 0; line = fault_line (Some fault); kind = fault_kind (Some fault) } }
 {
     CallDetails {

@@ -23,6 +23,15 @@ pub(crate) enum Content {
     Explanation,
 }
 
+// The place of a race in its input.
+#[derive(Clone, Copy)]
+pub(crate) struct RacePlace {
+    // Counted from 1.
+    pub(crate) number: usize,
+    // The line at which it begins, counted from 1.
+    pub(crate) line: u64,
+}
+
 // The text for an input, and the input's fault.
 #[derive(Drop)]
 pub(crate) struct Output {
@@ -37,10 +46,15 @@ pub(crate) fn output_of(alloc: Global, input: &[u8], content: Content) -> Result
     let mut text = Vec::new(alloc);
     let mut reader = RaceReader::START;
     loop {
-        let number = reader.races + 1;
-        let line = reader.lines + 1;
-        match reader.next(alloc, input, Ending::Whole) {
-            Ok(Some(race)) => content.write(alloc, &race, number, line, &mut text)?,
+        let at = RacePlace {
+            number: reader.races + 1,
+            line: reader.lines + 1,
+        };
+        match reader.next_recorded(alloc, input, Ending::Whole) {
+            Ok(Some(found)) => {
+                let (recorded, race) = found;
+                content.write(alloc, &race, &recorded, at, &mut text)?;
+            }
             Ok(None) => return Ok(Output { text, fault: None }),
             Err(RaceReaderFault::Input(fault)) => {
                 return Ok(Output {
@@ -54,22 +68,22 @@ pub(crate) fn output_of(alloc: Global, input: &[u8], content: Content) -> Result
 }
 
 impl Content {
-    // Appends the text for the race, which has this number in the input and begins on this line.
+    // Appends the text for the race, which has this record and this place in the input.
     fn write(
         self,
         alloc: Global,
         race: &Timeline,
-        number: usize,
-        line: u64,
+        recorded: &Record<'_>,
+        at: RacePlace,
         text: &mut Vec<u8>,
     ) -> Result<(), Memory>
-        ensures { OnOk result (WritesText (λ told. IsTextOf self number line told race.now) text.old.items
-            text.new.items) }
+        ensures { OnOk result (WritesText (λ told. IsTextOf self at.number at.line told recorded.now race.now)
+            text.old.items text.new.items) }
     {
         match self {
             Content::Transcript => append_transcript(alloc, race, text),
             Content::Order => append_order(alloc, race, text),
-            Content::Explanation => append_explanation(alloc, race, number, line, text),
+            Content::Explanation => append_explanation(alloc, race, recorded, at, text),
         }
     }
 }
@@ -96,13 +110,14 @@ fn append_order(alloc: Global, race: &Timeline, text: &mut Vec<u8>) -> Result<()
 fn append_explanation(
     alloc: Global,
     race: &Timeline,
-    number: usize,
-    line: u64,
+    recorded: &Record<'_>,
+    at: RacePlace,
     text: &mut Vec<u8>,
 ) -> Result<(), Memory>
-    ensures { OnOk result (WritesText (λ told. IsExplanationText number line told race.now) text.old.items
-        text.new.items) }
+    ensures { OnOk result (WritesText (λ told. IsExplanationText at.number at.line told recorded.now race.now)
+        text.old.items text.new.items) }
 {
-    let course = Course::of(alloc, race, number, line)?;
-    write_explanation_json(alloc, &course, &Record::none(alloc), None, text)
+    let untried = recorded.untried(alloc)?;
+    let course = Course::recorded(alloc, race, &untried, at.number, at.line)?;
+    write_explanation_json(alloc, &course, recorded, None, text)
 }

@@ -17,14 +17,14 @@ use std::alloc::Global;
 pub extern "C" fn he_replay(
     alloc: Global,
     text: &[u8],
-    room: &mut [u8],
-    told: &mut CallDetails,
+    buffer: &mut [u8],
+    details: &mut CallDetails,
 ) -> u32
     ensures left { result ≢ NO_MEMORY
-        → LeavesOutput (Anywhere IsTranscriptText) text.now room.old room.new told.new result }
-    ensures memory { result ≡ NO_MEMORY → LeavesNothing room.old room.new told.new }
+        → LeavesOutput (Anywhere IsTranscriptText) text.now buffer.old buffer.new details.new result }
+    ensures memory { result ≡ NO_MEMORY → LeavesNothing buffer.old buffer.new details.new }
 {
-    tell(alloc, text, Content::Transcript, room, told)
+    tell(alloc, text, Content::Transcript, buffer, details)
 }
 
 /// Writes the orders of the addresses of the races of the text, up to its first fault.
@@ -32,14 +32,14 @@ pub extern "C" fn he_replay(
 pub extern "C" fn he_order(
     alloc: Global,
     text: &[u8],
-    room: &mut [u8],
-    told: &mut CallDetails,
+    buffer: &mut [u8],
+    details: &mut CallDetails,
 ) -> u32
     ensures left { result ≢ NO_MEMORY
-        → LeavesOutput (Anywhere IsOrderText) text.now room.old room.new told.new result }
-    ensures memory { result ≡ NO_MEMORY → LeavesNothing room.old room.new told.new }
+        → LeavesOutput (Anywhere IsOrderText) text.now buffer.old buffer.new details.new result }
+    ensures memory { result ≡ NO_MEMORY → LeavesNothing buffer.old buffer.new details.new }
 {
-    tell(alloc, text, Content::Order, room, told)
+    tell(alloc, text, Content::Order, buffer, details)
 }
 
 /// Writes an explanation of each race of the text as a JSON object, up to its first fault.
@@ -47,13 +47,13 @@ pub extern "C" fn he_order(
 pub extern "C" fn he_explain(
     alloc: Global,
     text: &[u8],
-    room: &mut [u8],
-    told: &mut CallDetails,
+    buffer: &mut [u8],
+    details: &mut CallDetails,
 ) -> u32
-    ensures left { result ≢ NO_MEMORY → LeavesOutput IsExplanationText text.now room.old room.new told.new result }
-    ensures memory { result ≡ NO_MEMORY → LeavesNothing room.old room.new told.new }
+    ensures left { result ≢ NO_MEMORY → LeavesOutput IsExplanationText text.now buffer.old buffer.new details.new result }
+    ensures memory { result ≡ NO_MEMORY → LeavesNothing buffer.old buffer.new details.new }
 {
-    tell(alloc, text, Content::Explanation, room, told)
+    tell(alloc, text, Content::Explanation, buffer, details)
 }
 
 /// Writes the number of races and lines of the text, or the explanation of its first fault.
@@ -61,16 +61,16 @@ pub extern "C" fn he_explain(
 pub extern "C" fn he_check(
     alloc: Global,
     text: &[u8],
-    room: &mut [u8],
-    told: &mut CallDetails,
+    buffer: &mut [u8],
+    details: &mut CallDetails,
 ) -> u32
-    ensures left { result ≢ NO_MEMORY → LeavesCheck text.now room.old room.new told.new result }
-    ensures memory { result ≡ NO_MEMORY → LeavesNothing room.old room.new told.new }
+    ensures left { result ≢ NO_MEMORY → LeavesCheck text.now buffer.old buffer.new details.new result }
+    ensures memory { result ≡ NO_MEMORY → LeavesNothing buffer.old buffer.new details.new }
 {
     match check_of(alloc, text) {
-        Ok(output) => leave(output.text.as_slice(), output.fault, room, told),
+        Ok(output) => leave(output.text.as_slice(), output.fault, buffer, details),
         Err(_) => {
-            *told = NOTHING;
+            *details = NOTHING;
             NO_MEMORY
         }
     }
@@ -80,16 +80,16 @@ fn tell(
     alloc: Global,
     input: &[u8],
     content: Content,
-    room: &mut [u8],
-    told: &mut CallDetails,
+    buffer: &mut [u8],
+    details: &mut CallDetails,
 ) -> u32
-    ensures left { result ≢ NO_MEMORY → LeavesOutput (IsTextOf content) input.now room.old room.new told.new result }
-    ensures memory { result ≡ NO_MEMORY → LeavesNothing room.old room.new told.new }
+    ensures left { result ≢ NO_MEMORY → LeavesOutput (IsTextOf content) input.now buffer.old buffer.new details.new result }
+    ensures memory { result ≡ NO_MEMORY → LeavesNothing buffer.old buffer.new details.new }
 {
     match output_of(alloc, input, content) {
-        Ok(output) => leave(output.text.as_slice(), output.fault, room, told),
+        Ok(output) => leave(output.text.as_slice(), output.fault, buffer, details),
         Err(_) => {
-            *told = NOTHING;
+            *details = NOTHING;
             NO_MEMORY
         }
     }

@@ -12,15 +12,16 @@ use Rattle.he_inputs.specs.declared.stream_fault.StreamFault.TheVariants as chec
 use Rattle.he_words.specs.declared.fault.TextFault.{TextFault}
 use Rattle.he_check.specs.AllFaults.{AreFaults, AreSaid, alone_text, none_text, whole_text}
 use Rattle.he_check.specs.Checked.{IsRight, IsWrong}
-use Rattle.he_check.specs.Clauses.{hint_of}
+use Rattle.he_faults.specs.Clauses.{hint_of}
 use Rattle.he_check.specs.Slips.{AreWarned, HasWarnings, slip_if, warning_at}
-use Rattle.he_check.specs.Steps.{AreLeft, EndsIn, EndsWith, HasStopped, IsAt, IsCounted, IsFirstIn, IsSaidOf, IsSound, TakesWrong, fault_found, hint_in}
+use Rattle.he_check.specs.Steps.{AreLeft, EndsIn, EndsWith, HasStopped, IsAt, IsCounted, IsFirstIn, IsSaidOf, IsSound, TakesWrong, fault_found}
+use Rattle.he_faults.specs.Clauses.{hint_in}
 use Rattle.he_check.specs.Stream.{Explains, TakesRight, TellsAll, TellsFault}
 use Rattle.he_check.specs.declared.counting.Counted.{Counted}
 use Rattle.he_check.specs.declared.form.Form.{Form}
 use Rattle.he_check.specs.declared.input.Checked.{Checked}
 use Rattle.he_check.specs.declared.limits.TheConstants.{MOST_TOLD}
-use Rattle.he_check.specs.declared.meant.Meant.{Meant}
+use Rattle.he_faults.specs.declared.meant.Meant.{Meant}
 use Rattle.he_check.specs.declared.slips.Slip.TheVariants.{NoRace}
 use Rattle.he_check.specs.declared.slips.Warning.{Warning}
 use Rattle.he_check.proofs.Counts.{parts_of}

@@ -19,14 +19,15 @@ use Rattle.he_inputs.proofs.RaceReadingLaws.{AreTexts-snoc, line_count-append}
 use Rattle.he_words.specs.declared.fault.TextFault.{TextFault}
 use Rattle.he_words.specs.declared.fault.TextKind.TheVariants as kinds
 use Rattle.he_check.specs.AllFaults.{AreFaults, AreFaultsBehind, AreSaid, BeginsPart, IsNextPart, SeeksAfter, fault_text, said_text}
-use Rattle.he_check.specs.Clauses.{hint_of, is_of_words}
+use Rattle.he_faults.specs.Clauses.{hint_of, is_of_words}
 use Rattle.he_check.specs.Slips.{AreWarned, warnings_of}
-use Rattle.he_check.specs.Steps.{AddsFault, AreFaultsAfter, AreFaultsPast, AreLeft, AreWhole, HasTold, IsAt, IsClean, IsEnough, IsFirstIn, IsNew, IsOpen, IsSound, PassesRecords, at_front, hint_in}
+use Rattle.he_check.specs.Steps.{AddsFault, AreFaultsAfter, AreFaultsPast, AreLeft, AreWhole, HasTold, IsAt, IsClean, IsEnough, IsFirstIn, IsNew, IsOpen, IsSound, PassesRecords, at_front}
+use Rattle.he_faults.specs.Clauses.{hint_in}
 use Rattle.he_check.specs.declared.counting.Counted.{Counted}
 use Rattle.he_check.specs.declared.form.Form.{Form}
 use Rattle.he_check.specs.declared.limits.TheConstants.{MOST_TOLD}
-use Rattle.he_check.specs.declared.meant.Meant.{Meant}
-use Rattle.he_check.specs.declared.parts.RestOfInput.{RestOfInput}
+use Rattle.he_faults.specs.declared.meant.Meant.{Meant}
+use Rattle.he_faults.specs.declared.rest.RestOfInput.{RestOfInput}
 use Rattle.he_check.specs.declared.slips.Warning.{Warning}
 use Rattle.he_check.proofs.FaultParts.{after_found, fault_stands, line_left, past_fault, past_race}
 use Rattle.he_check.proofs.Hints.{FirstFaults, hint_there, words_behind}

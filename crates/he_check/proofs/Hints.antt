@@ -17,10 +17,11 @@ use Rattle.he_inputs.proofs.RaceReadingLaws.{line_count-append}
 use Rattle.he_words.specs.Ranges.{most_line_bytes}
 use Rattle.he_words.specs.declared.fault.TextFault.{TextFault}
 use Rattle.he_words.specs.declared.fault.TextKind.{TextKind}
-use Rattle.he_check.specs.Clauses.{hint_of, is_of_words, line_at, line_meant}
-use Rattle.he_check.specs.Meant.{begins, input_meant, is_capture}
-use Rattle.he_check.specs.Steps.{AreWhole, hint_in}
-use Rattle.he_check.specs.declared.meant.Meant.{Meant}
+use Rattle.he_faults.specs.Clauses.{hint_of, is_of_words, line_at, line_meant}
+use Rattle.he_faults.specs.Meant.{begins, input_meant, is_capture}
+use Rattle.he_check.specs.Steps.{AreWhole}
+use Rattle.he_faults.specs.Clauses.{hint_in}
+use Rattle.he_faults.specs.declared.meant.Meant.{Meant}
 use Rattle.he_check.proofs.WholeLines.{line_stays, line_there}
 use Rattle.he_check.proofs.WrongLines.{ends_wrong, record_fault, record_wrong}
 

@@ -12,7 +12,7 @@ use Rattle.he_inputs.specs.Inputs.{line_count}
 use Rattle.he_words.specs.declared.fault.TextFault.{TextFault}
 use Rattle.he_inputs.proofs.RaceReadingLaws.{line_count-append}
 use Rattle.he_check.specs.AllFaults.{AreFaultsBehind, BeginsPart, IsLastPart, IsNextPart, PartStart, RaceOne, RaceTwo, RecordAlone, RecordSpaced, start_text}
-use Rattle.he_check.specs.Meant.{begins}
+use Rattle.he_faults.specs.Meant.{begins}
 use Rattle.he_check.specs.Steps.{AreFaultsAfter, begins_part}
 use Rattle.he_check.proofs.Hints.{begins_more}
 

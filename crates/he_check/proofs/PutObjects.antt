@@ -3,19 +3,13 @@ use Rattle.std.proofs.Common.{ℕ, ◌≡◌, ◌≢◌, ◌++◌, ◌∷◌, �
 use Rattle.he_inputs.specs.declared.stream_fault.StreamFault.{StreamFault}
 use Rattle.he_inputs.specs.declared.stream_fault.StreamFault.TheVariants as checks
 use Rattle.he_check.specs.Objects.{object_text, right_members}
-use Rattle.he_check.specs.Sentences.{clause_text, meant_text}
+use Rattle.he_faults.specs.Sentences.{clause_text, meant_text}
 use Rattle.he_check.specs.Steps.{Puts, TakesWrong}
 use Rattle.he_check.specs.Stream.{IsObject, PutsObject, TakesRight}
 use Rattle.he_check.specs.declared.form.Form.TheVariants.{Json}
 use Rattle.he_check.specs.declared.input.Checked.{Checked}
-use Rattle.he_check.specs.declared.meant.Meant.{Meant}
+use Rattle.he_faults.specs.declared.meant.Meant.{Meant}
 use Rattle.he_check.specs.declared.slips.Warning.{Warning}
-
--- what was likely meant and a line end stand after a sentence
-pub ends_behind : (before said : List ℕ) (meant hint : Option Meant) (text new : List ℕ) → meant ≡ hint → text ≡ before ++ (said ++ meant_text meant) → new ≡ text ++ 10 ∷ [] → new ≡ (before ++ said) ++ clause_text hint
-ends_behind before said meant hint text new same is longer =
-    longer ∙ ap (λ (t : List ℕ). t ++ 10 ∷ []) is ∙ append_assoc before (said ++ meant_text meant) (10 ∷ [])
-    ∙ ap (λ (t : List ℕ). before ++ t) (append_assoc said (meant_text meant) (10 ∷ [])) ∙ sym (append_assoc before said (clause_text meant)) ∙ ap (λ (m : Option Meant). (before ++ said) ++ clause_text m) same
 
 module _ (Whole Part : List ℕ → Type 0) (Kept : Type 0) (is_all : Bool) (file : Option (List ℕ)) (Given : List ℕ → Bool → Type 0) (Taken : List ℕ → Type 0)
   where

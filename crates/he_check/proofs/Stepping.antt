@@ -14,7 +14,7 @@ use Rattle.he_check.specs.AllFaults.{BeginsPart, IsNextPart}
 use Rattle.he_check.specs.Slips.{warnings_of}
 use Rattle.he_check.specs.Steps.{AddsFault, AreFaultsPast, AreLeft, AreWhole, HasGone, HasStepped, HasStopped, IsAt, IsOpen, MayGo, PassesRecords, steps_left}
 use Rattle.he_check.specs.declared.counting.Counted.{Counted}
-use Rattle.he_check.specs.declared.parts.RestOfInput.{RestOfInput}
+use Rattle.he_faults.specs.declared.rest.RestOfInput.{RestOfInput}
 use Rattle.he_check.proofs.Counts.{fault_at, found_at, never_none, passed_at, race_at}
 use Rattle.he_check.proofs.FaultParts.{no_read, past_none, past_read}
 use Rattle.he_check.proofs.Hints.{FirstFaults}

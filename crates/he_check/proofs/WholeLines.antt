@@ -10,7 +10,7 @@ use Rattle.he_reading.specs.Text.{IsRaceText}
 use Rattle.he_inputs.specs.Recorded.{IsRecordedText}
 use Rattle.he_words.specs.Words.{header_of}
 use Rattle.he_inputs.proofs.RaceReadingLaws.{line_count-append}
-use Rattle.he_check.specs.Clauses.{line_at}
+use Rattle.he_faults.specs.Clauses.{line_at}
 use Rattle.he_check.specs.Steps.{AreWhole}
 
 pub whole_append : (first more : List ℕ) → AreWhole first → AreWhole more → AreWhole (first ++ more)

@@ -7,7 +7,7 @@ use Rattle.he_words.specs.declared.fault.TextKind.TheVariants as kinds
 use Rattle.he_reading.specs.Faults.{first_fault, test, unfinished}
 use Rattle.he_record.specs.Faults.{line_fault}
 use Rattle.he_record.specs.Said.{Said}
-use Rattle.he_check.specs.Clauses.{is_of_words}
+use Rattle.he_faults.specs.Clauses.{is_of_words}
 
 -- the line in which a text ends is too long, or not finished
 pub ends_wrong : (long : Bool) (others : List (Option TextKind)) (kind : TextKind) → first_fault (test long kinds.TooMany ∷ unfinished [] ∷ others) ≡ Some kind → is_of_words kind ≡ false

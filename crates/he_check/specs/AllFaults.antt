@@ -10,14 +10,14 @@ use Rattle.he_record.specs.Forms.{is_record_line}
 use Rattle.he_record.specs.Fronts.{goes_on}
 use Rattle.he_words.specs.declared.fault.TextFault.{TextFault}
 use Rattle.he_inputs.specs.declared.input_fault.InputFault.TheVariants.{Text}
-use Rattle.he_check.specs.Clauses.{hint_of}
+use Rattle.he_faults.specs.Clauses.{hint_of}
 use Rattle.he_check.specs.Kinds.{kind_text}
 use Rattle.he_check.specs.Objects.{entry_text, faults_member}
-use Rattle.he_check.specs.Sentences.{clause_text, meant_text}
+use Rattle.he_faults.specs.Sentences.{clause_text, meant_text}
 use Rattle.he_check.specs.declared.form.Form.{Form}
 use Rattle.he_check.specs.declared.form.Form.TheVariants.{Json, Lines}
 use Rattle.he_check.specs.declared.limits.TheConstants.{MOST_TOLD}
-use Rattle.he_check.specs.declared.meant.Meant.{Meant}
+use Rattle.he_faults.specs.declared.meant.Meant.{Meant}
 
 -- the beginning of a line that may start a part: `race 1`, `race 2`, or `record` as its first token
 pub data PartStart : Type 0 where

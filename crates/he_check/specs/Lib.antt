@@ -1,8 +1,6 @@
 pub mod AllFaults
 pub mod Checked
-pub mod Clauses
 pub mod Kinds
-pub mod Meant
 pub mod Objects
 pub mod Sentences
 pub mod Slips

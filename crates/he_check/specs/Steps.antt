@@ -17,8 +17,8 @@ use Rattle.he_stream.specs.Limits.{read_size}
 use Rattle.he_words.specs.Ranges.{line_end, most_races}
 use Rattle.he_words.specs.declared.fault.TextFault.{TextFault}
 use Rattle.he_check.specs.AllFaults.{AreFaults, AreFaultsBehind, AreSaid, IsLastPart, IsNextPart, SeeksAfter, alone_text, none_text, said_text, whole_text}
-use Rattle.he_check.specs.Clauses.{is_of_words, line_at, line_meant}
-use Rattle.he_check.specs.Meant.{begins, input_meant}
+use Rattle.he_faults.specs.Clauses.{hint_in}
+use Rattle.he_faults.specs.Meant.{begins}
 use Rattle.he_check.specs.Sentences.{warning_text}
 use Rattle.he_check.specs.Slips.{AreWarned, slip_if, warning_at}
 use Rattle.he_check.specs.Stream.{Checks, Explains, report_text}
@@ -27,8 +27,7 @@ use Rattle.he_check.specs.declared.counting.Counted.{Counted}
 use Rattle.he_check.specs.declared.form.Form.{Form}
 use Rattle.he_check.specs.declared.input.Checked.{Checked}
 use Rattle.he_check.specs.declared.limits.TheConstants.{FIRST_BYTES, MOST_TOLD}
-use Rattle.he_check.specs.declared.meant.Meant.{Meant}
-use Rattle.he_check.specs.declared.parts.RestOfInput.{RestOfInput}
+use Rattle.he_faults.specs.declared.rest.RestOfInput.{RestOfInput}
 use Rattle.he_check.specs.declared.slips.Slip.TheVariants.{NoRace}
 use Rattle.he_check.specs.declared.slips.Warning.{Warning}
 use Rattle.he_check.specs.declared.taking.Held.{Held}
@@ -57,13 +56,7 @@ pub record PassesRecords (is_all : Bool) (text : List ℕ) (line : ℕ) (bytes l
   pub seeks : is_all ≡ true → SeeksAfter text line (take bytes text) (drop bytes text)
   pub none : is_all ≡ false → bytes ≡ 0
 
--- the likely meaning of a fault on a line of this rest of an input, after `lines` lines
-abbrev pub hint_in : ℕ → List ℕ → TextFault → Option Meant
-hint_in lines rest fault =
-    option_or (if fault.line == 1 then input_meant rest else None)
-    (if is_of_words fault.kind then line_meant (line_at (fault.line - lines) rest) else None)
-
--- the report of the fault alone ends in that clause
+-- the report of the fault alone ends in the clause of its likely meaning
 abbrev pub EndsIn : Form → ℕ → List ℕ → TextFault → List ℕ → Type 0
 EndsIn form lines rest fault text =
     (said : List ℕ) × (text ≡ alone_text form fault said (hint_in lines rest fault))

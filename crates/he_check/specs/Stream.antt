@@ -4,7 +4,7 @@ use Rattle.std.specs.List.{flat_map}
 use Rattle.he_words.specs.declared.fault.TextFault.{TextFault}
 use Rattle.he_check.specs.AllFaults.{AreFaults, AreTold, alone_text, none_text}
 use Rattle.he_check.specs.Checked.{IsRight, IsSure, IsWrong}
-use Rattle.he_check.specs.Clauses.{hint_of}
+use Rattle.he_faults.specs.Clauses.{hint_of}
 use Rattle.he_check.specs.Objects.{object_text, right_members}
 use Rattle.he_check.specs.Sentences.{warning_text}
 use Rattle.he_check.specs.Slips.{HasWarnings}

@@ -2,17 +2,17 @@
 
 ghost use Rattle.std.specs.Prelude.{◌≡◌, ◌≤◌, ◌+◌, ◌-◌, ◌++◌, ◌^◌, [], ℕ, List, None, IfOk, OnOk};
 ghost use Rattle.he_check.specs.AllFaults.{end_text, more_text, none_text, said_text, whole_text};
-ghost use Rattle.he_check.specs.Steps.{AddsFault, EndsIn, hint_in};
+ghost use Rattle.he_check.specs.Steps.{AddsFault, EndsIn};
 ghost use Rattle.he_check.specs.declared.form.Form.TheVariants.{Json, Lines};
 ghost use Rattle.he_check.specs.declared.limits.TheConstants.{MOST_TOLD};
+ghost use Rattle.he_faults.specs.Clauses.{hint_in};
 
-use crate::explaining::{explanation_of, sentence_of};
 use crate::form::Form;
 use crate::kind::append_kind;
 use crate::limits::MOST_TOLD;
 use crate::objects::{faults_member, write_entry};
-use crate::parts::RestOfInput;
 use he_addr::{Memory, write_number};
+use he_faults::{RestOfInput, explanation_of, sentence_of};
 use he_words::TextFault;
 use std::alloc::Allocator;
 

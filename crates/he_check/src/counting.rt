@@ -8,9 +8,10 @@ ghost use Rattle.he_check.specs.Steps.{HasGone, HasStepped, HasStopped, IsCounte
 use crate::all_faults::Told;
 use crate::form::Form;
 use crate::input::Checked;
-use crate::parts::{PART_START, RestOfInput, begins_part, records_before};
+use crate::parts::{PART_START, begins_part, records_before};
 use crate::slips::{Slip, Warning, add_if, add_warnings};
 use he_addr::Memory;
+use he_faults::RestOfInput;
 use he_inputs::laws::first_recorded_faults;
 use he_inputs::{Ending, InputFault, RaceReader, RaceReaderFault, StreamFault};
 use he_record::Record;

@@ -3,53 +3,35 @@
 //! [`check_input`] counts the races and lines of an input and warns of entries that are allowed, but surely not meant
 //! ([`Slip`]), or returns the input's first fault. [`check`] does this for a stream: it writes the numbers to an
 //! output, and each warning as a line. If all faults are asked for, it continues after a faulty race, at the next
-//! line that is `race 1` or `race 2` or a record line. [`explain_fault`] explains a fault as a compiler does: the
-//! line, a mark below the wrong part, and the form expected. [`check_json`] writes the report of [`check`] as a JSON
-//! object (`objects.rt`).
+//! line that is `race 1` or `race 2` or a record line. [`explain_fault`] of he_faults explains a fault. [`check_json`]
+//! writes the report of [`check`] as a JSON object (`objects.rt`).
 //!
 //! Proved: a check reports the input's first fault, by kind and line (`HasRaces` of he_inputs, `specs/Inputs`). If
 //! there is none, it reports the number of its races and lines (`specs/Checked`), and exactly the slips of its races
-//! and their records as warnings, each with its line (`specs/Slips`) and its sentence (`specs/Sentences`). A replay reads
-//! its input by the same definition, so both report one fault. Over streams, whatever they do (`specs/Stream`): the
-//! whole input is read; the numbers are written and flushed if there is no fault, and otherwise nothing is written;
-//! after a write or flush that failed, a first part is written. The explanation is appended to the vector, and a
-//! failed allocation leaves the vector unchanged. It ends in the clause of the likely meaning of a word of the line
-//! or of the input's first bytes (`specs/Clauses`, `specs/Meant`), exactly if one of them has such a meaning. A check
-//! for all faults reports the first fault of each part of an input, in order, with its line counted over the whole
-//! input and its clause, and last that the input broke off (`specs/AllFaults`); it returns the first of these faults.
-//! The JSON object has the same contents (`IsObject` of `specs/Stream`, `specs/Objects`), with names and sentences as
-//! strings (`he_print`).
-//!
-//! Only tested: the rest of an explanation. Checks of its own read the line again for it (`finding.rt`): a wrong one
-//! would mislead, but does not change the fault's line and kind. If these checks don't find a fault's cause, the
-//! sentence is the general one of its kind.
+//! and their records as warnings, each with its line (`specs/Slips`) and its sentence (`specs/Sentences`). A replay
+//! reads its input by the same definition, so both report one fault. Over streams, whatever they do (`specs/Stream`):
+//! the whole input is read; the numbers are written and flushed if there is no fault, and otherwise nothing is
+//! written; after a write or flush that failed, a first part is written. The explanation of the first fault ends in
+//! the clause of its likely meaning (he_faults). A check for all faults reports the first fault of each part of an
+//! input, in order, with its line counted over the whole input and its clause, and last that the input broke off
+//! (`specs/AllFaults`); it returns the first of these faults. The JSON object has the same contents (`IsObject` of
+//! `specs/Stream`, `specs/Objects`), with names and sentences as strings (`he_print`).
 #![tactic(auto)]
 
 mod all_faults;
 pub mod checking;
-mod clause;
 mod counting;
-pub mod explaining;
-mod finding;
-mod flaws;
 mod form;
-mod forms;
 pub mod input;
 mod kind;
 pub mod limits;
-mod meant;
 mod objects;
 mod parts;
-mod place;
-mod record_lines;
-mod repeats;
-mod sentence;
-mod showing;
 pub mod slips;
 mod taking;
 mod telling;
 
 pub use checking::{check, check_json};
-pub use explaining::explain_fault;
+pub use he_faults::explain_fault;
 pub use input::{Checked, check_input};
 pub use slips::{Slip, Warning};

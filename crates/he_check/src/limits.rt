@@ -1,10 +1,4 @@
-//! The limits of explanations, and of the printed part of a line.
-
-/// The maximum number of bytes printed of a line: of a longer one, those around the mark.
-pub const MOST_SHOWN: usize = 72;
-
-/// The number of bytes printed before the mark, if the front of the line is cut off.
-pub const SHOWN_BEFORE: usize = 24;
+//! The limits of a check.
 
 /// The number of first bytes of an input that identify another file format.
 pub const FIRST_BYTES: usize = 6;

@@ -3,6 +3,7 @@ ghost use Rattle.std.specs.Prelude.{◌≡◌, ◌+◌, ◌-◌, ◌<◌, ◌≤
 ghost use Rattle.he_reading.specs.Parts.{lines_of};
 ghost use Rattle.he_check.specs.Steps.{PassesRecords, begins_part};
 
+use he_faults::RestOfInput;
 use he_record::goes_on;
 use he_words::LINE_END;
 use memchr::memchr;
@@ -10,14 +11,6 @@ use memchr::memchr;
 // The number of bytes that decide whether a part begins: a race's first line and its line end, or `record` and the
 // byte after it.
 pub(crate) const PART_START: usize = 7;
-
-// The rest of an input, from one of its lines on.
-#[derive(Clone, Copy)]
-pub(crate) struct RestOfInput<'t> {
-    pub(crate) text: &'t [u8],
-    // The number of lines before it.
-    pub(crate) lines: u64,
-}
 
 // Whole lines at the front of some bytes.
 #[derive(Clone, Copy)]

@@ -42,7 +42,7 @@ pub(crate) fn sentence(slip: Slip) -> &'static [u8]
     match slip {
         Slip::NoRace => b"the input has no race: a race begins with the line `race 1` or `race 2`",
         Slip::NoSource =>
-            b"this race has no source line, so its host reaches no address: write its addresses, as `he host` does for this machine",
+            b"this race has no `source` line, so every address counts as unreachable: add the output of `he host`",
         Slip::IdleFloor =>
             b"the floor of this race is its attempt delay, so it changes nothing: set a lower one, or none",
         Slip::NoRoute(Family::V6) =>
@@ -50,9 +50,9 @@ pub(crate) fn sentence(slip: Slip) -> &'static [u8]
         Slip::NoRoute(Family::V4) =>
             b"the host of this race has an IPv4 source and no IPv4 route, so it reaches no IPv4 address: write a route, as `route 0.0.0.0/0 1`",
         Slip::NoAnswer(Family::V6) =>
-            b"this race has no aaaa line, so it can't be exhausted: for an answer without an address write `aaaa TICK none`",
+            b"this race has no `aaaa` line, so it waits for that answer until its limit: if the name has no IPv6 address, write `aaaa TICK none`",
         Slip::NoAnswer(Family::V4) =>
-            b"this race has no a line, so it can't be exhausted: for an answer without an address write `a TICK none`",
+            b"this race has no `a` line, so it waits for that answer until its limit: if the name has no IPv4 address, write `a TICK none`",
         Slip::LateAnswer(Family::V6) =>
             b"the aaaa answer of this race comes after its limit and is never seen: set a higher limit, or an earlier tick",
         Slip::LateAnswer(Family::V4) =>

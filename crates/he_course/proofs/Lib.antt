@@ -1,5 +1,9 @@
+pub mod AccountLaws
+mod Balance
 mod CauseLaws
+mod Charges
 mod Counted
+mod Counting
 mod CourseLaws
 mod DelayLaws
 mod EventLaws
@@ -14,4 +18,5 @@ mod OneRule
 mod SoonerLaws
 mod SortLaws
 mod StartLaws
+mod StartedLaws
 mod WaitLaws

@@ -1,17 +1,21 @@
 -- The course of a race: all that is reported of it, made once.
-use Rattle.std.specs.Prelude.{ℕ, ◌≡◌, ◌-◌, if◌then◌else◌, List, [], ◌∷◌, count_by, nat_lt, option_map, take, Option, Some, None}
+use Rattle.std.specs.Prelude.{ℕ, ◌≡◌, if◌then◌else◌, List, [], ◌∷◌, count_by, nat_lt, option_map, take, Option, Some, None}
 use Rattle.std.specs.Option.{option_map_or}
 use Rattle.he_addr.specs.declared.ip.Family.{Family}
 use Rattle.he_addr.specs.declared.ip.Family.TheVariants as families
-use Rattle.he_addr.specs.Ip.{family_of, is_usable}
+use Rattle.he_addr.specs.declared.ip.Ip.{Ip}
+use Rattle.he_addr.specs.Ip.{is_usable}
 use Rattle.he_plan.specs.declared.transcript.Line.{Line}
 use Rattle.he_timeline.specs.Seen.{seen}
 use Rattle.he_timeline.specs.Race.{Race, Reply}
 use Rattle.he_plan.specs.Transcript.{IsTranscript, Report}
+use Rattle.he_course.specs.declared.accounts.Times.{Times}
 use Rattle.he_course.specs.declared.course.Course.{Course}
 use Rattle.he_course.specs.declared.course.Seen.{Seen}
 use Rattle.he_course.specs.declared.events.Event.{Event}
+use Rattle.he_course.specs.Accounts.{IsAccount, end_of}
 use Rattle.he_course.specs.Addresses.{preferred}
+use Rattle.he_course.specs.Amounts.{lost_of, times_of}
 use Rattle.he_course.specs.Events.{events_by_kind}
 use Rattle.he_course.specs.LeastFloor.{IsSooner, ended_of}
 
@@ -35,8 +39,10 @@ abbrev pub seen_of : Race → Option Reply → Option Seen
 seen_of race reply =
     option_map (λ r. record { tick = seen race r.tick; usable = count_by is_usable r.addresses }) reply
 
--- the value is the course of the race that has this number in its input and begins at this line of it
-pub record IsCourse {A : Type 0} (race : Race) (number line : ℕ) (course : Course A) : Type 0 where
+-- the value is the course of the race that has this number in its input and begins at this line of it, and whose
+-- client did not try these addresses
+pub record IsRecordedCourse {A : Type 0} (race : Race) (untried : List Ip) (number line : ℕ)
+    (course : Course A) : Type 0 where
   pub numbered : course.number ≡ number
   pub begins : course.line ≡ line
   pub transcript : IsTranscript race course.transcript
@@ -46,19 +52,26 @@ pub record IsCourse {A : Type 0} (race : Race) (number line : ℕ) (course : Cou
   pub ended : course.ended ≡ ended_of course.transcript
   pub sooner : IsSooner race course.transcript course.sooner
   pub events : course.events.items ≡ events_in race course.transcript
+  pub account : IsAccount race course.transcript untried course.account
+  pub lost : course.account.lost ≡ lost_of course.account
+  pub delay : course.delay ≡ race.settings.attempt
+
+-- the same of a race without a record
+abbrev pub IsCourse : {A : Type 0} → Race → ℕ → ℕ → Course A → Type 0
+IsCourse race number line course = IsRecordedCourse race [] number line course
+
+-- its times
+abbrev pub course_times : {A : Type 0} → Course A → Times
+course_times course = times_of (end_of course.transcript) course.account
 
 -- the answer of a family
 abbrev pub answer_of : {A : Type 0} → Course A → Family → Option Seen
 answer_of course families.V6 = course.aaaa
 answer_of course families.V4 = course.a
 
--- the time that a won race lost: from when the winner's answer was seen to the start of the winner's attempt
-abbrev pub lost_by : {A : Type 0} → Course A → Option Line → Option ℕ
-lost_by course None = None
-lost_by course (Some line) = option_map (λ seen. line.tick - seen.tick) (answer_of course (family_of line.ip))
-
+-- what a won race lost, by its account
 abbrev pub lost : {A : Type 0} → Course A → Option ℕ
-lost course = lost_by course course.ended.winner
+lost course = option_map (λ winner. course.account.lost) course.ended.winner
 
 -- the attempts before the winner's, which had failed or were running when it started
 abbrev pub before_winner : {A : Type 0} → Course A → List Line

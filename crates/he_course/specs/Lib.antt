@@ -1,3 +1,5 @@
+pub mod Accounts
+pub mod Amounts
 pub mod Addresses
 pub mod Beginning
 pub mod Causes
@@ -6,3 +8,5 @@ pub mod Events
 pub mod Laws
 pub mod LeastFloor
 pub mod Listing
+pub mod Owners
+pub mod Started

@@ -239,7 +239,7 @@ fn push_cancelled<A: Allocator>(events: &mut Vec<Event, A>, lines: &[Line]) -> R
     Ok(())
 }
 
-fn attempt(line: &Line) -> Attempt
+pub(crate) fn attempt(line: &Line) -> Attempt
     ensures { result ≡ attempt_of line.now }
 {
     Attempt {

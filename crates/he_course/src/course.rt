@@ -5,14 +5,15 @@ ghost use Rattle.he_addr.specs.Ip.{is_usable};
 ghost use Rattle.he_timeline.specs.Race.{reply_of};
 ghost use Rattle.he_plan.specs.Transcript.{IsTranscript};
 ghost use Rattle.he_course.specs.Addresses.{all_attributes_of};
-ghost use Rattle.he_course.specs.Course.{IsCourse, answer_of, before_winner, events_in, lost, put_events, seen_of};
+ghost use Rattle.he_course.specs.Course.{IsCourse, IsRecordedCourse, answer_of, before_winner, course_times, events_in, lost, put_events, seen_of};
 ghost use Rattle.he_course.specs.Events.{comes_by, end_event, events_of};
 
+use crate::accounts::{Account, Times};
 use crate::addresses::{Preferred, prefer, transcript_with};
 use crate::collecting::{collect_events, end_tick};
 use crate::events::{Event, EventKind};
 use crate::floor::{Ended, end_with_floor};
-use he_addr::{Family, Memory};
+use he_addr::{Family, Ip, Memory};
 use he_plan::{Line, Transcript, sorted_attributes};
 use he_select::DestinationAttributes;
 use he_timeline::Timeline;
@@ -55,6 +56,12 @@ pub struct Course<A: Allocator> {
 
     /// The events up to the race's end, by tick.
     pub events: Vec<Event, A>,
+
+    /// How many of its milliseconds went into what.
+    pub account: Account<A>,
+
+    /// The Connection Attempt Delay, in milliseconds (RFC 8305 section 5).
+    pub delay: u64,
 }
 
 impl<A: Allocator + Copy> Course<A> {
@@ -64,7 +71,6 @@ impl<A: Allocator + Copy> Course<A> {
     /// # Errors
     ///
     /// `Memory` if an allocation was refused.
-    #[tactic(auto, unfolding(crate::specs::Addresses::all_attributes_of))]
     pub fn of<B: Allocator>(
         alloc: A,
         timeline: &Timeline<B>,
@@ -73,11 +79,30 @@ impl<A: Allocator + Copy> Course<A> {
     ) -> Result<Course<A>, Memory>
         ensures { IfOk result (IsCourse timeline.now number line) }
     {
+        Course::recorded(alloc, timeline, &[], number, line)
+    }
+
+    /// As [`of`](Course::of), of a race whose record says that no client tried the addresses of `untried`.
+    ///
+    /// # Errors
+    ///
+    /// `Memory` if an allocation was refused.
+    #[tactic(auto, unfolding(crate::specs::Addresses::all_attributes_of))]
+    pub fn recorded<B: Allocator>(
+        alloc: A,
+        timeline: &Timeline<B>,
+        untried: &[Ip],
+        number: usize,
+        line: u64,
+    ) -> Result<Course<A>, Memory>
+        ensures { IfOk result (IsRecordedCourse timeline.now untried.now number line) }
+    {
         let sorted = sorted_attributes(alloc, timeline)?;
         let transcript = transcript_with(alloc, timeline, &sorted)?;
         let sooner = end_with_floor(alloc, timeline, &sorted, &transcript)?;
         let events = events_in(alloc, timeline, &sorted, &transcript)?;
         let addresses = prefer(alloc, timeline.host().routes(), &sorted)?;
+        let account = Account::of(alloc, timeline, &transcript, untried)?;
         Ok(Course {
             number,
             line,
@@ -88,6 +113,8 @@ impl<A: Allocator + Copy> Course<A> {
             sooner,
             transcript,
             events,
+            account,
+            delay: timeline.settings().attempt(),
         })
     }
 }
@@ -100,6 +127,13 @@ impl<A: Allocator> Course<A> {
         end_tick(self.transcript.result())
     }
 
+    /// The milliseconds of the race, by what they went into.
+    pub fn times(&self) -> Times
+        ensures { result ≡ course_times self.now }
+    {
+        self.account.times(self.end())
+    }
+
     /// The answer of a family, if it comes.
     pub fn answer(&self, family: Family) -> Option<Seen>
         ensures { result ≡ answer_of self.now family }
@@ -110,15 +144,14 @@ impl<A: Allocator> Course<A> {
         }
     }
 
-    /// The milliseconds that a won race lost: from when the winner's answer was seen to the start of the winner's
-    /// attempt. They include pauses, the wait for the AAAA answer, and attempts at other addresses. None if the race
-    /// was not won.
+    /// The milliseconds that a won race lost, by its account. None if the race was not won.
     pub fn lost(&self) -> Option<u64>
         ensures { result ≡ lost self.now }
     {
-        let line = self.ended.winner?;
-        let seen = self.answer(line.ip.family())?;
-        Some(line.tick.saturating_sub(seen.tick))
+        match self.ended.winner {
+            Some(_) => Some(self.account.lost),
+            None => None,
+        }
     }
 
     /// The attempts before the winner's, by place. Each had failed or was running when the winner's started.

@@ -42,7 +42,7 @@ impl Ended {
     }
 }
 
-fn winner_of(lines: &[Line], ending: Outcome3) -> Option<Line>
+pub(crate) fn winner_of(lines: &[Line], ending: Outcome3) -> Option<Line>
     ensures { result ≡ winner_of lines.now ending }
 {
     match ending {

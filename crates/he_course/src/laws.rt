@@ -1,5 +1,7 @@
 // Laws of the definitions. Each is the contract of an empty function.
 
+ghost use Rattle.he_course.specs.Accounts.{EachTickHasAnOwner, OwnersBalance, TimesAddUp};
+ghost use Rattle.he_course.specs.Amounts.{ChargesAddUp};
 ghost use Rattle.he_course.specs.Laws.{CausesStand, CourseStands, DuesStand, FloorsStand, LinesStand, OneRuleDecides, PlacesStand, StartsStand, WaitsStand};
 
 /// Exactly one rule decides between two members of a list: the rule that is reported of their addresses.
@@ -40,4 +42,16 @@ pub fn lines_stand()
 /// A course has a wait for the AAAA answer exactly if the wait made the first attempt start later.
 pub fn waits_stand()
     ensures { WaitsStand }
+{}
+
+/// Each tick of a race has exactly one owner, so what they have is together the tick at which the race ended.
+pub fn accounts_balance()
+    ensures one { EachTickHasAnOwner }
+    ensures whole { OwnersBalance }
+    ensures times { TimesAddUp }
+{}
+
+/// Over many races, what each address, host, hour or family is charged adds up to what all accounts have.
+pub fn charges_add_up()
+    ensures { ChargesAddUp }
 {}

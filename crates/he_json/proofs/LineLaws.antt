@@ -7,20 +7,24 @@ use Rattle.std.specs.List.{flat_map, list_all}
 use Rattle.std.proofs.lemmas.Bool.{false≢true}
 use Rattle.std.proofs.lemmas.List.Folds.{list_all-append}
 use Rattle.he_addr.specs.declared.ip.Ip.{Ip}
-use Rattle.he_addr.specs.Printing.{printed}
+use Rattle.he_addr.specs.declared.ip.Ip.TheVariants.{V6}
+use Rattle.he_addr.specs.Prefix.{PrefixBits}
+use Rattle.he_addr.specs.Printing.{printed, source_text}
+use Rattle.he_course.specs.declared.accounts.Times.{Times}
 use Rattle.he_print.specs.Escaping.{StringsAreLines, string_text}
 use Rattle.he_record.specs.declared.moment.Moment.{Moment}
 use Rattle.he_record.specs.declared.reasons.ClientEnd.{ClientEnd}
 use Rattle.he_record.specs.Given.{at_given, end_given, from_given, to_given}
 use Rattle.he_record.specs.Moments.{moment_text}
-use Rattle.he_record.specs.Said.{Said, AtSaid, ToSaid, FromSaid, LookupSaid, ServerSaid, AttemptSaid, UntriedSaid, EndSaid, ticks_of, word_said}
+use Rattle.he_record.specs.Said.{Said, AtSaid, ToSaid, FromSaid, LookupSaid, Nat64Said, ServerSaid, AttemptSaid, UntriedSaid, EndSaid, ticks_of, word_said}
 use Rattle.he_record.specs.Words.{attempt_spelling, family_spelling, lookup_spelling, server_spelling, word_spelling}
-use Rattle.he_json.specs.Documents.{Spot, beginning_text, explanation_text, file_text, order_text, transcript_text}
+use Rattle.he_json.specs.Documents.{Spot, beginning_text, explanation_text, file_text, heading_text, order_text, transcript_text}
 use Rattle.he_json.specs.Json.{address_text, member_text, object_text, objects_text, parted, value_text}
 use Rattle.he_json.specs.Laws.{IsLine}
 use Rattle.he_json.specs.Machine.{machine_text}
 use Rattle.he_json.specs.Names.{addresses_text, answer_text, given_text, names_text}
-use Rattle.he_json.specs.Recorded.{array_text, attempt_text, client_text, listing_text, lookup_text, object_texts, opening_text, recorded_text, result_text, server_text, target_text, time_text, untried_text}
+use Rattle.he_json.specs.Recorded.{array_text, attempt_text, client_text, listing_text, lookup_text, nat64_text, object_texts, opening_text, recorded_text, result_text, server_text, target_text, time_text, untried_text}
+use Rattle.he_json.specs.Times.{millis_text, times_text}
 use Rattle.he_json.specs.declared.recorded.Listing.{Listing}
 use Rattle.he_json.specs.declared.recorded.Listing.TheVariants as listings
 use Rattle.he_json.specs.declared.members.Member.{Member}
@@ -53,6 +57,25 @@ parted_stands f each gap between (x ∷ xs) =
 
 bracketed : (first text last : List ℕ) → Stands first → Stands text → Stands last → Stands (first ++ (text ++ last))
 bracketed first text last one two three = both first (text ++ last) one (both text last two three)
+
+-- a member with a number, and more
+millis_stand : (name more : List ℕ) (millis : ℕ) → Stands name → Stands more → Stands (millis_text name millis ++ more)
+millis_stand name more millis one two =
+    both (millis_text name millis) more (both name (decimal millis) one (decimal_stands millis)) two
+
+times_stand : (times : Times) → Stands (times_text times)
+times_stand times =
+    let connecting : List ℕ = millis_text (codes ",\"connecting_ms\":") times.connecting in
+    let machine : List ℕ = millis_text (codes ",\"machine_ms\":") times.machine ++ connecting in
+    let unknown : List ℕ = millis_text (codes ",\"unknown_ms\":") times.unknown ++ machine in
+    let lost : List ℕ = millis_text (codes ",\"lost_ms\":") times.lost ++ unknown in
+    let names : List ℕ = millis_text (codes ",\"names_ms\":") times.names ++ lost in
+    millis_stand (codes ",\"ms\":") names times.all refl
+    (millis_stand (codes ",\"names_ms\":") lost times.names refl
+    (millis_stand (codes ",\"lost_ms\":") unknown times.lost refl
+    (millis_stand (codes ",\"unknown_ms\":") machine times.unknown refl
+    (millis_stand (codes ",\"machine_ms\":") connecting times.machine refl
+    (both (codes ",\"connecting_ms\":") (decimal times.connecting) refl (decimal_stands times.connecting))))))
 
 addresses_stand : (ips : List Ip) → Stands (addresses_text ips)
 addresses_stand ips = bracketed (codes "[") (parted [] (map address_text ips)) (codes "]") refl (parted_stands address_text address_stands [] refl ips) refl
@@ -140,6 +163,11 @@ module _ (strings : StringsAreLines) where
       bracketed (codes "{\"address\":") (address_text ip) (codes ",\"reason\":" ++ (string_text reason ++ last)) refl (address_stands ip)
       (bracketed (codes ",\"reason\":") (string_text reason) last refl (strings reason) ends)
 
+  prefix_stands : (prefix : PrefixBits) → Stands (nat64_text prefix)
+  prefix_stands prefix =
+      bracketed (codes "\"") (source_text (V6 prefix.bits) prefix.len) (codes "\"") refl
+      (bracketed (printed (V6 prefix.bits)) (codes "/") (decimal prefix.len) (printed_stands (V6 prefix.bits)) refl (decimal_stands prefix.len)) refl
+
   abbrev AllStand : List (List ℕ) → Type 0
   AllStand texts = list_all (λ text. list_all stands text) texts ≡ true
 
@@ -150,6 +178,7 @@ module _ (strings : StringsAreLines) where
   texts_stand listings.Lookups (LookupSaid family reason) =
       one_stands (lookup_text family reason) (bracketed (codes "{\"family\":") (string_text (family_spelling family)) (codes ",\"reason\":" ++ (string_text (lookup_spelling reason) ++ codes "}")) refl (strings (family_spelling family))
       (bracketed (codes ",\"reason\":") (string_text (lookup_spelling reason)) (codes "}") refl (strings (lookup_spelling reason)) refl))
+  texts_stand listings.Prefixes (Nat64Said prefix) = one_stands (nat64_text prefix) (prefix_stands prefix)
   texts_stand listings.Servers (ServerSaid ip reason ticks) =
       one_stands (server_text ip reason ticks) (reason_stands ip (server_spelling reason) (codes ",\"ms\":" ++ (decimal ticks ++ codes "}")) (bracketed (codes ",\"ms\":") (decimal ticks) (codes "}") refl (decimal_stands ticks) refl))
   texts_stand listings.Outcomes (AttemptSaid ip reason) = one_stands (attempt_text ip reason) (reason_stands ip (attempt_spelling reason) (codes "}") refl)
@@ -161,6 +190,7 @@ module _ (strings : StringsAreLines) where
   texts_stand listings.Lookups (ServerSaid ip reason ticks) = refl
   texts_stand listings.Lookups (AttemptSaid ip reason) = refl
   texts_stand listings.Lookups (UntriedSaid ip) = refl
+  texts_stand listings.Lookups (Nat64Said prefix) = refl
   texts_stand listings.Lookups (EndSaid end) = refl
   texts_stand listings.Servers (AtSaid moment) = refl
   texts_stand listings.Servers (ToSaid host port) = refl
@@ -168,13 +198,23 @@ module _ (strings : StringsAreLines) where
   texts_stand listings.Servers (LookupSaid family reason) = refl
   texts_stand listings.Servers (AttemptSaid ip reason) = refl
   texts_stand listings.Servers (UntriedSaid ip) = refl
+  texts_stand listings.Servers (Nat64Said prefix) = refl
   texts_stand listings.Servers (EndSaid end) = refl
   texts_stand listings.Outcomes (AtSaid moment) = refl
   texts_stand listings.Outcomes (ToSaid host port) = refl
   texts_stand listings.Outcomes (FromSaid ip) = refl
   texts_stand listings.Outcomes (LookupSaid family reason) = refl
   texts_stand listings.Outcomes (ServerSaid ip reason ticks) = refl
+  texts_stand listings.Outcomes (Nat64Said prefix) = refl
   texts_stand listings.Outcomes (EndSaid end) = refl
+  texts_stand listings.Prefixes (AtSaid moment) = refl
+  texts_stand listings.Prefixes (ToSaid host port) = refl
+  texts_stand listings.Prefixes (FromSaid ip) = refl
+  texts_stand listings.Prefixes (LookupSaid family reason) = refl
+  texts_stand listings.Prefixes (ServerSaid ip reason ticks) = refl
+  texts_stand listings.Prefixes (AttemptSaid ip reason) = refl
+  texts_stand listings.Prefixes (UntriedSaid ip) = refl
+  texts_stand listings.Prefixes (EndSaid end) = refl
 
   all_stand : (listing : Listing) (said : List Said) → AllStand (flat_map (object_texts listing) said)
   all_stand listing [] = refl
@@ -190,6 +230,7 @@ module _ (strings : StringsAreLines) where
 
   opening_stands : (listing : Listing) → Stands (opening_text listing)
   opening_stands listings.Lookups = refl
+  opening_stands listings.Prefixes = refl
   opening_stands listings.Servers = refl
   opening_stands listings.Outcomes = refl
 
@@ -204,23 +245,29 @@ module _ (strings : StringsAreLines) where
   recorded_stands said =
       let outcomes = listing_text listings.Outcomes said in
       let servers = listing_text listings.Servers said ++ outcomes in
-      let lookups = listing_text listings.Lookups said ++ servers in
+      let prefixes = listing_text listings.Prefixes said ++ servers in
+      let lookups = listing_text listings.Lookups said ++ prefixes in
       let result = result_text (end_given said) ++ lookups in
       let client = client_text (from_given said) ++ result in
       both (target_text (to_given said)) (time_text (at_given said) ++ client) (target_stands (to_given said))
       (both (time_text (at_given said)) client (time_stands (at_given said))
       (both (client_text (from_given said)) result (client_stands (from_given said))
       (both (result_text (end_given said)) lookups (result_stands (end_given said))
-      (both (listing_text listings.Lookups said) servers (listing_stands listings.Lookups said)
-      (both (listing_text listings.Servers said) outcomes (listing_stands listings.Servers said) (listing_stands listings.Outcomes said))))))
+      (both (listing_text listings.Lookups said) prefixes (listing_stands listings.Lookups said)
+      (both (listing_text listings.Prefixes said) servers (listing_stands listings.Prefixes said)
+      (both (listing_text listings.Servers said) outcomes (listing_stands listings.Servers said) (listing_stands listings.Outcomes said)))))))
 
-  pub explanation_is_line : (spot : Spot) (said : List Said) (addresses events : List (List Member)) → IsLine (explanation_text spot said addresses events)
-  explanation_is_line spot said addresses events =
+  heading_stands : (spot : Spot) (said : List Said) (times : Times) → Stands (heading_text spot said times)
+  heading_stands spot said times =
+      bracketed (beginning_text spot) (recorded_text said) (times_text times) (beginning_stands spot) (recorded_stands said) (times_stand times)
+
+  pub explanation_is_line : (spot : Spot) (said : List Said) (times : Times) (addresses events : List (List Member)) → IsLine (explanation_text spot said times addresses events)
+  explanation_is_line spot said times addresses events =
       let last : List ℕ = codes ",\"events\":" ++ (objects_text events ++ codes "}") in
       let more : List ℕ = codes ",\"order\":" ++ (objects_text addresses ++ last) in (
-        beginning_text spot ++ (recorded_text said ++ more),
+        heading_text spot said times ++ more,
         simp append_assoc,
-        bracketed (beginning_text spot) (recorded_text said) more (beginning_stands spot) (recorded_stands said)
+        both (heading_text spot said times) more (heading_stands spot said times)
             (bracketed (codes ",\"order\":") (objects_text addresses) last refl (objects_stands addresses)
             (bracketed (codes ",\"events\":") (objects_text events) (codes "}") refl (objects_stands events) refl)),
       )

@@ -4,12 +4,14 @@ use Rattle.std.specs.Borrow.{Bor}
 use Rattle.he_plan.specs.Transcript.{Report}
 use Rattle.he_print.specs.Escaping.{string_text}
 use Rattle.he_select.specs.declared.attributes.DestinationAttributes.{DestinationAttributes}
+use Rattle.he_course.specs.declared.accounts.Times.{Times}
 use Rattle.he_course.specs.declared.addresses.Preferred.{Preferred}
 use Rattle.he_course.specs.declared.events.Event.{Event}
 use Rattle.he_json.specs.Facts.{attempt_facts, event_facts, placed_facts, preferred_facts, result_facts}
 use Rattle.he_record.specs.Said.{Said}
 use Rattle.he_json.specs.Json.{facts_of, object_text, objects_text}
 use Rattle.he_json.specs.Recorded.{recorded_text}
+use Rattle.he_json.specs.Times.{times_text}
 use Rattle.he_json.specs.declared.members.Member.{Member}
 use Rattle.he_json.specs.declared.place.Place.{Place}
 
@@ -44,12 +46,16 @@ abbrev pub order_text : Spot → List (List Member) → List ℕ
 order_text spot addresses =
     beginning_text spot ++ (codes ",\"order\":" ++ (objects_text addresses ++ codes "}\n"))
 
--- what the record says comes before the order
-abbrev pub explanation_text : Spot → List Said → List (List Member) → List (List Member) → List ℕ
-explanation_text spot said addresses events =
-    beginning_text spot
-    ++ (recorded_text said
-    ++ (codes ",\"order\":" ++ (objects_text addresses ++ (codes ",\"events\":" ++ (objects_text events ++ codes "}\n")))))
+-- what the record says and the times come before the order
+abbrev pub heading_text : Spot → List Said → Times → List ℕ
+heading_text spot said times = beginning_text spot ++ (recorded_text said ++ times_text times)
+
+abbrev pub lists_text : List (List Member) → List (List Member) → List ℕ
+lists_text addresses events =
+    codes ",\"order\":" ++ (objects_text addresses ++ (codes ",\"events\":" ++ (objects_text events ++ codes "}\n")))
+
+abbrev pub explanation_text : Spot → List Said → Times → List (List Member) → List (List Member) → List ℕ
+explanation_text spot said times addresses events = heading_text spot said times ++ lists_text addresses events
 
 -- the text has an object for each attempt, with its facts, and one for the race's end
 pub record IsTranscriptJson (spot : Spot) (report : Report) (text : List ℕ) : Type 0 where
@@ -65,14 +71,14 @@ pub record IsOrderJson (spot : Spot) (sorted : List DestinationAttributes) (text
   pub address_facts : map facts_of addresses ≡ placed_facts 0 sorted
   pub is_text : text ≡ order_text spot addresses
 
--- the text has the members of the record, an object for each address, and one for each event
-pub record IsExplanationJson (spot : Spot) (said : List Said) (preferred : List Preferred) (met : List Event)
-    (text : List ℕ) : Type 0 where
+-- the text has the members of the record, the times, an object for each address, and one for each event
+pub record IsExplanationJson (spot : Spot) (said : List Said) (times : Times) (preferred : List Preferred)
+    (met : List Event) (text : List ℕ) : Type 0 where
   pub addresses : List (List Member)
   pub events : List (List Member)
   pub address_facts : map facts_of addresses ≡ preferred_facts 0 None preferred
   pub event_facts : map facts_of events ≡ map event_facts met
-  pub is_text : text ≡ explanation_text spot said addresses events
+  pub is_text : text ≡ explanation_text spot said times addresses events
 
 -- such a text has been appended
 abbrev pub Appends : (List ℕ → Type 0) → List ℕ → List ℕ → Type 0

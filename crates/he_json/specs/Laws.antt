@@ -6,6 +6,7 @@ use Rattle.he_addr.specs.declared.ip.Ip.{Ip}
 use Rattle.he_addr.specs.Printing.{printed}
 use Rattle.he_print.specs.Escaping.{is_control, is_plain}
 use Rattle.he_record.specs.Said.{Said}
+use Rattle.he_course.specs.declared.accounts.Times.{Times}
 use Rattle.he_json.specs.Documents.{Spot, explanation_text, order_text, transcript_text}
 use Rattle.he_json.specs.Machine.{machine_text}
 use Rattle.he_json.specs.Names.{names_text}
@@ -23,8 +24,8 @@ abbrev pub OrdersAreLines : Type 0
 OrdersAreLines = (spot : Spot) (addresses : List (List Member)) → IsLine (order_text spot addresses)
 
 abbrev pub ExplanationsAreLines : Type 0
-ExplanationsAreLines = (spot : Spot) (said : List Said) (addresses events : List (List Member))
-    → IsLine (explanation_text spot said addresses events)
+ExplanationsAreLines = (spot : Spot) (said : List Said) (times : Times) (addresses events : List (List Member))
+    → IsLine (explanation_text spot said times addresses events)
 
 abbrev pub MachinesAreLines : Type 0
 MachinesAreLines = (sources routes : List (List Member)) → IsLine (machine_text sources routes)

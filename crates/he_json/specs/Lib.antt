@@ -5,3 +5,4 @@ pub mod Laws
 pub mod Machine
 pub mod Names
 pub mod Recorded
+pub mod Times

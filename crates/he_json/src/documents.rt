@@ -1,7 +1,8 @@
 //! The objects of a race.
 
 ghost use Rattle.std.specs.Prelude.{◌≡◌, ◌++◌, map, IfOk, OnErr, OnOk};
-ghost use Rattle.he_json.specs.Documents.{Appends, IsExplanationJson, IsOrderJson, IsTranscriptJson, beginning_text, explanation_text, file_text, name_of, order_text, spot_of, transcript_text};
+ghost use Rattle.he_course.specs.Course.{course_times};
+ghost use Rattle.he_json.specs.Documents.{Appends, IsExplanationJson, IsOrderJson, IsTranscriptJson, beginning_text, file_text, heading_text, lists_text, name_of, order_text, spot_of, transcript_text};
 
 use crate::attempts::{attempt_rows, result_row};
 use crate::events::event_rows;
@@ -9,8 +10,9 @@ use crate::members::{Member, write_object, write_objects, write_words};
 use crate::order::{place_rows, preferred_rows};
 use crate::place::Place;
 use crate::recorded::write_recorded;
+use crate::times::write_times;
 use he_addr::{Memory, write_number};
-use he_course::{Course, Event, Preferred};
+use he_course::{Course, Times};
 use he_plan::{Line, Outcome3, Transcript};
 use he_print::write_string;
 use he_record::Record;
@@ -72,18 +74,28 @@ fn write_order<A: Allocator + Copy>(
     write_words(b"}\n", text)
 }
 
-fn write_explanation<A: Allocator + Copy, C: Allocator>(
+// The members before the lists of an explanation.
+fn write_heading<A: Allocator + Copy, C: Allocator>(
     place: Place<'_>,
     recorded: &Record<'_, C>,
+    times: Times,
+    text: &mut Vec<u8, A>,
+) -> Result<(), Memory>
+    ensures { OnOk result (text.new.items ≡ text.old.items ++ heading_text (spot_of place.entry) recorded.now times) }
+{
+    write_beginning(place, text)?;
+    write_recorded(recorded, text)?;
+    write_times(times, text)
+}
+
+fn write_lists<A: Allocator + Copy>(
     addresses: &[Vec<Member, A>],
     events: &[Vec<Member, A>],
     text: &mut Vec<u8, A>,
 ) -> Result<(), Memory>
-    ensures { OnOk result (text.new.items ≡ text.old.items ++ explanation_text (spot_of place.entry) recorded.now
-        (map (λ row. row.items) addresses.now) (map (λ row. row.items) events.now)) }
+    ensures { OnOk result (text.new.items ≡ text.old.items ++ lists_text (map (λ row. row.items) addresses.now)
+        (map (λ row. row.items) events.now)) }
 {
-    write_beginning(place, text)?;
-    write_recorded(recorded, text)?;
     write_words(b",\"order\":", text)?;
     write_objects(addresses, text)?;
     write_words(b",\"events\":", text)?;
@@ -121,20 +133,20 @@ fn order_of<A: Allocator + Copy>(
     Ok(text)
 }
 
-fn explanation_of<A: Allocator + Copy, C: Allocator>(
+fn explanation_of<A: Allocator + Copy, B: Allocator, C: Allocator>(
     alloc: A,
     place: Place<'_>,
     recorded: &Record<'_, C>,
-    addresses: &[Preferred],
-    events: &[Event],
+    course: &Course<B>,
 ) -> Result<Vec<u8, A>, Memory>
-    ensures { IfOk result (λ text. IsExplanationJson (spot_of place.entry) recorded.now addresses.now events.now
-        text.items) }
+    ensures { IfOk result (λ text. IsExplanationJson (spot_of place.entry) recorded.now (course_times course.now)
+        course.now.addresses.items course.now.events.items text.items) }
 {
-    let addresses = preferred_rows(alloc, addresses)?;
-    let events = event_rows(alloc, events)?;
+    let addresses = preferred_rows(alloc, &course.addresses)?;
+    let events = event_rows(alloc, &course.events)?;
     let mut text = Vec::new(alloc);
-    write_explanation(place, recorded, &addresses, &events, &mut text)?;
+    write_heading(place, recorded, course.times(), &mut text)?;
+    write_lists(&addresses, &events, &mut text)?;
     Ok(text)
 }
 
@@ -193,7 +205,8 @@ pub fn write_order_json<A: Allocator + Copy, T: Allocator>(
 /// line.)
 ///
 /// ```text
-/// {"file":"one.timeline","race":1,"line":1,"order":[
+/// {"file":"one.timeline","race":1,"line":1,"ms":55,"names_ms":20,"lost_ms":0,"unknown_ms":0,"machine_ms":0,
+/// "connecting_ms":35,"order":[
 /// {"place":0,"address":"2001:db8:1::1","source":"2001:db8::2"},
 /// {"place":1,"address":"198.51.100.1","source":"192.0.2.2",
 /// "rule":"6","why":"prefer higher precedence","own":35,"before":40}],
@@ -201,6 +214,10 @@ pub fn write_order_json<A: Allocator + Copy, T: Allocator>(
 /// {"tick":20,"event":"attempt","attempt":0,"address":"2001:db8:1::1","cause":"aaaa answer",
 /// "held":false,"listed":0,"of":1,"turn":"leads"},{"tick":55,"event":"won","attempt":0}]}
 /// ```
+///
+/// `ms` are the milliseconds to the end of the race. The five members after it add up to it: what went into waiting
+/// for the names' answers, was lost to addresses that did not connect, went into attempts with an unknown outcome,
+/// into sleep of the machine, and into connecting to the address that won.
 ///
 /// An address of `order` from the second on has the first `rule` of RFC 6724 section 6 (8a and 8b of RFC 8305 section
 /// 4) that sorts it after the one before, with its name, `why`. If the rule compares values, `own` is that of the
@@ -237,7 +254,7 @@ pub fn write_explanation_json<A: Allocator + Copy, B: Allocator, C: Allocator, T
 ) -> Result<(), Memory>
     ensures ok { OnOk result (Appends (IsExplanationJson
         (record { file = name_of file.entry; number = course.now.number; line = course.now.line }) recorded.now
-        course.now.addresses.items course.now.events.items) out.old.items out.new.items) }
+        (course_times course.now) course.now.addresses.items course.now.events.items) out.old.items out.new.items) }
     ensures err { OnErr result (out.new.items ≡ out.old.items) }
 {
     let place = Place {
@@ -245,6 +262,6 @@ pub fn write_explanation_json<A: Allocator + Copy, B: Allocator, C: Allocator, T
         number: course.number,
         line: course.line,
     };
-    let text = explanation_of(alloc, place, recorded, &course.addresses, &course.events)?;
+    let text = explanation_of(alloc, place, recorded, course)?;
     out.extend_from_slice(&text)
 }

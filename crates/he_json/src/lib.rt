@@ -6,7 +6,8 @@
 //! counted from 0, ticks are milliseconds. [`write_machine_json`] writes the addresses and routes of a machine, and
 //! [`write_names_json`] the addresses of a host. An explanation has the race's record too (he_record): the host and
 //! port, the time, the client's address and its own result, failed look-ups, name servers that were given up, and for
-//! addresses the reason that the attempt failed, or that no client tried them.
+//! addresses the reason that the attempt failed, or that no client tried them; and its times (he_course), which add
+//! up.
 //!
 //! The texts are JSON (RFC 8259) without spaces between their parts.
 //!
@@ -29,6 +30,7 @@ mod order;
 pub mod place;
 mod reasons;
 mod recorded;
+mod times;
 
 pub use documents::{write_explanation_json, write_order_json, write_transcript_json};
 pub use machine::write_machine_json;

@@ -2,14 +2,15 @@
 
 ghost use Rattle.std.specs.Prelude.{◌≡◌, ◌++◌, ◌∷◌, [], map, IfOk, OnOk};
 ghost use Rattle.std.specs.List.{flat_map};
-ghost use Rattle.he_record.specs.Left.{said_of, target_shown};
+ghost use Rattle.he_record.specs.Left.{parts_of, said_of, target_shown};
 ghost use Rattle.he_record.specs.Words.{family_spelling};
 ghost use Rattle.he_json.specs.Json.{parted};
-ghost use Rattle.he_json.specs.Recorded.{array_text, attempt_text, client_text, end_text, listing_text, lookup_text, object_texts, opening_text, recorded_text, result_text, server_text, target_text, time_text, untried_text};
+ghost use Rattle.he_json.specs.Recorded.{array_text, attempt_text, client_text, end_text, listing_text, listings_text, lookup_text, nat64_text, object_texts, opening_text, recorded_text, result_text, server_text, target_text, time_text, untried_text};
 
 use crate::members::{write_address, write_words};
-use he_addr::{Family, Ip, Memory, write_number};
+use he_addr::{Family, Ip, Memory, write_number, write_source};
 use he_print::write_string;
+use he_record::nat64::Nat64Prefix;
 use he_record::{AttemptReason, ClientEnd, LookupReason, Moment, Record, RecordLine, ServerReason};
 use std::alloc::Allocator;
 
@@ -17,6 +18,7 @@ use std::alloc::Allocator;
 #[derive(Clone, Copy)]
 pub(crate) enum Listing {
     Lookups,
+    Prefixes,
     Servers,
     Outcomes,
 }
@@ -101,6 +103,17 @@ fn write_lookup<A: Allocator + Copy>(
     write_words(b"}", text)
 }
 
+fn write_prefix_of<A: Allocator + Copy>(
+    prefix: Nat64Prefix,
+    text: &mut Vec<u8, A>,
+) -> Result<(), Memory>
+    ensures { OnOk result (text.new.items ≡ text.old.items ++ nat64_text (parts_of prefix)) }
+{
+    write_words(b"\"", text)?;
+    write_source(Ip::V6(prefix.bits), prefix.len, text)?;
+    write_words(b"\"", text)
+}
+
 fn write_server<A: Allocator + Copy>(
     ip: Ip,
     reason: ServerReason,
@@ -145,6 +158,7 @@ fn opening(listing: Listing) -> &'static [u8]
 {
     match listing {
         Listing::Lookups => b",\"lookups\":[",
+        Listing::Prefixes => b",\"nat64\":[",
         Listing::Servers => b",\"servers\":[",
         Listing::Outcomes => b",\"outcomes\":[",
     }
@@ -165,6 +179,7 @@ fn push_object<A: Allocator + Copy>(
         (Listing::Lookups, RecordLine::Lookup(family, reason)) => {
             write_lookup(family, reason, &mut object)?;
         }
+        (Listing::Prefixes, RecordLine::Nat64(prefix)) => write_prefix_of(prefix, &mut object)?,
         (Listing::Servers, RecordLine::Server(ip, reason, ticks)) => {
             write_server(ip, reason, ticks, &mut object)?;
         }
@@ -236,6 +251,18 @@ fn write_listing<A: Allocator + Copy, C: Allocator>(
     write_array(opening(listing), &objects, text)
 }
 
+fn write_listings<A: Allocator + Copy, C: Allocator>(
+    recorded: &Record<'_, C>,
+    text: &mut Vec<u8, A>,
+) -> Result<(), Memory>
+    ensures { OnOk result (text.new.items ≡ text.old.items ++ listings_text recorded.now) }
+{
+    write_listing(Listing::Lookups, recorded, text)?;
+    write_listing(Listing::Prefixes, recorded, text)?;
+    write_listing(Listing::Servers, recorded, text)?;
+    write_listing(Listing::Outcomes, recorded, text)
+}
+
 // The members of the record; none if it has no lines.
 pub(crate) fn write_recorded<A: Allocator + Copy, C: Allocator>(
     recorded: &Record<'_, C>,
@@ -247,7 +274,5 @@ pub(crate) fn write_recorded<A: Allocator + Copy, C: Allocator>(
     write_time(recorded.at(), text)?;
     write_client(recorded.from(), text)?;
     write_result(recorded.end(), text)?;
-    write_listing(Listing::Lookups, recorded, text)?;
-    write_listing(Listing::Servers, recorded, text)?;
-    write_listing(Listing::Outcomes, recorded, text)
+    write_listings(recorded, text)
 }

@@ -3,7 +3,7 @@
 use crate::homes::{Lender, descriptors, listen};
 use crate::races::{crowd, dead_ip};
 use he_addr::Ip;
-use he_live::{Endpoint, ProbeRequest, Reason, Steps, probe_on};
+use he_live::{Endpoint, ProbeRequest, Quiet, Reason, Steps, probe_on};
 use he_timeline::Outcome;
 use std::mem::drop;
 use std::net::{IpAddr, Ipv4Addr, Net, TcpListener, TcpStream};
@@ -32,9 +32,10 @@ fn are_told_apart<R: Lender + Net>(
         to: Endpoint::at_port(port),
         pace: 10,
         timeout: TIMEOUT,
+        steps: &steps,
     };
     let start = Instant::now(rt)?;
-    let rows = probe_on(rt, rt.alloc(), runtime, request, &steps)?;
+    let rows = probe_on(rt, rt.alloc(), runtime, request, &Quiet)?;
     let waited = Instant::now(rt)?
         .saturating_duration_since(start)
         .as_millis();

@@ -5,6 +5,7 @@ use Rattle.std.proofs.lemmas.List.{append-nil, length-map, map-append}
 use Rattle.std.proofs.lemmas.List.Elements.{filter-append}
 use Rattle.std.proofs.lemmas.Option.{slice_get-map}
 use Rattle.std.proofs.Math.Seq.{take-append_seam}
+use Rattle.he_addr.specs.declared.ip.Ip.{Ip}
 use Rattle.he_plan.specs.Agreement.{AgreeBelow, FailAlike}
 use Rattle.he_plan.specs.Attempts.{AreNextInTurn, IsNext, MayStart}
 use Rattle.he_timeline.specs.Seen.{seen}
@@ -21,7 +22,7 @@ use Rattle.he_plan.specs.declared.transcript.Line.{Line}
 use Rattle.he_plan.specs.declared.transcript.Outcome3.{Outcome3}
 use Rattle.he_plan.specs.declared.transcript.Outcome3.TheVariants as results
 use Rattle.he_plan.proofs.Agreeing.{alike-below, in_turn-below}
-use Rattle.he_timeline.proofs.Bools.{and_both, and_left, and_right, le_from, lt_from, lt_test, above}
+use Rattle.he_timeline.proofs.Bools.{and_both, and_left, and_right, le_from, le_test, lt_from, lt_test, above}
 use Rattle.he_plan.proofs.Ends.{ends-in_turn}
 use Rattle.he_plan.proofs.Finishing.{failure-in_range}
 use Rattle.he_plan.proofs.Growing.{pause-below}
@@ -31,9 +32,11 @@ use Rattle.he_plan.proofs.Stopping.{none_before}
 use Rattle.he_turns.specs.Heard.{cleaned, ips_of}
 use Rattle.he_turns.proofs.Cleaned.{cleaned-own}
 use Rattle.he_turns.proofs.Learnt.{heard-attempts}
-use Rattle.he_next.specs.Runs.{AreBelow, IsOver, IsWritten, Runs, Sleeps, State, attempt_of, with_started}
-use Rattle.he_next.proofs.StepLaws.{lt_past, not_late}
+use Rattle.he_next.specs.Runs.{AreBelow, AreUpTo, IsOver, IsWritten, Runs, Sleeps, State, attempt_of, event_tick, tick_after, with_started}
+use Rattle.he_next.proofs.StepLaws.{lt_past, not_late, starts_by}
 use Rattle.he_next.specs.Steps.{action_of, before_tick, due_action, end_action, end_tick}
+use Rattle.he_next.specs.declared.step.Action.{Action}
+use Rattle.he_next.specs.declared.step.Action.TheVariants.{Start, Wait, Won, Exhausted, Limit}
 
 -- a list all of which passes is kept
 all_kept : (stop : ℕ) (xs : List Attempt) → list_all (λ (x : Attempt). nat_lt x.tick stop) xs ≡ true → filter (λ (x : Attempt). nat_lt x.tick stop) xs ≡ xs
@@ -97,12 +100,52 @@ attempts_back : (race : Race) (winner : Option (ℕ × ℕ)) (xs : List Attempt)
 attempts_back race winner [] = refl
 attempts_back race winner (x ∷ xs) = ap (λ (zs : List Attempt). x ∷ zs) (attempts_back race winner xs)
 
-below_later : (m n : ℕ) (xs : List Attempt) → m ≤ n → AreBelow m xs → AreBelow n xs
-below_later m n [] le h = refl
-below_later m n (x ∷ xs) le h =
-    let first : x.tick < m = lt_from x.tick m (and_left _ _ h) in
-    let further : x.tick < n = omega (arith, first, le) in
-    and_both _ _ (lt_test x.tick n further) (below_later m n xs le (and_right _ _ h))
+-- what starts by a tick starts before a later one
+below_after : (m n : ℕ) (xs : List Attempt) → m < n → AreUpTo m xs → AreBelow n xs
+below_after m n [] lt h = refl
+below_after m n (x ∷ xs) lt h =
+    let first : x.tick ≤ m = le_from x.tick m (and_left _ _ h) in
+    let further : x.tick < n = omega (arith, first, lt) in
+    and_both _ _ (lt_test x.tick n further) (below_after m n xs lt (and_right _ _ h))
+
+-- all start before a tick that is not before the one after the last start
+pub below_event : (xs : List Attempt) (tick : ℕ) → tick_after xs ≤ tick → AreBelow tick xs
+below_event [] tick le = refl
+below_event (x ∷ xs) tick le =
+    let first : x.tick < tick = omega (arith, le) in
+    let others : tick_after xs ≤ tick = omega (arith, le) in
+    and_both _ _ (lt_test x.tick tick first) (below_event xs tick others)
+
+-- and the other way round
+after_below : (xs : List Attempt) (tick : ℕ) → AreBelow tick xs → tick_after xs ≤ tick
+after_below [] tick h = omega arith
+after_below (x ∷ xs) tick h =
+    let first : x.tick < tick = lt_from x.tick tick (and_left _ _ h) in
+    let others = after_below xs tick (and_right _ _ h) in
+    omega (arith, first, others)
+
+-- one more that starts by the tick
+up_to_more : (xs : List Attempt) (tick : ℕ) (x : Attempt) → AreUpTo tick xs → x.tick ≤ tick → AreUpTo tick (xs ++ x ∷ [])
+up_to_more [] tick x h le = and_both _ _ (le_test x.tick tick le) refl
+up_to_more (y ∷ ys) tick x h le = and_both _ _ (and_left _ _ h) (up_to_more ys tick x (and_right _ _ h) le)
+
+-- all that has started after an action starts by the tick, if what the action starts does
+up_to_action : (xs : List Attempt) (now : ℕ) (action : Action) → AreUpTo now xs → ((place tick : ℕ) (ip : Ip) → action ≡ Start place tick ip → tick ≤ now)
+    → AreUpTo now (with_started xs action)
+up_to_action xs now (Start place tick ip) h by = up_to_more xs now (record { place = place; tick = tick; ip = ip }) h (by place tick ip refl)
+up_to_action xs now (Wait tick) h by = h
+up_to_action xs now (Won place tick) h by = h
+up_to_action xs now (Exhausted tick) h by = h
+up_to_action xs now (Limit tick) h by = h
+
+pub again_at : (report : Report) (xs : List Attempt) (now : ℕ) → AreUpTo now xs → AreUpTo now (with_started xs (action_of report (length xs) now))
+again_at report xs now h = up_to_action xs now (action_of report (length xs) now) h (λ place tick ip is. starts_by report (length xs) now place tick ip is)
+
+pub at_the_clock : (xs : List Attempt) (now : ℕ) → AreBelow now xs → event_tick xs now ≡ now
+at_the_clock xs now below = let least = after_below xs now below in omega (arith, least)
+
+pub events_come_after : (xs : List Attempt) (now : ℕ) → AreBelow (event_tick xs now) xs
+events_come_after xs now = below_event xs (event_tick xs now) (omega arith)
 
 ended_in_turn : (race : Race) (xs : List Attempt) (result : Outcome3) → AreNextInTurn race xs → AreNextInTurn race (with_started xs (end_action result))
 ended_in_turn race xs (results.Won place tick) turn = turn
@@ -291,14 +334,14 @@ pub replayed_end : (race : Race) (report : Report) (xs : List Attempt) (now : �
 replayed_end race report xs now is turn t over = all_lines race report xs t turn over.ended (no_line race report xs now is t over)
 
 -- a start leaves attempts that are next in turn
-started_in_turn : (race : Race) (report : Report) (xs : List Attempt) (now : ℕ) → AreNextInTurn race xs → IsTranscript race report → AreBelow now xs
+started_in_turn : (race : Race) (report : Report) (xs : List Attempt) (now : ℕ) → AreNextInTurn race xs → IsTranscript race report → AreUpTo now xs
     → AreNextInTurn race (with_started xs (action_of report (length xs) now))
 started_in_turn race report xs now turn t below = by_end (nat_le (end_tick report.result) now) refl
   where
     by_end : (is_over : Bool) → nat_le (end_tick report.result) now ≡ is_over → AreNextInTurn race (with_started xs (action_of report (length xs) now))
     by_end true over = rw over (ended_in_turn race xs report.result turn)
     by_end false running =
-        let later : AreBelow (end_tick report.result) xs = below_later now (end_tick report.result) xs (let gap = above _ _ running in omega (arith, gap)) below in
+        let later : AreBelow (end_tick report.result) xs = below_after now (end_tick report.result) xs (above _ _ running) below in
         rw running (by_line later (slice_get report.lines (length xs)) refl)
       where
         by_line : AreBelow (end_tick report.result) xs → (found : Option Line) → slice_get report.lines (length xs) ≡ found
@@ -347,6 +390,6 @@ runs_in_turn first (old ∷ earlier) state r runs =
         subst IsRace (sym done.same) before.0,
         subst (λ (race : Race). AreNextInTurn race state.attempts) (sym done.same)
             (subst (λ (all : List Attempt). AreNextInTurn old.race all) (sym done.starts)
-            (started_in_turn old.race done.report old.attempts done.now before.1 done.transcript done.later)),
+            (started_in_turn old.race done.report old.attempts done.now before.1 done.transcript done.started)),
       )
     ]

@@ -50,6 +50,31 @@ starts_now report started now place tick ip time h = by_end (nat_le (end_tick re
     by_end true over = by_result report.result (sym (rw over refl) ∙ h)
     by_end false running = by_line (slice_get report.lines started) time (sym (rw running refl) ∙ h)
 
+-- what a turn starts does so by its tick
+pub starts_by : (report : Report) (started now place tick : ℕ) (ip : Ip) → action_of report started now ≡ Start place tick ip → tick ≤ now
+starts_by report started now place tick ip h = by_end (nat_le (end_tick report.result) now) refl
+  where
+    by_result : (result : Outcome3) → end_action result ≡ Start place tick ip → tick ≤ now
+    by_result (results.Won p t) h = cc
+    by_result (results.Exhausted t) h = cc
+    by_result (results.Limit t) h = cc
+
+    by_line : (found : Option Line) → due_action report.result now found ≡ Start place tick ip → tick ≤ now
+    by_line None h = cc
+    by_line (Some line) h = by_tick (nat_le line.tick now) refl
+      where
+        by_tick : (b : Bool) → nat_le line.tick now ≡ b → tick ≤ now
+        by_tick true come =
+            let same : Start line.place line.tick line.ip ≡ Start place tick ip = sym (rw come refl) ∙ h in
+            let ticks : line.tick ≡ tick = cc in
+            let high = le_from _ _ come in
+            omega (arith, ticks, high)
+        by_tick false wait = let wrong : Wait line.tick ≡ Start place tick ip = sym (rw wait refl) ∙ h in cc
+
+    by_end : (b : Bool) → nat_le (end_tick report.result) now ≡ b → tick ≤ now
+    by_end true over = by_result report.result (sym (rw over refl) ∙ h)
+    by_end false running = by_line (slice_get report.lines started) (sym (rw running refl) ∙ h)
+
 pub waits_later : (report : Report) (started now tick : ℕ) → late_start report started now ≡ None → action_of report started now ≡ Wait tick → now < tick
 waits_later report started now tick time h = by_end (nat_le (end_tick report.result) now) refl
   where

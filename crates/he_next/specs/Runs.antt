@@ -1,5 +1,5 @@
 -- Races that run by the due steps, and the attempts that they start.
-use Rattle.std.specs.Prelude.{ℕ, ◌≡◌, ◌⊎◌, ◌++◌, List, [], ◌∷◌, None, Some, IsTrue, length, nat_le, nat_lt}
+use Rattle.std.specs.Prelude.{ℕ, ◌≡◌, ◌+◌, ◌⊎◌, ◌++◌, List, [], ◌∷◌, None, Some, IsTrue, length, max, nat_le, nat_lt}
 use Rattle.std.specs.List.{list_all}
 use Rattle.he_addr.specs.declared.ip.Family.{Family}
 use Rattle.he_timeline.specs.Building.{with_pause}
@@ -21,6 +21,20 @@ attempt_of line = record { place = line.place; tick = line.tick; ip = line.ip }
 -- all start before the tick
 abbrev pub AreBelow : ℕ → List Attempt → Type 0
 AreBelow tick xs = IsTrue (list_all (λ x. nat_lt x.tick tick) xs)
+
+-- all start at the tick or before it
+abbrev pub AreUpTo : ℕ → List Attempt → Type 0
+AreUpTo tick xs = IsTrue (list_all (λ x. nat_le x.tick tick) xs)
+
+-- the tick after the last start; 0 before the first one
+abbrev pub tick_after : List Attempt → ℕ
+tick_after [] = 0
+tick_after (x ∷ xs) = max (x.tick + 1) (tick_after xs)
+
+-- the tick of what happens while the clock shows `now`, which may be the tick of the last start: what happens then
+-- comes after that start
+abbrev pub event_tick : List Attempt → ℕ → ℕ
+event_tick xs now = max now (tick_after xs)
 
 -- the race of the record so far, and the attempts that were started
 pub record State : Type 0 where
@@ -59,10 +73,10 @@ with_started xs (Won place tick) = xs
 with_started xs (Exhausted tick) = xs
 with_started xs (Limit tick) = xs
 
--- the client does what is due, at a tick after the last start
+-- the client does what is due, at the tick of the last start or a later one
 pub record IsDone (old new : State) : Type 0 where
   pub now : ℕ
-  pub later : AreBelow now old.attempts
+  pub started : AreUpTo now old.attempts
   pub report : Report
   pub transcript : IsTranscript old.race report
   pub starts : new.attempts ≡ with_started old.attempts (action_of report (length old.attempts) now)

@@ -28,6 +28,10 @@ const fn plain(limit: u64, v6: Option<Outcome>, v4: Option<Outcome>) -> PlannedR
     }
 }
 
+const fn row(given: PlannedRace, place: usize, fate: Fate) -> Case {
+    Case { given, place, fate }
+}
+
 // The attempts start at 20 and 270; with the pause from 30 on at 400, with the later one at 60 and 310.
 fn cases() -> [Case; 9] {
     let tie = plain(30_000, Some(Outcome::Ok(300)), Some(Outcome::Ok(50)));
@@ -47,51 +51,19 @@ fn cases() -> [Case; 9] {
         ..paused
     };
     [
-        Case {
-            given: tie,
-            place: 0,
-            fate: Fate::Succeeded(320),
-        },
-        Case {
-            given: tie,
-            place: 1,
-            fate: Fate::Succeeded(320),
-        },
-        Case {
-            given: fails,
-            place: 0,
-            fate: Fate::Failed(25),
-        },
-        Case {
-            given: fails,
-            place: 1,
-            fate: Fate::Failed(275),
-        },
-        Case {
-            given: silent,
-            place: 0,
-            fate: Fate::Running,
-        },
-        Case {
-            given: paused,
-            place: 0,
-            fate: Fate::Succeeded(420),
-        },
-        Case {
-            given: slept,
-            place: 1,
-            fate: Fate::Succeeded(500),
-        },
-        Case {
-            given: plain(100, Some(Outcome::Ok(80)), None),
-            place: 0,
-            fate: Fate::Succeeded(100),
-        },
-        Case {
-            given: plain(100, Some(Outcome::Ok(81)), None),
-            place: 0,
-            fate: Fate::Running,
-        },
+        row(tie, 0, Fate::Succeeded(320)),
+        row(tie, 1, Fate::Succeeded(320)),
+        row(fails, 0, Fate::Failed(25)),
+        row(fails, 1, Fate::Failed(275)),
+        row(silent, 0, Fate::Running),
+        row(paused, 0, Fate::Succeeded(420)),
+        row(slept, 1, Fate::Succeeded(500)),
+        row(
+            plain(100, Some(Outcome::Ok(80)), None),
+            0,
+            Fate::Succeeded(100),
+        ),
+        row(plain(100, Some(Outcome::Ok(81)), None), 0, Fate::Running),
     ]
 }
 

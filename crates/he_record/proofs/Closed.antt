@@ -4,7 +4,7 @@ use Rattle.std.specs.Prelude.{◌⊎◌}
 use Rattle.std.specs.Option.{ok_or}
 use Rattle.std.specs.Result.{result_err}
 use Rattle.std.specs.Str.{bytes_eq}
-use Rattle.he_addr.specs.Reading.{ip_in, number_in}
+use Rattle.he_addr.specs.Reading.{ip_in, number_in, prefix_in}
 use Rattle.he_timeline.specs.declared.limits.TheConstants.{MAX_TICK}
 use Rattle.he_words.specs.Ranges.{most_u16}
 use Rattle.he_words.specs.declared.fault.TextKind.{TextKind}
@@ -17,11 +17,11 @@ use Rattle.he_record.specs.declared.reasons.ClientEnd.TheVariants as ends
 use Rattle.he_record.specs.declared.words.RecordWord.{RecordWord}
 use Rattle.he_record.specs.declared.words.RecordWord.TheVariants as words
 use Rattle.he_record.specs.Faults.{content_fault, line_fault, of_said, of_word, one_too_many, out_of_order, repeated}
-use Rattle.he_record.specs.Forms.{moment_in, address_in, at_in, to_in, from_in, look_up_in, name_server_in, failed_attempt_in, untried_in, end_in, said_by, said_in, word_of}
+use Rattle.he_record.specs.Forms.{moment_in, address_in, at_in, to_in, from_in, look_up_in, name_server_in, nat64_in, failed_attempt_in, untried_in, end_in, said_by, said_in, word_of}
 use Rattle.he_record.specs.MomentParts.{parts_in}
 use Rattle.he_record.specs.Moments.{is_moment, moment_text}
 use Rattle.he_record.specs.Ranges.{least_port}
-use Rattle.he_record.specs.Said.{Said, AtSaid, ToSaid, FromSaid, LookupSaid, ServerSaid, AttemptSaid, UntriedSaid, EndSaid, is_host}
+use Rattle.he_record.specs.Said.{Said, AtSaid, ToSaid, FromSaid, LookupSaid, Nat64Said, ServerSaid, AttemptSaid, UntriedSaid, EndSaid, is_host, is_nat64}
 use Rattle.he_record.specs.Words.{most_record_lines, record_word_in, family_in, lookup_in, server_in, attempt_in}
 
 -- what the other checks find
@@ -99,6 +99,14 @@ look_up_closes [] = word_closes
 look_up_closes (a ∷ []) = word_closes
 look_up_closes (a ∷ b ∷ c ∷ more) = word_closes
 
+nat64_closes : (tokens : List (List ℕ)) → Closes (nat64_in tokens)
+unfolding nat64_in
+nat64_closes (token ∷ []) =
+    then_closes (ok_or (prefix_in token) kinds.Prefix) (λ prefix. cond (is_nat64 prefix) (Ok (Nat64Said prefix)) (Err kinds.Range)) (ok_or_closes (prefix_in token) kinds.Prefix tt)
+    (λ prefix. either_closes (is_nat64 prefix) (Ok (Nat64Said prefix)) (Err kinds.Range) tt tt)
+nat64_closes [] = word_closes
+nat64_closes (a ∷ b ∷ more) = word_closes
+
 server_closes : (tokens : List (List ℕ)) → Closes (name_server_in tokens)
 unfolding name_server_in
 server_closes (address ∷ second ∷ number ∷ []) =
@@ -136,6 +144,7 @@ form_closes words.At tokens = at_closes tokens
 form_closes words.To tokens = to_closes tokens
 form_closes words.From tokens = from_closes tokens
 form_closes words.Lookup tokens = look_up_closes tokens
+form_closes words.Nat64 tokens = nat64_closes tokens
 form_closes words.Server tokens = server_closes tokens
 form_closes words.Attempt tokens = attempt_closes tokens
 form_closes words.Untried tokens = untried_closes tokens
@@ -162,6 +171,7 @@ test_closed false kind h = tt
 
 most_closed : (word : RecordWord) (n : ℕ) → IsClosed (excess (most_record_lines word) n)
 most_closed words.Lookup n = tt
+most_closed words.Nat64 n = test_closed _ kinds.TooMany tt
 most_closed words.Server n = test_closed _ kinds.TooMany tt
 most_closed words.Attempt n = test_closed _ kinds.TooMany tt
 most_closed words.Untried n = test_closed _ kinds.TooMany tt
@@ -179,6 +189,7 @@ repeated_closed before (UntriedSaid ip) = test_closed _ kinds.Repeated tt
 repeated_closed before (AtSaid moment) = tt
 repeated_closed before (ToSaid host port) = tt
 repeated_closed before (FromSaid ip) = tt
+repeated_closed before (Nat64Said prefix) = tt
 repeated_closed before (ServerSaid ip reason ticks) = tt
 repeated_closed before (EndSaid end) = tt
 

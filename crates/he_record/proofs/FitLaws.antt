@@ -16,7 +16,7 @@ use Rattle.he_reading.specs.Faults.{test, excess}
 use Rattle.he_record.specs.declared.words.RecordWord.{RecordWord}
 use Rattle.he_record.specs.declared.words.RecordWord.TheVariants as words
 use Rattle.he_record.specs.Faults.{last_group, lines_with, out_of_order, one_too_many, repeated}
-use Rattle.he_record.specs.Said.{Said, AtSaid, ToSaid, FromSaid, LookupSaid, ServerSaid, AttemptSaid, UntriedSaid, EndSaid, group_said, looks_up, same_family, tells_of, word_said}
+use Rattle.he_record.specs.Said.{Said, AtSaid, ToSaid, FromSaid, LookupSaid, Nat64Said, ServerSaid, AttemptSaid, UntriedSaid, EndSaid, group_said, looks_up, same_family, tells_of, word_said}
 use Rattle.he_record.specs.Text.{FitTogether, are_in_order}
 use Rattle.he_record.specs.Words.{word_group, most_record_lines}
 
@@ -104,6 +104,7 @@ once_only told later (UntriedSaid ip) fit =
 once_only told later (AtSaid moment) fit = refl
 once_only told later (ToSaid host port) fit = refl
 once_only told later (FromSaid ip) fit = refl
+once_only told later (Nat64Said prefix) fit = refl
 once_only told later (ServerSaid ip reason ticks) fit = refl
 once_only told later (EndSaid end) fit = refl
 
@@ -127,6 +128,8 @@ same_most words.From words.From h = refl
 same_most words.From _ h = absurd (omega (arith, h))
 same_most words.Lookup words.Lookup h = refl
 same_most words.Lookup _ h = absurd (omega (arith, h))
+same_most words.Nat64 words.Nat64 h = refl
+same_most words.Nat64 _ h = absurd (omega (arith, h))
 same_most words.Server words.Server h = refl
 same_most words.Server _ h = absurd (omega (arith, h))
 same_most words.Attempt words.Attempt h = refl
@@ -188,6 +191,7 @@ looked_once told (LookupSaid other reason) family once here =
 looked_once told (AtSaid moment) family once here = cc
 looked_once told (ToSaid host port) family once here = cc
 looked_once told (FromSaid ip) family once here = cc
+looked_once told (Nat64Said prefix) family once here = cc
 looked_once told (ServerSaid ip reason ticks) family once here = cc
 looked_once told (AttemptSaid ip reason) family once here = cc
 looked_once told (UntriedSaid ip) family once here = cc
@@ -204,6 +208,7 @@ told_once told (AtSaid moment) ip once here = cc
 told_once told (ToSaid host port) ip once here = cc
 told_once told (FromSaid other) ip once here = cc
 told_once told (LookupSaid family reason) ip once here = cc
+told_once told (Nat64Said prefix) ip once here = cc
 told_once told (ServerSaid other reason ticks) ip once here = cc
 told_once told (EndSaid end) ip once here = cc
 

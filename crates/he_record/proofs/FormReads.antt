@@ -3,8 +3,8 @@ use Rattle.std.proofs.Common.{◌≡◌, ℕ, cond, leb, List, [], ◌∷◌, Ok
 use Rattle.std.specs.Option.{ok_or}
 use Rattle.std.proofs.lemmas.Bool.{and_from, le-leb}
 use Rattle.he_addr.specs.declared.ip.Ip.{Ip}
-use Rattle.he_addr.specs.Text.{Spells}
-use Rattle.he_addr.proofs.ReadLaws.{spelled_address_reads, spelled_number_reads}
+use Rattle.he_addr.specs.Text.{Spells, SpellsPrefix}
+use Rattle.he_addr.proofs.ReadLaws.{spelled_address_reads, spelled_number_reads, spelled_prefix_reads}
 use Rattle.he_timeline.specs.declared.limits.TheConstants.{MAX_TICK}
 use Rattle.he_words.specs.Ranges.{most_u16}
 use Rattle.he_words.specs.declared.fault.TextKind.TheVariants as kinds
@@ -12,9 +12,9 @@ use Rattle.he_reading.specs.Forms.{◌>>=◌, number_from, within}
 use Rattle.he_reading.specs.Text.{IsNumber}
 use Rattle.he_record.specs.declared.reasons.ClientEnd.{ClientEnd}
 use Rattle.he_record.specs.declared.reasons.ClientEnd.TheVariants as ends
-use Rattle.he_record.specs.Forms.{address_in, at_in, to_in, from_in, look_up_in, name_server_in, failed_attempt_in, untried_in, end_in, said_by}
+use Rattle.he_record.specs.Forms.{address_in, at_in, to_in, from_in, look_up_in, name_server_in, nat64_in, failed_attempt_in, untried_in, end_in, said_by}
 use Rattle.he_record.specs.Ranges.{least_port}
-use Rattle.he_record.specs.Said.{Said, AtSaid, ToSaid, FromSaid, LookupSaid, ServerSaid, AttemptSaid, UntriedSaid, EndSaid, word_said}
+use Rattle.he_record.specs.Said.{Said, AtSaid, ToSaid, FromSaid, LookupSaid, Nat64Said, ServerSaid, AttemptSaid, UntriedSaid, EndSaid, is_nat64, word_said}
 use Rattle.he_record.specs.Text.{SaysAfterWord}
 use Rattle.he_record.specs.Words.{lookup_in, server_in, attempt_in, lookup_spelling, server_spelling, attempt_spelling}
 use Rattle.he_record.proofs.MomentLaws.{moment_reads}
@@ -35,7 +35,7 @@ unfolding end_in
 end_reads end number n is = ap (λ r. r >>= λ ticks. Ok (EndSaid (end ticks))) (number_read 0 MAX_TICK number n is)
 
 pub form_reads : (tokens : List (List ℕ)) (s : Said) → SaysAfterWord tokens s → said_by (word_said s) tokens ≡ Ok s
-unfolding at_in to_in from_in look_up_in name_server_in failed_attempt_in untried_in
+unfolding at_in to_in from_in look_up_in nat64_in name_server_in failed_attempt_in untried_in
 form_reads tokens (AtSaid moment) h =
     ap at_in h.0 ∙ ap (λ r. r >>= λ moment. Ok (AtSaid moment)) (moment_reads moment h.1)
 form_reads tokens (ToSaid host port) h =
@@ -47,6 +47,10 @@ form_reads tokens (LookupSaid family reason) h =
     ap look_up_in h
     ∙ ap (λ o. ok_or o kinds.Word >>= λ family. ok_or (lookup_in (lookup_spelling reason)) kinds.Word >>= λ reason. Ok (LookupSaid family reason)) (family_reads family)
     ∙ ap (λ o. ok_or o kinds.Word >>= λ reason. Ok (LookupSaid family reason)) (lookup_reads reason)
+form_reads tokens (Nat64Said prefix) h =
+    ap nat64_in h.1
+    ∙ ap (λ o. ok_or o kinds.Prefix >>= λ prefix. cond (is_nat64 prefix) (Ok (Nat64Said prefix)) (Err kinds.Range)) (spelled_prefix_reads h.0 prefix h.2)
+    ∙ ap (λ b. cond b (Ok (Nat64Said prefix)) (Err kinds.Range)) h.3
 form_reads tokens (ServerSaid ip reason ticks) h =
     ap name_server_in h.2
     ∙ ap (λ r. r >>= λ ip. ok_or (server_in (server_spelling reason)) kinds.Word >>= λ reason. number_from 0 MAX_TICK h.1 >>= λ ticks. Ok (ServerSaid ip reason ticks)) (address_read h.0 ip h.3)

@@ -1,10 +1,10 @@
 -- The tokens of a record line say what its form makes of them.
-use Rattle.std.proofs.Common.{◌≡◌, ℕ, List, [], ◌∷◌, Ok, refl, sym, ◌∙◌, ap, subst}
+use Rattle.std.proofs.Common.{◌≡◌, ℕ, cond, Err, List, [], ◌∷◌, Ok, refl, sym, ◌∙◌, ap, subst}
 use Rattle.std.specs.Option.{ok_or}
 use Rattle.he_addr.specs.declared.ip.Ip.{Ip}
-use Rattle.he_addr.specs.Reading.{ip_in}
+use Rattle.he_addr.specs.Reading.{ip_in, prefix_in}
 use Rattle.he_addr.specs.Text.{Spells}
-use Rattle.he_addr.proofs.ReadLaws.{read_address_spells, read_number_spells}
+use Rattle.he_addr.proofs.ReadLaws.{read_address_spells, read_number_spells, read_prefix_spells}
 use Rattle.he_timeline.specs.declared.limits.TheConstants.{MAX_TICK}
 use Rattle.he_words.specs.Ranges.{most_u16}
 use Rattle.he_words.specs.declared.fault.TextKind.TheVariants as kinds
@@ -16,9 +16,9 @@ use Rattle.he_record.specs.declared.reasons.ClientEnd.{ClientEnd}
 use Rattle.he_record.specs.declared.reasons.ClientEnd.TheVariants as ends
 use Rattle.he_record.specs.declared.words.RecordWord.{RecordWord}
 use Rattle.he_record.specs.declared.words.RecordWord.TheVariants as words
-use Rattle.he_record.specs.Forms.{moment_in, address_in, at_in, to_in, from_in, look_up_in, name_server_in, failed_attempt_in, untried_in, end_in, said_by}
+use Rattle.he_record.specs.Forms.{moment_in, address_in, at_in, to_in, from_in, look_up_in, name_server_in, nat64_in, failed_attempt_in, untried_in, end_in, said_by}
 use Rattle.he_record.specs.Ranges.{least_port}
-use Rattle.he_record.specs.Said.{Said, AtSaid, ToSaid, FromSaid, LookupSaid, ServerSaid, AttemptSaid, UntriedSaid, EndSaid, is_host, ticks_of, word_said}
+use Rattle.he_record.specs.Said.{Said, AtSaid, ToSaid, FromSaid, LookupSaid, Nat64Said, ServerSaid, AttemptSaid, UntriedSaid, EndSaid, is_host, is_nat64, ticks_of, word_said}
 use Rattle.he_record.specs.Text.{SaysAfterWord}
 use Rattle.he_record.specs.Words.{family_in, lookup_in, server_in, attempt_in, family_spelling, lookup_spelling, server_spelling, attempt_spelling}
 use Rattle.he_record.proofs.MomentLaws.{moment_ok}
@@ -84,6 +84,17 @@ look_up_says (first ∷ second ∷ []) s h =
     let same : LookupSaid family.0 reason.0 ≡ s = cc (reason.2) in
     subst P same (refl, ap (λ t. t ∷ second ∷ []) one ∙ ap (λ t. family_spelling family.0 ∷ t ∷ []) other)
 
+nat64_says : (tokens : List (List ℕ)) (s : Said) → nat64_in tokens ≡ Ok s → IsSaid words.Nat64 tokens s
+unfolding nat64_in
+nat64_says [] s h = cc
+nat64_says (a ∷ b ∷ more) s h = cc
+nat64_says (token ∷ []) s h =
+    let prefix = bind_ok (ok_or (prefix_in token) kinds.Prefix) (λ prefix. cond (is_nat64 prefix) (Ok (Nat64Said prefix)) (Err kinds.Range)) s h in
+    let fits = let_through (is_nat64 prefix.0) (Ok (Nat64Said prefix.0)) kinds.Range s prefix.2 in
+    let P : Said → Type 0 = IsSaid words.Nat64 (token ∷ []) in
+    let same : Nat64Said prefix.0 ≡ s = cc (fits.1) in
+    subst P same (refl, (token, refl, read_prefix_spells token prefix.0 (ok_or_ok (prefix_in token) kinds.Prefix prefix.0 prefix.1), fits.0))
+
 server_says : (tokens : List (List ℕ)) (s : Said) → name_server_in tokens ≡ Ok s → IsSaid words.Server tokens s
 unfolding name_server_in
 server_says [] s h = cc
@@ -139,6 +150,7 @@ form_says words.At tokens s h = at_says tokens s h
 form_says words.To tokens s h = to_says tokens s h
 form_says words.From tokens s h = from_says tokens s h
 form_says words.Lookup tokens s h = look_up_says tokens s h
+form_says words.Nat64 tokens s h = nat64_says tokens s h
 form_says words.Server tokens s h = server_says tokens s h
 form_says words.Attempt tokens s h = attempt_says tokens s h
 form_says words.Untried tokens s h = untried_says tokens s h

@@ -1,8 +1,8 @@
 -- The text that is written of a record is one of this record.
-use Rattle.std.proofs.Common.{◌≡◌, ℕ, ◌*◌, ◌^◌, ◌<◌, ◌≤◌, ◌&&◌, Bool, true, false, not, leb, eqb, List, [], ◌∷◌, ◌++◌, length, map, refl, sym, ◌∙◌, ap, arith, append_assoc, length-append}
+use Rattle.std.proofs.Common.{◌≡◌, ℕ, ◌*◌, ◌^◌, ◌%◌, ◌-◌, ◌<◌, ◌≤◌, ◌&&◌, Bool, true, false, not, leb, ltb, eqb, List, [], ◌∷◌, ◌++◌, length, map, refl, sym, ◌∙◌, ap, arith, append_assoc, length-append}
 use Rattle.std.specs.Prelude.{codes, decimal}
 use Rattle.std.specs.List.{AllByRecursion, AllZip, flat_map, join_with_byte, list_all}
-use Rattle.std.proofs.lemmas.Bool.{and_parts, eq-eqb, leb-true, ne_eqb}
+use Rattle.std.proofs.lemmas.Bool.{and_parts, eq-eqb, eqb-true, leb-true, ltb-true, ne_eqb}
 use Rattle.std.proofs.lemmas.List.Concat.{flat_map-cons}
 use Rattle.std.proofs.lemmas.List.Elements.{All-from_recursion}
 use Rattle.std.proofs.lemmas.List.Folds.{flat_map-map}
@@ -11,9 +11,11 @@ use Rattle.he_addr.specs.declared.ip.Family.{Family}
 use Rattle.he_addr.specs.declared.ip.Family.TheVariants as families
 use Rattle.he_addr.specs.declared.ip.Ip.{Ip}
 use Rattle.he_addr.specs.Ip.{InRange}
-use Rattle.he_addr.specs.Printing.{printed}
+use Rattle.he_addr.specs.Prefix.{PrefixBits, IsPrefix, is_inside_mapped}
+use Rattle.he_addr.specs.Reading.{is_prefix}
+use Rattle.he_addr.specs.Printing.{printed, prefix_text}
 use Rattle.he_addr.specs.Text.{IsToken, Lacks}
-use Rattle.he_addr.proofs.TextLaws.{addresses_are_tokens, addresses_read_back, numbers_are_tokens, numbers_read_back}
+use Rattle.he_addr.proofs.TextLaws.{addresses_are_tokens, addresses_read_back, numbers_are_tokens, numbers_read_back, prefixes_are_tokens, prefixes_read_back}
 use Rattle.he_timeline.specs.declared.limits.TheConstants.{MAX_TICK}
 use Rattle.he_words.specs.Ranges.{most_line_bytes, most_u16}
 use Rattle.he_reading.specs.Parts.{lines_of, tokens_of}
@@ -30,7 +32,7 @@ use Rattle.he_record.specs.declared.words.RecordWord.{RecordWord}
 use Rattle.he_record.specs.declared.words.RecordWord.TheVariants as words
 use Rattle.he_record.specs.Moments.{digit, moment_text}
 use Rattle.he_record.specs.Ranges.{most_host_bytes}
-use Rattle.he_record.specs.Said.{Said, AtSaid, ToSaid, FromSaid, LookupSaid, ServerSaid, AttemptSaid, UntriedSaid, EndSaid, MaySay, is_host, is_host_byte, ticks_of, word_said}
+use Rattle.he_record.specs.Said.{Said, AtSaid, ToSaid, FromSaid, LookupSaid, Nat64Said, ServerSaid, AttemptSaid, UntriedSaid, EndSaid, MaySay, is_host, is_host_byte, is_nat64, is_nat64_length, ticks_of, word_said}
 use Rattle.he_record.specs.Text.{IsRecord, IsRecordText, Says, SaysAfterWord}
 use Rattle.he_record.specs.Words.{first_token, word_spelling, family_spelling, lookup_spelling, server_spelling, attempt_spelling}
 use Rattle.he_record.specs.Written.{record_text, values_said}
@@ -108,6 +110,7 @@ word_token words.At = token_from (codes "at") refl
 word_token words.To = token_from (codes "to") refl
 word_token words.From = token_from (codes "from") refl
 word_token words.Lookup = token_from (codes "lookup") refl
+word_token words.Nat64 = token_from (codes "nat64") refl
 word_token words.Server = token_from (codes "server") refl
 word_token words.Attempt = token_from (codes "attempt") refl
 word_token words.Untried = token_from (codes "untried") refl
@@ -127,6 +130,7 @@ lookup_token lookups.Refused = token_from (codes "refused") refl
 lookup_token lookups.Failed = token_from (codes "failed") refl
 lookup_token lookups.Malformed = token_from (codes "malformed") refl
 lookup_token lookups.NotAsked = token_from (codes "not-asked") refl
+lookup_token lookups.Nat64 = token_from (codes "nat64") refl
 
 server_token : (reason : ServerReason) → IsToken 255 (server_spelling reason)
 server_token servers.Silent = token_from (codes "silent") refl
@@ -149,6 +153,17 @@ number_token n high most small = wider 10 (decimal n) (omega arith) (numbers_are
 
 address_token : (ip : Ip) → InRange ip → IsToken 255 (printed ip)
 address_token ip small = wider 39 (printed ip) (omega arith) (addresses_are_tokens ip small)
+
+nat64_prefix : (prefix : PrefixBits) → is_nat64 prefix ≡ true → IsPrefix prefix.bits prefix.len
+nat64_prefix prefix h =
+    let of_nat64 = and_parts (is_prefix prefix && is_nat64_length prefix.len) (not (is_inside_mapped prefix)) h in
+    let is = and_parts (is_prefix prefix) (is_nat64_length prefix.len) of_nat64.0 in
+    let both = and_parts (leb prefix.len 128 && ltb prefix.bits (2 ^ 128)) (eqb (prefix.bits % 2 ^ (128 - prefix.len)) 0) is.0 in
+    let sizes = and_parts (leb prefix.len 128) (ltb prefix.bits (2 ^ 128)) both.0 in
+    record { short = leb-true prefix.len 128 sizes.0; fits = ltb-true prefix.bits (2 ^ 128) sizes.1; clear = eqb-true (prefix.bits % 2 ^ (128 - prefix.len)) 0 both.1 }
+
+prefix_token : (prefix : PrefixBits) → IsPrefix prefix.bits prefix.len → IsToken 255 (prefix_text false prefix)
+prefix_token prefix is = wider 43 (prefix_text false prefix) (omega arith) (prefixes_are_tokens false prefix is)
 
 not_mark : (n mark : ℕ) → mark < 48 → eqb (digit n) mark ≡ false
 not_mark n mark low = ne_eqb (digit n) mark (λ same. absurd (omega arith))
@@ -185,6 +200,7 @@ values_tokens (AtSaid moment) h = (moment_token moment, tt)
 values_tokens (ToSaid host port) h = (host_token host h.0, (number_token port most_u16 h.2 (omega arith), tt))
 values_tokens (FromSaid ip) h = (address_token ip h, tt)
 values_tokens (LookupSaid family reason) h = (family_token family, (lookup_token reason, tt))
+values_tokens (Nat64Said prefix) h = (prefix_token prefix (nat64_prefix prefix h), tt)
 values_tokens (ServerSaid ip reason ticks) h = (address_token ip h.0, (server_token reason, (number_token ticks MAX_TICK h.1 (omega arith), tt)))
 values_tokens (AttemptSaid ip reason) h = (address_token ip h, (attempt_token reason, tt))
 values_tokens (UntriedSaid ip) h = (address_token ip h, tt)
@@ -206,6 +222,7 @@ values_few (AtSaid moment) = omega arith
 values_few (ToSaid host port) = omega arith
 values_few (FromSaid ip) = omega arith
 values_few (LookupSaid family reason) = omega arith
+values_few (Nat64Said prefix) = omega arith
 values_few (ServerSaid ip reason ticks) = omega arith
 values_few (AttemptSaid ip reason) = omega arith
 values_few (UntriedSaid ip) = omega arith
@@ -226,6 +243,7 @@ values_say (AtSaid moment) h = (refl, h)
 values_say (ToSaid host port) h = (decimal port, refl, h.0, number_is 1 most_u16 port h.1 h.2 (omega arith))
 values_say (FromSaid ip) h = (printed ip, refl, (addresses_read_back ip h).0)
 values_say (LookupSaid family reason) h = refl
+values_say (Nat64Said prefix) h = (prefix_text false prefix, refl, (prefixes_read_back false prefix (nat64_prefix prefix h)).0, h)
 values_say (ServerSaid ip reason ticks) h = (printed ip, decimal ticks, refl, (addresses_read_back ip h.0).0, number_is 0 MAX_TICK ticks (omega arith) h.1 (omega arith))
 values_say (AttemptSaid ip reason) h = (printed ip, refl, (addresses_read_back ip h).0)
 values_say (UntriedSaid ip) h = (printed ip, refl, (addresses_read_back ip h).0)

@@ -12,7 +12,7 @@ use Rattle.he_record.specs.Adding.{HasTypes, add_fault, value_fault}
 use Rattle.he_record.specs.Faults.{one_too_many, out_of_order, repeated}
 use Rattle.he_record.specs.Moments.{is_moment}
 use Rattle.he_record.specs.Ranges.{least_port}
-use Rattle.he_record.specs.Said.{Said, AtSaid, ToSaid, FromSaid, LookupSaid, ServerSaid, AttemptSaid, UntriedSaid, EndSaid, MaySay, is_host, ticks_of, word_said}
+use Rattle.he_record.specs.Said.{Said, AtSaid, ToSaid, FromSaid, LookupSaid, Nat64Said, ServerSaid, AttemptSaid, UntriedSaid, EndSaid, MaySay, is_host, is_nat64, ticks_of, word_said}
 use Rattle.he_record.specs.Text.{IsRecord, Says}
 use Rattle.he_record.proofs.FitLaws.{PassesAfter, fit_more}
 
@@ -35,6 +35,7 @@ may_add (ToSaid host port) h types =
     (not-false (is_host host) (test_none (not (is_host host)) kinds.Word none.0), within least_port port kinds.Range none.1, types)
 may_add (FromSaid ip) h types = types
 may_add (LookupSaid family reason) h types = tt
+may_add (Nat64Said prefix) h types = not-false (is_nat64 prefix) (test_none (not (is_nat64 prefix)) kinds.Range h)
 may_add (ServerSaid ip reason ticks) h types = (types, within ticks MAX_TICK kinds.Range h)
 may_add (AttemptSaid ip reason) h types = types
 may_add (UntriedSaid ip) h types = types
@@ -45,6 +46,7 @@ may_read line (AtSaid moment) is types = is.2.1
 may_read line (ToSaid host port) is types = (is.2.2, is.2.3.least, is.2.3.most)
 may_read line (FromSaid ip) is types = types
 may_read line (LookupSaid family reason) is types = tt
+may_read line (Nat64Said prefix) is types = is.2.3
 may_read line (ServerSaid ip reason ticks) is types = (types, is.2.4.most)
 may_read line (AttemptSaid ip reason) is types = types
 may_read line (UntriedSaid ip) is types = types

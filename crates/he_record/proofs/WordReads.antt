@@ -20,6 +20,7 @@ word_reads words.At = refl
 word_reads words.To = refl
 word_reads words.From = refl
 word_reads words.Lookup = refl
+word_reads words.Nat64 = refl
 word_reads words.Server = refl
 word_reads words.Attempt = refl
 word_reads words.Untried = refl
@@ -41,6 +42,7 @@ lookup_reads lookups.Refused = refl
 lookup_reads lookups.Failed = refl
 lookup_reads lookups.Malformed = refl
 lookup_reads lookups.NotAsked = refl
+lookup_reads lookups.Nat64 = refl
 
 pub server_reads : (reason : ServerReason) → server_in (server_spelling reason) ≡ Some reason
 unfolding server_in
@@ -76,12 +78,13 @@ word_spelled token w h =
     (spelled_or word_spelling token words.To w _ _ refl
     (spelled_or word_spelling token words.From w _ _ refl
     (spelled_or word_spelling token words.Lookup w _ _ refl
+    (spelled_or word_spelling token words.Nat64 w _ _ refl
     (spelled_or word_spelling token words.Server w _ _ refl
     (spelled_or word_spelling token words.Attempt w _ _ refl
     (spelled_or word_spelling token words.Untried w _ _ refl
     (spelled_or word_spelling token words.Connected w _ _ refl
     (spelled_or word_spelling token words.GaveUp w _ _ refl
-    (spelled_or word_spelling token words.Failed w _ _ refl (none_spelled word_spelling token w))))))))))
+    (spelled_or word_spelling token words.Failed w _ _ refl (none_spelled word_spelling token w)))))))))))
     h
 
 pub family_spelled : (token : List ℕ) (w : Family) → family_in token ≡ Some w → token ≡ family_spelling w
@@ -100,7 +103,8 @@ lookup_spelled token w h =
     (spelled_or lookup_spelling token lookups.Refused w _ _ refl
     (spelled_or lookup_spelling token lookups.Failed w _ _ refl
     (spelled_or lookup_spelling token lookups.Malformed w _ _ refl
-    (spelled_or lookup_spelling token lookups.NotAsked w _ _ refl (none_spelled lookup_spelling token w)))))))
+    (spelled_or lookup_spelling token lookups.NotAsked w _ _ refl
+    (spelled_or lookup_spelling token lookups.Nat64 w _ _ refl (none_spelled lookup_spelling token w))))))))
     h
 
 pub server_spelled : (token : List ℕ) (w : ServerReason) → server_in token ≡ Some w → token ≡ server_spelling w

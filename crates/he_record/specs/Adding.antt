@@ -10,13 +10,14 @@ use Rattle.he_reading.specs.Faults.{test, first_fault}
 use Rattle.he_record.specs.Faults.{out_of_order, one_too_many, repeated}
 use Rattle.he_record.specs.Moments.{is_moment}
 use Rattle.he_record.specs.Ranges.{least_port}
-use Rattle.he_record.specs.Said.{Said, AtSaid, ToSaid, FromSaid, ServerSaid, AttemptSaid, UntriedSaid, EndSaid, is_host, ticks_of, word_said}
+use Rattle.he_record.specs.Said.{Said, AtSaid, ToSaid, FromSaid, Nat64Said, ServerSaid, AttemptSaid, UntriedSaid, EndSaid, is_host, is_nat64, ticks_of, word_said}
 
 -- a value out of its range that the program's types allow
 abbrev pub value_fault : Said → Option TextKind
 value_fault (AtSaid moment) = test (not (is_moment moment)) kinds.Range
 value_fault (ToSaid host port) =
     first_fault (test (not (is_host host)) kinds.Word ∷ test (nat_lt port least_port) kinds.Range ∷ [])
+value_fault (Nat64Said prefix) = test (not (is_nat64 prefix)) kinds.Range
 value_fault (ServerSaid ip reason ticks) = test (nat_lt MAX_TICK ticks) kinds.Range
 value_fault (EndSaid end) = test (nat_lt MAX_TICK (ticks_of end)) kinds.Range
 value_fault said = None

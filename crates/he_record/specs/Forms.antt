@@ -4,7 +4,7 @@ use Rattle.std.specs.Prelude.{ℕ, Bool, false, List, [], ◌∷◌, Result, Ok,
 use Rattle.std.specs.Option.{ok_or}
 use Rattle.std.specs.Str.{bytes_eq}
 use Rattle.he_addr.specs.declared.ip.Ip.{Ip}
-use Rattle.he_addr.specs.Reading.{ip_in}
+use Rattle.he_addr.specs.Reading.{ip_in, prefix_in}
 use Rattle.he_timeline.specs.declared.limits.TheConstants.{MAX_TICK}
 use Rattle.he_words.specs.Ranges.{most_u16}
 use Rattle.he_words.specs.declared.fault.TextKind.{TextKind}
@@ -19,7 +19,7 @@ use Rattle.he_record.specs.declared.words.RecordWord.TheVariants as words
 use Rattle.he_record.specs.MomentParts.{parts_in}
 use Rattle.he_record.specs.Moments.{is_moment, moment_text}
 use Rattle.he_record.specs.Ranges.{least_port}
-use Rattle.he_record.specs.Said.{Said, AtSaid, ToSaid, FromSaid, LookupSaid, ServerSaid, AttemptSaid, UntriedSaid, EndSaid, is_host}
+use Rattle.he_record.specs.Said.{Said, AtSaid, ToSaid, FromSaid, LookupSaid, Nat64Said, ServerSaid, AttemptSaid, UntriedSaid, EndSaid, is_host, is_nat64}
 use Rattle.he_record.specs.Words.{first_token, record_word_in, family_in, lookup_in, server_in, attempt_in}
 
 -- a time in another format is no number; a time that doesn't exist is out of range
@@ -63,6 +63,13 @@ look_up_in (first ∷ second ∷ []) = do
   Ok (LookupSaid family reason)
 look_up_in _ = Err kinds.Word
 
+-- record nat64 PREFIX
+unfoldable pub nat64_in : List (List ℕ) → Result Said TextKind
+nat64_in (token ∷ []) = do
+  prefix ← ok_or (prefix_in token) kinds.Prefix
+  if is_nat64 prefix then Ok (Nat64Said prefix) else Err kinds.Range
+nat64_in _ = Err kinds.Word
+
 -- record server ADDRESS REASON N
 unfoldable pub name_server_in : List (List ℕ) → Result Said TextKind
 name_server_in (address ∷ second ∷ number ∷ []) = do
@@ -100,6 +107,7 @@ said_by words.At tokens = at_in tokens
 said_by words.To tokens = to_in tokens
 said_by words.From tokens = from_in tokens
 said_by words.Lookup tokens = look_up_in tokens
+said_by words.Nat64 tokens = nat64_in tokens
 said_by words.Server tokens = name_server_in tokens
 said_by words.Attempt tokens = failed_attempt_in tokens
 said_by words.Untried tokens = untried_in tokens

@@ -1,14 +1,17 @@
 -- The values of a record, for each kind of line of which it has at most one.
-use Rattle.std.specs.Prelude.{ℕ, ◌==◌, Bool, true, false, List, Option, Some, None, find}
+use Rattle.std.specs.Prelude.{ℕ, ◌==◌, Bool, true, false, List, [], ◌∷◌, Option, Some, None, find, if◌then◌else◌}
+use Rattle.std.specs.List.{flat_map}
 use Rattle.he_addr.specs.declared.ip.Family.{Family}
 use Rattle.he_addr.specs.declared.ip.Ip.{Ip}
+use Rattle.he_addr.specs.Prefix.{PrefixBits}
+use Rattle.he_addr.specs.Reading.{is_prefix}
 use Rattle.he_record.specs.declared.moment.Moment.{Moment}
 use Rattle.he_record.specs.declared.reasons.ClientEnd.{ClientEnd}
 use Rattle.he_record.specs.declared.reasons.LookupReason.{LookupReason}
 use Rattle.he_record.specs.declared.reasons.AttemptReason.{AttemptReason}
 use Rattle.he_record.specs.declared.words.RecordWord.{RecordWord}
 use Rattle.he_record.specs.declared.words.RecordWord.TheVariants as words
-use Rattle.he_record.specs.Said.{Said, AtSaid, ToSaid, FromSaid, LookupSaid, AttemptSaid, UntriedSaid, EndSaid, group_said, looks_up, tells_of}
+use Rattle.he_record.specs.Said.{Said, AtSaid, ToSaid, FromSaid, LookupSaid, Nat64Said, AttemptSaid, UntriedSaid, EndSaid, group_said, looks_up, tells_of}
 use Rattle.he_record.specs.Words.{word_group}
 
 -- the line of the word's group, of the family's look-up, and of the address
@@ -76,3 +79,19 @@ is_untried_given ip said = is_untried_on (address_line ip said)
 -- the recorded client's own result
 abbrev pub end_given : List Said → Option ClientEnd
 end_given said = end_on (line_with words.Connected said)
+
+-- the prefixes by which the network's NAT64 has the IPv4 addresses
+abbrev pub nat64_of : Said → List PrefixBits
+nat64_of (Nat64Said prefix) = if is_prefix prefix then prefix ∷ [] else []
+nat64_of line = []
+
+abbrev pub nat64_given : List Said → List PrefixBits
+nat64_given said = flat_map nat64_of said
+
+-- the addresses that no client tried
+abbrev pub untried_of : Said → List Ip
+untried_of (UntriedSaid ip) = ip ∷ []
+untried_of line = []
+
+abbrev pub untried_given : List Said → List Ip
+untried_given said = flat_map untried_of said

@@ -12,6 +12,10 @@ least_port = 1
 abbrev pub most_once : ℕ
 most_once = 1
 
+-- the maximum number of NAT64 prefixes of a record
+abbrev pub most_prefixes : ℕ
+most_prefixes = 8
+
 -- the maximum number of name servers of a record
 abbrev pub most_servers : ℕ
 most_servers = 8

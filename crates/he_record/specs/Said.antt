@@ -1,10 +1,12 @@
 -- The contents of record lines. The value of a record is the list of its lines' contents.
-use Rattle.std.specs.Prelude.{ℕ, ◌≤◌, ◌&&◌, Bool, true, false, List, length, IsTrue, nat_le}
+use Rattle.std.specs.Prelude.{ℕ, ◌≤◌, ◌==◌, ◌&&◌, ◌||◌, Bool, true, false, not, List, length, IsTrue, nat_le}
 use Rattle.std.specs.List.{list_all}
 use Rattle.he_addr.specs.declared.ip.Family.{Family}
 use Rattle.he_addr.specs.declared.ip.Family.TheVariants.{V4, V6}
 use Rattle.he_addr.specs.declared.ip.Ip.{Ip}
 use Rattle.he_addr.specs.Ip.{InRange, same_ip}
+use Rattle.he_addr.specs.Prefix.{PrefixBits, is_inside_mapped}
+use Rattle.he_addr.specs.Reading.{is_prefix}
 use Rattle.he_timeline.specs.declared.limits.TheConstants.{MAX_TICK}
 use Rattle.he_words.specs.Ranges.{most_u16}
 use Rattle.he_record.specs.declared.moment.Moment.{Moment}
@@ -20,13 +22,15 @@ use Rattle.he_record.specs.Ranges.{most_host_bytes, least_port}
 use Rattle.he_record.specs.Words.{word_group}
 
 -- the contents of a line: the time of tick 0; the requested host and port; the client's address; the reason that a
--- family has no address; the reason that a name server was given up, and after how many ticks; the reason that an
--- attempt failed; an address that no client tried; the recorded client's own result
+-- family has no address; a prefix by which the network's NAT64 has the IPv4 addresses; the reason that a name server
+-- was given up, and after how many ticks; the reason that an attempt failed; an address that no client tried; the
+-- recorded client's own result
 pub data Said : Type 0 where
   AtSaid : Moment → Said
   ToSaid : List ℕ → ℕ → Said
   FromSaid : Ip → Said
   LookupSaid : Family → LookupReason → Said
+  Nat64Said : PrefixBits → Said
   ServerSaid : Ip → ServerReason → ℕ → Said
   AttemptSaid : Ip → AttemptReason → Said
   UntriedSaid : Ip → Said
@@ -38,6 +42,7 @@ word_said (AtSaid moment) = words.At
 word_said (ToSaid host port) = words.To
 word_said (FromSaid ip) = words.From
 word_said (LookupSaid family reason) = words.Lookup
+word_said (Nat64Said prefix) = words.Nat64
 word_said (ServerSaid ip reason ticks) = words.Server
 word_said (AttemptSaid ip reason) = words.Attempt
 word_said (UntriedSaid ip) = words.Untried
@@ -61,12 +66,21 @@ is_host_byte byte = nat_le 33 byte && nat_le byte 126
 abbrev pub is_host : List ℕ → Bool
 is_host host = nat_le 1 (length host) && nat_le (length host) most_host_bytes && list_all is_host_byte host
 
+-- the lengths of a NAT64 prefix (RFC 6052 section 2.2)
+abbrev pub is_nat64_length : ℕ → Bool
+is_nat64_length len = len == 32 || len == 40 || len == 48 || len == 56 || len == 64 || len == 96
+
+-- a NAT64 prefix: of such a length, and no prefix of IPv4 addresses
+abbrev pub is_nat64 : PrefixBits → Bool
+is_nat64 prefix = is_prefix prefix && is_nat64_length prefix.len && not (is_inside_mapped prefix)
+
 -- its values are in their ranges
 abbrev pub MaySay : Said → Type 0
 MaySay (AtSaid moment) = IsTrue (is_moment moment)
 MaySay (ToSaid host port) = IsTrue (is_host host) × (least_port ≤ port) × (port ≤ most_u16)
 MaySay (FromSaid ip) = InRange ip
 MaySay (LookupSaid family reason) = Unit {0}
+MaySay (Nat64Said prefix) = IsTrue (is_nat64 prefix)
 MaySay (ServerSaid ip reason ticks) = InRange ip × (ticks ≤ MAX_TICK)
 MaySay (AttemptSaid ip reason) = InRange ip
 MaySay (UntriedSaid ip) = InRange ip

@@ -3,7 +3,7 @@ use Rattle.std.specs.Prelude.{ℕ, ◌≡◌, ◌≤◌, ◌&&◌, Bool, true, I
 use Rattle.std.specs.List.{AllByRecursion, AllZip}
 use Rattle.he_addr.specs.declared.ip.Family.{Family}
 use Rattle.he_addr.specs.declared.ip.Ip.{Ip}
-use Rattle.he_addr.specs.Text.{Spells}
+use Rattle.he_addr.specs.Text.{Spells, SpellsPrefix}
 use Rattle.he_timeline.specs.declared.limits.TheConstants.{MAX_TICK}
 use Rattle.he_words.specs.Ranges.{most_line_bytes, most_u16}
 use Rattle.he_reading.specs.Parts.{lines_of, tokens_of}
@@ -12,7 +12,7 @@ use Rattle.he_record.specs.declared.words.RecordWord.{RecordWord}
 use Rattle.he_record.specs.Faults.{lines_with}
 use Rattle.he_record.specs.Moments.{is_moment, moment_text}
 use Rattle.he_record.specs.Ranges.{least_port}
-use Rattle.he_record.specs.Said.{Said, AtSaid, ToSaid, FromSaid, LookupSaid, ServerSaid, AttemptSaid, UntriedSaid, EndSaid, MaySay, group_said, is_host, looks_up, tells_of, ticks_of, word_said}
+use Rattle.he_record.specs.Said.{Said, AtSaid, ToSaid, FromSaid, LookupSaid, Nat64Said, ServerSaid, AttemptSaid, UntriedSaid, EndSaid, MaySay, group_said, is_host, is_nat64, looks_up, tells_of, ticks_of, word_said}
 use Rattle.he_record.specs.Words.{first_token, word_spelling, word_group, most_record_lines, family_spelling, lookup_spelling, server_spelling, attempt_spelling}
 
 -- the tokens after the word of a line, and the line's contents
@@ -22,6 +22,8 @@ SaysAfterWord tokens (ToSaid host port) =
     (number : List ℕ) × (tokens ≡ host ∷ number ∷ []) × IsTrue (is_host host) × IsNumber least_port most_u16 number port
 SaysAfterWord tokens (FromSaid ip) = (address : List ℕ) × (tokens ≡ address ∷ []) × Spells address ip
 SaysAfterWord tokens (LookupSaid family reason) = tokens ≡ family_spelling family ∷ lookup_spelling reason ∷ []
+SaysAfterWord tokens (Nat64Said prefix) =
+    (text : List ℕ) × (tokens ≡ text ∷ []) × SpellsPrefix text prefix × IsTrue (is_nat64 prefix)
 SaysAfterWord tokens (ServerSaid ip reason ticks) =
     (address : List ℕ) × (number : List ℕ) × (tokens ≡ address ∷ server_spelling reason ∷ number ∷ [])
     × Spells address ip × IsNumber 0 MAX_TICK number ticks

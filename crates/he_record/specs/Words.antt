@@ -5,9 +5,9 @@ use Rattle.he_addr.specs.declared.ip.Family.{Family}
 use Rattle.he_addr.specs.declared.ip.Family.TheVariants.{V4, V6}
 use Rattle.he_words.specs.declared.fault.TextKind.{TextKind}
 use Rattle.he_words.specs.declared.fault.TextKind.TheVariants as kinds
-use Rattle.he_record.specs.Ranges.{most_once, most_servers, most_told}
+use Rattle.he_record.specs.Ranges.{most_once, most_prefixes, most_servers, most_told}
 use Rattle.he_record.specs.declared.words.RecordWord.{RecordWord}
-use Rattle.he_record.specs.declared.words.RecordWord.TheVariants.{At, To, From, Lookup, Server, Attempt, Untried, Connected, GaveUp, Failed}
+use Rattle.he_record.specs.declared.words.RecordWord.TheVariants.{At, To, From, Lookup, Nat64, Server, Attempt, Untried, Connected, GaveUp, Failed}
 use Rattle.he_record.specs.declared.reasons.LookupReason.{LookupReason}
 use Rattle.he_record.specs.declared.reasons.LookupReason.TheVariants as lookups
 use Rattle.he_record.specs.declared.reasons.ServerReason.{ServerReason}
@@ -25,6 +25,7 @@ word_spelling At = codes "at"
 word_spelling To = codes "to"
 word_spelling From = codes "from"
 word_spelling Lookup = codes "lookup"
+word_spelling Nat64 = codes "nat64"
 word_spelling Server = codes "server"
 word_spelling Attempt = codes "attempt"
 word_spelling Untried = codes "untried"
@@ -39,17 +40,19 @@ word_group At = 1
 word_group To = 2
 word_group From = 3
 word_group Lookup = 4
-word_group Server = 5
-word_group Attempt = 6
-word_group Untried = 7
-word_group Connected = 8
-word_group GaveUp = 8
-word_group Failed = 8
+word_group Nat64 = 5
+word_group Server = 6
+word_group Attempt = 7
+word_group Untried = 8
+word_group Connected = 9
+word_group GaveUp = 9
+word_group Failed = 9
 
 -- the maximum number of lines of the word's group, and the fault of one more; a look-up is limited to one of each
 -- family
 abbrev pub most_record_lines : RecordWord → Option (ℕ × TextKind)
 most_record_lines Lookup = None
+most_record_lines Nat64 = Some (most_prefixes, kinds.TooMany)
 most_record_lines Server = Some (most_servers, kinds.TooMany)
 most_record_lines Attempt = Some (most_told, kinds.TooMany)
 most_record_lines Untried = Some (most_told, kinds.TooMany)
@@ -59,7 +62,7 @@ most_record_lines word = Some (most_once, kinds.Repeated)
 unfoldable pub record_word_in : List ℕ → Option RecordWord
 record_word_in token =
     find (λ word. bytes_eq token (word_spelling word))
-    (At ∷ To ∷ From ∷ Lookup ∷ Server ∷ Attempt ∷ Untried ∷ Connected ∷ GaveUp ∷ Failed ∷ [])
+    (At ∷ To ∷ From ∷ Lookup ∷ Nat64 ∷ Server ∷ Attempt ∷ Untried ∷ Connected ∷ GaveUp ∷ Failed ∷ [])
 
 -- the families of look-ups
 abbrev pub family_spelling : Family → List ℕ
@@ -78,12 +81,13 @@ lookup_spelling lookups.Refused = codes "refused"
 lookup_spelling lookups.Failed = codes "failed"
 lookup_spelling lookups.Malformed = codes "malformed"
 lookup_spelling lookups.NotAsked = codes "not-asked"
+lookup_spelling lookups.Nat64 = codes "nat64"
 
 unfoldable pub lookup_in : List ℕ → Option LookupReason
 lookup_in token =
     find (λ reason. bytes_eq token (lookup_spelling reason))
     (lookups.NoSuchName ∷ lookups.NoAddress ∷ lookups.NoAnswer ∷ lookups.Refused ∷ lookups.Failed ∷ lookups.Malformed
-    ∷ lookups.NotAsked ∷ [])
+    ∷ lookups.NotAsked ∷ lookups.Nat64 ∷ [])
 
 -- the reason that a name server was given up
 abbrev pub server_spelling : ServerReason → List ℕ

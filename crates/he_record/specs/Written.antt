@@ -1,10 +1,11 @@
 -- The texts that are written for records.
 use Rattle.std.specs.Prelude.{ℕ, List, [], ◌∷◌, ◌++◌, decimal}
 use Rattle.std.specs.List.{flat_map, join_with_byte}
-use Rattle.he_addr.specs.Printing.{printed}
+use Rattle.he_addr.specs.declared.ip.Ip.TheVariants.{V6}
+use Rattle.he_addr.specs.Printing.{printed, source_text}
 use Rattle.he_words.specs.Ranges.{line_end, token_end}
 use Rattle.he_record.specs.Moments.{moment_text}
-use Rattle.he_record.specs.Said.{Said, AtSaid, ToSaid, FromSaid, LookupSaid, ServerSaid, AttemptSaid, UntriedSaid, EndSaid, ticks_of, word_said}
+use Rattle.he_record.specs.Said.{Said, AtSaid, ToSaid, FromSaid, LookupSaid, Nat64Said, ServerSaid, AttemptSaid, UntriedSaid, EndSaid, ticks_of, word_said}
 use Rattle.he_record.specs.Words.{first_token, word_spelling, family_spelling, lookup_spelling, server_spelling, attempt_spelling}
 
 -- the tokens after the word of a line
@@ -13,6 +14,7 @@ values_said (AtSaid moment) = moment_text moment ∷ []
 values_said (ToSaid host port) = host ∷ decimal port ∷ []
 values_said (FromSaid ip) = printed ip ∷ []
 values_said (LookupSaid family reason) = family_spelling family ∷ lookup_spelling reason ∷ []
+values_said (Nat64Said prefix) = source_text (V6 prefix.bits) prefix.len ∷ []
 values_said (ServerSaid ip reason ticks) = printed ip ∷ server_spelling reason ∷ decimal ticks ∷ []
 values_said (AttemptSaid ip reason) = printed ip ∷ attempt_spelling reason ∷ []
 values_said (UntriedSaid ip) = printed ip ∷ []

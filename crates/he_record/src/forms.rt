@@ -2,11 +2,14 @@
 // token from left to right. The first check that fails is the fault.
 
 ghost use Rattle.std.specs.Prelude.{◌≡◌, ◌≤◌, ℕ, Ok, Err, IfOk, MatchResult};
+ghost use Rattle.std.specs.Option.{ok_or};
+ghost use Rattle.he_addr.specs.Reading.{prefix_in};
+ghost use Rattle.he_words.specs.declared.fault.TextKind.TheVariants as kinds;
 ghost use Rattle.he_words.specs.Ranges.{most_u16};
 ghost use Rattle.he_reading.specs.Forms.{number_from};
 ghost use Rattle.he_reading.specs.Parts.{tokens_of};
 ghost use Rattle.he_record.specs.declared.reasons.ClientEnd.{ClientEnd};
-ghost use Rattle.he_record.specs.Forms.{address_in, at_in, end_in, failed_attempt_in, from_in, look_up_in, moment_in, name_server_in, said_by, to_in, untried_in, word_of};
+ghost use Rattle.he_record.specs.Forms.{address_in, at_in, end_in, failed_attempt_in, from_in, look_up_in, moment_in, name_server_in, nat64_in, said_by, to_in, untried_in, word_of};
 ghost use Rattle.he_record.specs.Left.{IsFormOf, tokens_left};
 ghost use Rattle.he_record.specs.Ranges.{least_port};
 ghost use Rattle.he_record.specs.Said.{EndSaid};
@@ -15,10 +18,11 @@ ghost use Rattle.he_record.specs.Words.{family_in};
 use crate::limits::{MAX_PORT, MIN_PORT};
 use crate::line::{RecordLine, is_host};
 use crate::moment::{Moment, read_parts};
+use crate::nat64::Nat64Prefix;
 use crate::reasons::{AttemptReason, ClientEnd, LookupReason, ServerReason};
 use crate::tokens::Tokens;
 use crate::words::RecordWord;
-use he_addr::{Family, Ip, read_ip, read_number};
+use he_addr::{Family, Ip, Prefix, read_ip, read_number, read_prefix};
 use he_timeline::limits::MAX_TICK;
 use he_words::TextKind;
 
@@ -145,6 +149,30 @@ fn look_up<'t>(tokens: Tokens<'t>) -> Result<RecordLine<'t>, TextKind>
     Ok(RecordLine::Lookup(family, reason))
 }
 
+fn prefix(token: &[u8]) -> Result<Prefix, TextKind>
+    ensures { result ≡ ok_or (prefix_in token.now) kinds.Prefix }
+{
+    match read_prefix(token) {
+        Some(prefix) => Ok(prefix),
+        None => Err(TextKind::Prefix),
+    }
+}
+
+// record nat64 PREFIX
+#[tactic(auto, unfolding(crate::specs::Forms::nat64_in))]
+fn nat64<'t>(tokens: Tokens<'t>) -> Result<RecordLine<'t>, TextKind>
+    ensures { IsFormOf nat64_in (tokens_left tokens.entry) result }
+{
+    let Some(token) = tokens.one() else {
+        return Err(TextKind::Word);
+    };
+    let prefix = Nat64Prefix::of(prefix(token)?);
+    if !prefix.is_nat64() {
+        return Err(TextKind::Range);
+    }
+    Ok(RecordLine::Nat64(prefix))
+}
+
 // record server ADDRESS REASON N
 #[tactic(auto, unfolding(crate::specs::Forms::name_server_in))]
 fn name_server<'t>(tokens: Tokens<'t>) -> Result<RecordLine<'t>, TextKind>
@@ -210,6 +238,7 @@ pub(crate) fn line_by<'t>(word: RecordWord, tokens: Tokens<'t>) -> Result<Record
         RecordWord::To => to(tokens),
         RecordWord::From => from(tokens),
         RecordWord::Lookup => look_up(tokens),
+        RecordWord::Nat64 => nat64(tokens),
         RecordWord::Server => name_server(tokens),
         RecordWord::Attempt => failed_attempt(tokens),
         RecordWord::Untried => untried(tokens),

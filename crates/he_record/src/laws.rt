@@ -7,11 +7,11 @@ ghost use Rattle.he_words.specs.declared.fault.TextKind.TheVariants as kinds;
 ghost use Rattle.he_words.specs.Ranges.{most_u16};
 ghost use Rattle.he_reading.specs.Parts.{lines_of, tokens_of};
 ghost use Rattle.he_reading.specs.Text.{IsRaceText};
-ghost use Rattle.he_record.specs.declared.limits.TheConstants.{MAX_PORT, MIN_PORT, MOST_HOST_BYTES, MOST_ONCE, MOST_SERVERS, MOST_TOLD};
+ghost use Rattle.he_record.specs.declared.limits.TheConstants.{MAX_PORT, MIN_PORT, MOST_HOST_BYTES, MOST_ONCE, MOST_PREFIXES, MOST_SERVERS, MOST_TOLD};
 ghost use Rattle.he_record.specs.Forms.{is_record_line, said_in};
 ghost use Rattle.he_record.specs.FrontSearch.{front_from, front_of};
 ghost use Rattle.he_record.specs.Fronts.{BeginsWithRecord, IsRecordFault, goes_on};
-ghost use Rattle.he_record.specs.Ranges.{least_port, most_host_bytes, most_once, most_servers, most_told};
+ghost use Rattle.he_record.specs.Ranges.{least_port, most_host_bytes, most_once, most_prefixes, most_servers, most_told};
 ghost use Rattle.he_record.specs.Said.{Said};
 ghost use Rattle.he_record.specs.Text.{IsRecord, IsRecordText, Says};
 ghost use Rattle.he_record.specs.Written.{record_text};
@@ -23,7 +23,8 @@ use std::alloc::Allocator;
 pub fn ranges()
     ensures ports { (MIN_PORT ≡ least_port) × (MAX_PORT ≡ most_u16) }
     ensures hosts { MOST_HOST_BYTES ≡ most_host_bytes }
-    ensures lines { (MOST_ONCE ≡ most_once) × (MOST_SERVERS ≡ most_servers) × (MOST_TOLD ≡ most_told) }
+    ensures lines { (MOST_ONCE ≡ most_once) × (MOST_PREFIXES ≡ most_prefixes) × (MOST_SERVERS ≡ most_servers)
+        × (MOST_TOLD ≡ most_told) }
 {}
 
 /// A record line means the contents of its form, with its tokens checked from left to right. Runs nothing.

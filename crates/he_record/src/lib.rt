@@ -20,6 +20,7 @@ pub mod laws;
 pub mod limits;
 pub mod line;
 pub mod moment;
+pub mod nat64;
 pub mod reading;
 pub mod reasons;
 pub mod records;

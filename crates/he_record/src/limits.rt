@@ -12,6 +12,9 @@ pub const MAX_PORT: u16 = 65_535;
 /// The maximum number of lines of each kind that a record has once.
 pub const MOST_ONCE: usize = 1;
 
+/// The maximum number of NAT64 prefixes of a record.
+pub const MOST_PREFIXES: usize = 8;
+
 /// The maximum number of name servers of a record.
 pub const MOST_SERVERS: usize = 8;
 

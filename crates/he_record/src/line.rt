@@ -12,6 +12,7 @@ ghost use Rattle.he_record.specs.Said.{ToSaid, group_said, is_host, is_host_byte
 
 use crate::limits::{MIN_PORT, MOST_HOST_BYTES};
 use crate::moment::Moment;
+use crate::nat64::Nat64Prefix;
 use crate::reasons::{AttemptReason, ClientEnd, LookupReason, ServerReason};
 use crate::words::RecordWord;
 use he_addr::{Family, Ip};
@@ -29,6 +30,9 @@ pub enum RecordLine<'t> {
     From(Ip),
     /// The reason that a family has no address.
     Lookup(Family, LookupReason),
+    /// A prefix by which the network's NAT64 has the IPv4 addresses (RFC 6052): 32, 40, 48, 56, 64 or 96 bits, and not
+    /// inside `::ffff:0:0/96`.
+    Nat64(Nat64Prefix),
     /// A name server that gave no answer, the reason, and the milliseconds until the client gave it up, 0 to
     /// 3,600,000.
     Server(Ip, ServerReason, u64),
@@ -50,6 +54,7 @@ impl<'t> RecordLine<'t> {
             RecordLine::To(_, _) => RecordWord::To,
             RecordLine::From(_) => RecordWord::From,
             RecordLine::Lookup(_, _) => RecordWord::Lookup,
+            RecordLine::Nat64(_) => RecordWord::Nat64,
             RecordLine::Server(_, _, _) => RecordWord::Server,
             RecordLine::Attempt(_, _) => RecordWord::Attempt,
             RecordLine::Untried(_) => RecordWord::Untried,
@@ -93,6 +98,7 @@ impl<'t> RecordLine<'t> {
         match self {
             RecordLine::At(moment) => out_of_range(!moment.is_moment()),
             RecordLine::To(host, port) => target_fault(host, *port),
+            RecordLine::Nat64(prefix) => out_of_range(!prefix.is_nat64()),
             RecordLine::Server(_, _, ticks) => out_of_range(*ticks > MAX_TICK),
             RecordLine::End(end) => out_of_range(end.ticks() > MAX_TICK),
             _ => None,

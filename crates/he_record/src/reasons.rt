@@ -23,6 +23,9 @@ pub enum LookupReason {
     Malformed,
     /// The client did not look up the family.
     NotAsked,
+    /// The client has IPv6 alone and reached the host's IPv4 addresses through its network's NAT64 (RFC 8305 section
+    /// 7): the answer of the other family has them embedded.
+    Nat64,
 }
 
 impl LookupReason {
@@ -45,6 +48,8 @@ impl LookupReason {
             Some(LookupReason::Malformed)
         } else if token == b"not-asked".as_slice() {
             Some(LookupReason::NotAsked)
+        } else if token == b"nat64".as_slice() {
+            Some(LookupReason::Nat64)
         } else {
             None
         }
@@ -62,6 +67,7 @@ impl LookupReason {
             LookupReason::Failed => "failed",
             LookupReason::Malformed => "malformed",
             LookupReason::NotAsked => "not-asked",
+            LookupReason::Nat64 => "nat64",
         }
     }
 }

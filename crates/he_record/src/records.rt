@@ -1,9 +1,9 @@
 //! Records: the lines before a race.
 
-ghost use Rattle.std.specs.Prelude.{◌≡◌, ◌⊎◌, ◌++◌, ◌∷◌, [], None, Some, map, option_map, IfErr, OnErr, OnOk};
+ghost use Rattle.std.specs.Prelude.{◌≡◌, ◌⊎◌, ◌++◌, ◌∷◌, [], None, Some, map, option_map, MatchOption, IfErr, IfOk, OnErr, OnOk};
 ghost use Rattle.he_words.specs.declared.fault.TextKind.TheVariants as kinds;
 ghost use Rattle.he_record.specs.Adding.{add_fault};
-ghost use Rattle.he_record.specs.Given.{address_line, at_given, attempt_given, end_given, from_given, is_untried_given, line_with, lookup_given, lookup_line, to_given};
+ghost use Rattle.he_record.specs.Given.{address_line, at_given, attempt_given, end_given, from_given, is_untried_given, line_with, lookup_given, lookup_line, nat64_given, nat64_of, to_given, untried_given};
 ghost use Rattle.he_record.specs.Left.{said_of, target_shown};
 ghost use Rattle.he_record.specs.Text.{IsRecord};
 
@@ -12,7 +12,7 @@ use crate::line::RecordLine;
 use crate::moment::Moment;
 use crate::reasons::{AttemptReason, ClientEnd, LookupReason};
 use crate::words::RecordWord;
-use he_addr::{Family, Ip};
+use he_addr::{Family, Ip, Memory, Prefix};
 use he_words::TextKind;
 use std::alloc::{Allocator, Global};
 use std::marker::Model;
@@ -48,8 +48,8 @@ impl<'t, A: Allocator> Record<'t, A> {
     }
 
     /// The lines, ordered by the groups of [`RecordWord`]: at most one line each of `at`, `to`, `from` and
-    /// [`ClientEnd`], one look-up of each family, 8 name servers, 512 attempts and 512 untried addresses. No address
-    /// has two lines of the last two kinds.
+    /// [`ClientEnd`], one look-up of each family, 8 NAT64 prefixes, 8 name servers, 512 attempts and 512 untried
+    /// addresses. No address has two lines of the last two kinds.
     pub fn lines(&self) -> &[RecordLine<'t>]
         ensures value { map said_of result.now ≡ self.now }
         ensures valid { IsRecord self.now }
@@ -156,6 +156,28 @@ impl<'t, A: Allocator> Record<'t, A> {
         }
     }
 
+    /// The prefixes by which the network's NAT64 has the IPv4 addresses, in the order of their lines.
+    ///
+    /// # Errors
+    ///
+    /// `Memory` if an allocation failed.
+    pub fn nat64<B: Allocator>(&self, alloc: B) -> Result<Vec<Prefix, B>, Memory>
+        ensures { IfOk result (λ prefixes. prefixes.items ≡ nat64_given self.now) }
+    {
+        nat64_on(alloc, self.lines())
+    }
+
+    /// The addresses that no client tried, in the order of their lines.
+    ///
+    /// # Errors
+    ///
+    /// `Memory` if an allocation failed.
+    pub fn untried<B: Allocator>(&self, alloc: B) -> Result<Vec<Ip, B>, Memory>
+        ensures { IfOk result (λ ips. ips.items ≡ untried_given self.now) }
+    {
+        untried_on(alloc, self.lines())
+    }
+
     /// The recorded client's own result.
     pub fn end(&self) -> Option<ClientEnd>
         ensures { result ≡ end_given self.now }
@@ -165,6 +187,40 @@ impl<'t, A: Allocator> Record<'t, A> {
             _ => None,
         }
     }
+}
+
+fn nat64_on<'t, B: Allocator>(alloc: B, lines: &[RecordLine<'t>]) -> Result<Vec<Prefix, B>, Memory>
+    ensures { IfOk result (λ prefixes. prefixes.items ≡ nat64_given (map said_of lines.now)) }
+{
+    let mut prefixes = Vec::new(alloc);
+    for line in lines {
+        if let Some(prefix) = nat64_of(line) {
+            prefixes.push(prefix)?;
+        }
+    }
+    Ok(prefixes)
+}
+
+// The prefix of the line, if it has one.
+fn nat64_of(line: &RecordLine<'_>) -> Option<Prefix>
+    ensures { MatchOption result (nat64_of (said_of line.now) ≡ []) (λ prefix. nat64_of (said_of line.now) ≡ prefix ∷ []) }
+{
+    match line {
+        RecordLine::Nat64(prefix) => prefix.prefix(),
+        _ => None,
+    }
+}
+
+fn untried_on<'t, B: Allocator>(alloc: B, lines: &[RecordLine<'t>]) -> Result<Vec<Ip, B>, Memory>
+    ensures { IfOk result (λ ips. ips.items ≡ untried_given (map said_of lines.now)) }
+{
+    let mut ips = Vec::new(alloc);
+    for line in lines {
+        if let RecordLine::Untried(ip) = line {
+            ips.push(*ip)?;
+        }
+    }
+    Ok(ips)
 }
 
 // The line of the word's group.

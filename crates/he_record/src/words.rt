@@ -3,7 +3,7 @@
 ghost use Rattle.std.specs.Prelude.{◌≡◌};
 ghost use Rattle.he_record.specs.Words.{most_record_lines, record_word_in, word_group, word_spelling};
 
-use crate::limits::{MOST_ONCE, MOST_SERVERS, MOST_TOLD};
+use crate::limits::{MOST_ONCE, MOST_PREFIXES, MOST_SERVERS, MOST_TOLD};
 use he_words::TextKind;
 
 /// The first token of a record line.
@@ -16,6 +16,7 @@ pub enum RecordWord {
     To,
     From,
     Lookup,
+    Nat64,
     Server,
     Attempt,
     Untried,
@@ -38,6 +39,8 @@ impl RecordWord {
             Some(RecordWord::From)
         } else if token == b"lookup".as_slice() {
             Some(RecordWord::Lookup)
+        } else if token == b"nat64".as_slice() {
+            Some(RecordWord::Nat64)
         } else if token == b"server".as_slice() {
             Some(RecordWord::Server)
         } else if token == b"attempt".as_slice() {
@@ -64,6 +67,7 @@ impl RecordWord {
             RecordWord::To => "to",
             RecordWord::From => "from",
             RecordWord::Lookup => "lookup",
+            RecordWord::Nat64 => "nat64",
             RecordWord::Server => "server",
             RecordWord::Attempt => "attempt",
             RecordWord::Untried => "untried",
@@ -82,10 +86,11 @@ impl RecordWord {
             RecordWord::To => 2,
             RecordWord::From => 3,
             RecordWord::Lookup => 4,
-            RecordWord::Server => 5,
-            RecordWord::Attempt => 6,
-            RecordWord::Untried => 7,
-            RecordWord::Connected | RecordWord::GaveUp | RecordWord::Failed => 8,
+            RecordWord::Nat64 => 5,
+            RecordWord::Server => 6,
+            RecordWord::Attempt => 7,
+            RecordWord::Untried => 8,
+            RecordWord::Connected | RecordWord::GaveUp | RecordWord::Failed => 9,
         }
     }
 
@@ -95,6 +100,7 @@ impl RecordWord {
     {
         match self {
             RecordWord::Lookup => None,
+            RecordWord::Nat64 => Some((MOST_PREFIXES, TextKind::TooMany)),
             RecordWord::Server => Some((MOST_SERVERS, TextKind::TooMany)),
             RecordWord::Attempt | RecordWord::Untried => Some((MOST_TOLD, TextKind::TooMany)),
             _ => Some((MOST_ONCE, TextKind::Repeated)),

@@ -9,10 +9,11 @@ ghost use Rattle.he_record.specs.Writing.{spaced, token_text};
 ghost use Rattle.he_record.specs.Written.{record_text, said_text, values_said};
 
 use crate::line::RecordLine;
+use crate::nat64::Nat64Prefix;
 use crate::reasons::ServerReason;
 use crate::records::Record;
 use crate::words::{FIRST_TOKEN, RecordWord};
-use he_addr::{Family, Ip, Memory, write_ip, write_number};
+use he_addr::{Family, Ip, Memory, write_ip, write_number, write_source};
 use he_words::{LINE_END, TOKEN_END};
 use std::alloc::Allocator;
 
@@ -22,6 +23,7 @@ enum Token<'t> {
     Word(&'t [u8]),
     Number(u64),
     Address(Ip),
+    Prefix(Nat64Prefix),
 }
 
 fn write_bytes<A: Allocator + Copy>(bytes: &[u8], out: &mut Vec<u8, A>) -> Result<(), Memory>
@@ -46,6 +48,7 @@ fn write_token<A: Allocator + Copy>(token: Token, out: &mut Vec<u8, A>) -> Resul
         Token::Word(text) => write_bytes(text, out),
         Token::Number(number) => write_number(number, out),
         Token::Address(ip) => write_ip(ip, out),
+        Token::Prefix(prefix) => write_source(Ip::V6(prefix.bits), prefix.len, out),
     }
 }
 
@@ -113,6 +116,7 @@ fn write_values<A: Allocator + Copy>(
             let family = Token::Word(family_word(*family).as_bytes());
             write_two(family, Token::Word(reason.spelling().as_bytes()), out)
         }
+        RecordLine::Nat64(prefix) => write_one(Token::Prefix(*prefix), out),
         RecordLine::Server(ip, reason, ticks) => write_server(*ip, *reason, *ticks, out),
         RecordLine::Attempt(ip, reason) => {
             let reason = Token::Word(reason.spelling().as_bytes());

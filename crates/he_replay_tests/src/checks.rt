@@ -24,11 +24,11 @@ static ROWS: [Row; 3] = [
         b"race 1\naaaa 20 2001:db8:1::1\nend\nrace 1\nend\n",
         Ok(()),
         b"2 races, 5 lines\n",
-        b"he: line 1: warning: this race has no source line, so its host reaches no address: write its addresses, as `he host` does for this machine
-he: line 1: warning: this race has no a line, so it can't be exhausted: for an answer without an address write `a TICK none`
-he: line 4: warning: this race has no source line, so its host reaches no address: write its addresses, as `he host` does for this machine
-he: line 4: warning: this race has no aaaa line, so it can't be exhausted: for an answer without an address write `aaaa TICK none`
-he: line 4: warning: this race has no a line, so it can't be exhausted: for an answer without an address write `a TICK none`
+        b"he: line 1: warning: this race has no `source` line, so every address counts as unreachable: add the output of `he host`
+he: line 1: warning: this race has no `a` line, so it waits for that answer until its limit: if the name has no IPv4 address, write `a TICK none`
+he: line 4: warning: this race has no `source` line, so every address counts as unreachable: add the output of `he host`
+he: line 4: warning: this race has no `aaaa` line, so it waits for that answer until its limit: if the name has no IPv6 address, write `aaaa TICK none`
+he: line 4: warning: this race has no `a` line, so it waits for that answer until its limit: if the name has no IPv4 address, write `a TICK none`
 ",
     ),
     (

@@ -28,7 +28,9 @@ pub const TRANSCRIPT: &[u8] = b"attempt 0 20 2001:db8:1::1 won 55\nwon 0 55\n";
 
 pub const ORDER: &[u8] = b"0 2001:db8:1::1 from 2001:db8::2\n1 198.51.100.1 from 192.0.2.2\nend\n";
 
-const EXPLANATION: &[u8] = b"{\"file\":null,\"race\":1,\"line\":1,\"order\":[\
+const EXPLANATION: &[u8] =
+    b"{\"file\":null,\"race\":1,\"line\":1,\"ms\":55,\"names_ms\":20,\"lost_ms\":0,\"unknown_ms\":0,\"machine_ms\":0,\
+\"connecting_ms\":35,\"order\":[\
 {\"place\":0,\"address\":\"2001:db8:1::1\",\"source\":\"2001:db8::2\"},\
 {\"place\":1,\"address\":\"198.51.100.1\",\"source\":\"192.0.2.2\",\
 \"rule\":\"6\",\"why\":\"prefer higher precedence\",\"own\":35,\"before\":40}],\"events\":[\

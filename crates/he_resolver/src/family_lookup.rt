@@ -142,9 +142,9 @@ impl FamilyLookup {
         self.told = Some(told);
     }
 
-    // Queries the name at this place. Ready once there is an answer, addresses or why there are none: from a message
-    // that answers the query for this family, or because no server has an answer.
-    #[tactic(auto, using(crate::proofs::Asking::heard_of_one, crate::proofs::Asking::ends_next))]
+    // Queries the name at this place, server by server. Ready once there is an answer, addresses or why there are
+    // none: from a message that answers the query for this family, or because no server has an answer.
+    #[tactic(auto, using(crate::proofs::Asking::heard_of_one, crate::proofs::Asking::hears_asked, crate::proofs::Asking::ends_next))]
     pub(crate) fn poll<R: Net + RandomSource + Clock>(
         &mut self,
         setup: &Setup<'_, R>,
@@ -170,31 +170,30 @@ impl FamilyLookup {
             if self.told.is_some() {
                 return Poll::Ready(());
             }
-            if let Poll::Pending = self.step(setup, question, cx) {
+            if self.queries.is_empty() || self.next.is_now() {
+                self.ask_next(setup, question);
+            } else if let Poll::Pending = self.hear(setup, question, cx) {
                 return Poll::Pending;
             }
         }
         cx.yield_now()
     }
 
-    // One step: asks the next server if that is due, or polls the queries.
-    #[tactic(auto, unfolding(crate::specs::Needs::family_needs), using(crate::proofs::Asking::hears_asked, crate::proofs::Asking::hears_same, crate::proofs::Asking::hears_taken, crate::proofs::Asking::ends_same, crate::proofs::Asking::ends_taken))]
-    fn step<R: Net + RandomSource + Clock>(
+    // Polls the queries, and takes the first answer that comes; or notes that the next server is due.
+    #[tactic(auto, unfolding(crate::specs::Needs::family_needs), using(crate::proofs::Asking::hears_same, crate::proofs::Asking::hears_taken, crate::proofs::Asking::ends_same, crate::proofs::Asking::ends_taken))]
+    fn hear<R: Net + RandomSource + Clock>(
         &mut self,
         setup: &Setup<'_, R>,
         question: Question<'_>,
         cx: &mut Context<'_>,
     ) -> Poll<()>
+        requires some { 0 < vec_len self.old.queries }
         ensures waits { OnPending result (Covers cx.new (family_needs self.new)) }
         ensures same { IsSame self.old self.new }
         ensures heard { HearsOf question.entry.name.now.octets question.entry.family self.old.told self.new.told }
         ensures ends { EndsThrough setup.now.plan self.old.told self.new }
         ensures kept { Keeps cx.old cx.new }
     {
-        if self.queries.is_empty() || self.next.is_now() {
-            self.ask_next(setup, question);
-            return Poll::Ready(());
-        }
         match poll_any(&mut self.queries, setup, question, cx) {
             Poll::Ready((at, answer)) => {
                 let query = self.queries.remove(at);
@@ -231,22 +230,21 @@ impl FamilyLookup {
             return;
         };
         self.begun = self.begun.saturating_add(1);
-        if let Err(fault) = self.ask(setup, server, question) {
+        let asked = match Query::begin(setup, server, question) {
+            Ok(query) => self.add(setup, query),
+            Err(fault) => Err(fault),
+        };
+        if let Err(fault) = asked {
             self.take(setup, server, Err(fault));
         }
     }
 
-    fn ask<R: Net + RandomSource + Clock>(
-        &mut self,
-        setup: &Setup<'_, R>,
-        server: SocketAddr,
-        question: Question<'_>,
-    ) -> Result<(), NamesFault>
+    // Waits for the query's answer, and for the time of the next server.
+    fn add<R: Clock>(&mut self, setup: &Setup<'_, R>, query: Query) -> Result<(), NamesFault>
         ensures same { IsSame self.old self.new }
         ensures told { self.new.told ≡ self.old.told }
         ensures fault { IfErr result IsOfAsking }
     {
-        let query = Query::begin(setup, server, question)?;
         let is_alone = query.is_sent() && self.begun > self.passed;
         self.queries.push(query)?;
         self.next = next_server(setup, is_alone)?;

@@ -117,7 +117,7 @@ impl<'h, R: Net + RandomSource + Clock> Resolver<'h, R> {
         self.asking(family).is_settled()
     }
 
-    // Goes on as far as possible. Returns whether all queries have ended.
+    // Polls both families for name after name, as far as possible. Returns whether all queries have ended.
     fn poll_names(&mut self, cx: &mut Context<'_>) -> bool
         ensures waits { result ≡ false → Covers cx.new (names_needs self.new) }
         ensures settled { (family : _) → is_settled self.new family ≡ is_settled self.old family }
@@ -126,7 +126,9 @@ impl<'h, R: Net + RandomSource + Clock> Resolver<'h, R> {
         ensures kept { Keeps cx.old cx.new }
     {
         for _ in 0..MOST_STEPS {
-            if !self.poll_name(cx) {
+            let _: Poll<()> = self.v6.poll(&self.setup, self.place, cx);
+            let _: Poll<()> = self.v4.poll(&self.setup, self.place, cx);
+            if !are_told(&self.v6, &self.v4) {
                 return false;
             }
             if !self.goes_on() {
@@ -147,19 +149,6 @@ impl<'h, R: Net + RandomSource + Clock> Resolver<'h, R> {
         self.place = self.place.saturating_add(1);
         self.v6.start_again();
         self.v4.start_again();
-    }
-
-    // Goes on with the name for both families. Returns whether both have an answer.
-    fn poll_name(&mut self, cx: &mut Context<'_>) -> bool
-        ensures waits { result ≡ false → Covers cx.new (names_needs self.new) }
-        ensures settled { (family : _) → is_settled self.new family ≡ is_settled self.old family }
-        ensures faithful { IsFaithful self.old → IsFaithful self.new }
-        ensures names { names_of self.new ≡ names_of self.old }
-        ensures kept { Keeps cx.old cx.new }
-    {
-        let _: Poll<()> = self.v6.poll(&self.setup, self.place, cx);
-        let _: Poll<()> = self.v4.poll(&self.setup, self.place, cx);
-        are_told(&self.v6, &self.v4)
     }
 
     // Whether to query the next name: neither family has an address for this one, and a server answered so for one.

@@ -4,13 +4,16 @@ use Rattle.std.specs.Prelude.{Option}
 use Rattle.std.specs.declared.vec.Vec.{Vec}
 use Rattle.he_timeline.specs.Race.{Race}
 use Rattle.he_plan.specs.Transcript.{IsTranscript, Report}
-use Rattle.he_course.specs.Course.{IsCourse}
+use Rattle.he_addr.specs.declared.ip.Ip.{Ip}
+use Rattle.he_course.specs.Course.{IsRecordedCourse}
+use Rattle.he_course.specs.declared.accounts.Account.{Account}
 use Rattle.he_course.specs.declared.course.Course.{Course}
 use Rattle.he_draw.specs.Page.{section_facts}
 use Rattle.he_draw.specs.Picture.{picture_facts}
 use Rattle.he_draw.specs.Rows.{rows_of}
 use Rattle.he_draw.specs.Svg.{svg_facts}
 use Rattle.he_json.specs.Documents.{Spot}
+use Rattle.he_record.specs.Given.{untried_given}
 use Rattle.he_record.specs.Said.{Said}
 use Rattle.he_streaming.specs.Output.{IsOfCourse, IsPrinted}
 use Rattle.he_streaming.specs.Rounds.{WritesText}
@@ -41,6 +44,17 @@ transcript_written (Err fault) race report IsSuch old new is none = none
 bare_items : {X A : Type 0} → Vec X A → Vec X (Unit {0})
 bare_items v = record { ptr = v.ptr; len = v.len; cap = v.cap; alloc = tt; items = v.items; ok = v.ok; small = v.small }
 
+bare_account : {A : Type 0} → Account A → Account (Unit {0})
+bare_account account = record {
+  names = account.names;
+  tried = bare_items account.tried;
+  nobody = account.nobody;
+  unknown = account.unknown;
+  machine = account.machine;
+  connecting = account.connecting;
+  lost = account.lost;
+}
+
 bare : {A : Type 0} → Course A → Course (Unit {0})
 bare course = record {
   number = course.number;
@@ -52,11 +66,13 @@ bare course = record {
   ended = course.ended;
   sooner = course.sooner;
   events = bare_items course.events;
+  account = bare_account course.account;
+  delay = course.delay;
 }
 
-is_course : {A : Type 0} (race : Race) (number line : ℕ) (course : Course A) → IsCourse race number line course → IsCourse race number line (bare course)
-unfolding bare bare_items
-is_course race number line course is = record {
+is_course : {A : Type 0} (race : Race) (untried : List Ip) (number line : ℕ) (course : Course A) → IsRecordedCourse race untried number line course → IsRecordedCourse race untried number line (bare course)
+unfolding bare bare_items bare_account
+is_course race untried number line course is = record {
   numbered = is.numbered;
   begins = is.begins;
   transcript = is.transcript;
@@ -66,10 +82,13 @@ is_course race number line course is = record {
   ended = is.ended;
   sooner = is.sooner;
   events = is.events;
+  account = record { as_many = is.account.as_many; each = is.account.each };
+  lost = is.lost;
+  delay = is.delay;
 }
 
 is_printed : {A : Type 0} (printer : Printer) (file : Option (List ℕ)) (said : List Said) (course : Course A) (text : List ℕ) → IsPrinted printer file said course text → IsPrinted printer file said (bare course) text
-unfolding bare bare_items picture_facts svg_facts section_facts rows_of
+unfolding bare bare_items bare_account picture_facts svg_facts section_facts rows_of
 is_printed printers.Story file said course text is = is
 is_printed printers.Json file said course text is = is
 is_printed (printers.Picture look width) file said course text is = is
@@ -88,8 +107,8 @@ is_printed (printers.Section place) file said course text is = record {
 }
 
 pub of_course : {A F E : Type 0} (result : Result F E) (printer : Printer) (spot : Spot) (said : List Said) (race : Race) (course : Course A) (old new : List ℕ)
-    → IsCourse race spot.number spot.line course → OnOk result (WritesText (IsPrinted printer spot.file said course) old new)
+    → IsRecordedCourse race (untried_given said) spot.number spot.line course → OnOk result (WritesText (IsPrinted printer spot.file said course) old new)
     → OnOk result (WritesText (λ told. IsOfCourse printer spot told said race) old new)
 of_course (Ok done) printer spot said race course old new is told =
-    record { told = told.told; is_told = (bare course, is_course race spot.number spot.line course is, is_printed printer spot.file said course told.told told.is_told); appended = told.appended }
+    record { told = told.told; is_told = (bare course, is_course race (untried_given said) spot.number spot.line course is, is_printed printer spot.file said course told.told told.is_told); appended = told.appended }
 of_course (Err fault) printer spot said race course old new is told = tt

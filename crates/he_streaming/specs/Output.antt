@@ -6,11 +6,12 @@ use Rattle.he_plan.specs.Transcript.{IsTranscript, Report}
 use Rattle.he_inputs.specs.declared.input_fault.InputFault.{InputFault}
 use Rattle.he_inputs.specs.Inputs.{HasRaces, line_count}
 use Rattle.he_inputs.specs.Recorded.{IsRecordedText}
+use Rattle.he_record.specs.Given.{untried_given}
 use Rattle.he_record.specs.Said.{Said}
 use Rattle.he_write.specs.Orders.{order_text}
 use Rattle.he_write.specs.Written.{transcript_text}
 use Rattle.he_course.specs.Addresses.{all_attributes_of}
-use Rattle.he_course.specs.Course.{IsCourse}
+use Rattle.he_course.specs.Course.{IsRecordedCourse, course_times}
 use Rattle.he_course.specs.declared.course.Course.{Course}
 use Rattle.he_print.specs.Parts.{States}
 use Rattle.he_story.specs.Story.{story_facts}
@@ -44,8 +45,8 @@ IsOrderObject spot text race = IsOrderJson spot (all_attributes_of race) text
 abbrev pub IsPrinted : {A : Type 0} → Printer → Option (List ℕ) → List Said → Course A → List ℕ → Type 0
 IsPrinted printers.Story file said course text = States (story_facts said course) text
 IsPrinted printers.Json file said course text =
-    IsExplanationJson (record { file = file; number = course.number; line = course.line }) said course.addresses.items
-    course.events.items text
+    IsExplanationJson (record { file = file; number = course.number; line = course.line }) said (course_times course)
+    course.addresses.items course.events.items text
 IsPrinted (printers.Picture look width) file said course text =
     (columns : ℕ) × (LEAST_COLUMNS ≤ columns) × States (picture_facts columns said course) text
 IsPrinted printers.Image file said course text = States (svg_facts said course) text
@@ -54,7 +55,7 @@ IsPrinted (printers.Section place) file said course text = IsSection said course
 -- the text of the printer for the race's record and course
 abbrev pub IsOfCourse : Printer → Spot → List ℕ → List Said → Race → Type 0
 IsOfCourse printer spot text said race =
-    (course : Course (Unit {0})) × IsCourse race spot.number spot.line course
+    (course : Course (Unit {0})) × IsRecordedCourse race (untried_given said) spot.number spot.line course
     × IsPrinted printer spot.file said course text
 
 -- the text of this kind for the race at this spot, with this record; transcripts and orders are those of the race,

@@ -239,7 +239,8 @@ impl Printer {
         ensures { OnOk result (WritesText (λ told. IsOfCourse self (spot_of place.entry) told recorded.now
             timeline.now) text.old.items text.new.items) }
     {
-        let course = Course::of(alloc, timeline, place.number, place.line)?;
+        let untried = recorded.untried(alloc)?;
+        let course = Course::recorded(alloc, timeline, &untried, place.number, place.line)?;
         self.write(alloc, &course, recorded, place.file, text)
     }
 

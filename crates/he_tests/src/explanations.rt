@@ -13,7 +13,9 @@ a 10 198.51.100.1
 connect 2001:db8:1::1 ok 30
 end
 ",
-    "{\"file\":null,\"race\":1,\"line\":1,\"order\":[{\"place\":0,\"address\":\"2001:db8:1::1\",\
+    "{\"file\":null,\"race\":1,\"line\":1,\
+\"ms\":430,\"names_ms\":150,\"lost_ms\":250,\"unknown_ms\":0,\"machine_ms\":0,\"connecting_ms\":30,\
+\"order\":[{\"place\":0,\"address\":\"2001:db8:1::1\",\
 \"source\":\"2001:db8::2\"},{\"place\":1,\"address\":\"198.51.100.1\",\"source\":\"192.0.2.2\",\
 \"rule\":\"6\",\"why\":\"prefer higher precedence\",\"own\":35,\"before\":40}],\
 \"events\":[{\"tick\":10,\"event\":\"answer\",\"family\":\"a\",\"usable\":1},{\"tick\":10,\
@@ -41,7 +43,9 @@ connect 198.51.100.2 ok 30
 pause 280 300
 end
 ",
-    "{\"file\":null,\"race\":1,\"line\":1,\"order\":[{\"place\":0,\"address\":\"198.51.100.1\",\
+    "{\"file\":null,\"race\":1,\"line\":1,\
+\"ms\":330,\"names_ms\":40,\"lost_ms\":250,\"unknown_ms\":0,\"machine_ms\":10,\"connecting_ms\":30,\
+\"order\":[{\"place\":0,\"address\":\"198.51.100.1\",\
 \"source\":\"192.0.2.2\"},{\"place\":1,\"address\":\"198.51.100.2\",\"source\":\"192.0.2.2\",\
 \"rule\":\"10\",\"why\":\"otherwise leave the order unchanged\"}],\"events\":[{\"tick\":10,\
 \"event\":\"answer\",\"family\":\"a\",\"usable\":2},{\"tick\":10,\"event\":\"wait\",\
@@ -68,7 +72,9 @@ connect 2001:db8:1::1 fail 5
 connect 198.51.100.1 fail 5
 end
 ",
-    "{\"file\":null,\"race\":1,\"line\":1,\"order\":[{\"place\":0,\"address\":\"2001:db8:1::1\",\
+    "{\"file\":null,\"race\":1,\"line\":1,\
+\"ms\":275,\"names_ms\":20,\"lost_ms\":255,\"unknown_ms\":0,\"machine_ms\":0,\"connecting_ms\":0,\
+\"order\":[{\"place\":0,\"address\":\"2001:db8:1::1\",\
 \"source\":\"2001:db8::2\"},{\"place\":1,\"address\":\"198.51.100.1\",\"source\":\"192.0.2.2\",\
 \"rule\":\"6\",\"why\":\"prefer higher precedence\",\"own\":35,\"before\":40}],\
 \"events\":[{\"tick\":20,\"event\":\"answer\",\"family\":\"aaaa\",\"usable\":1},{\"tick\":20,\

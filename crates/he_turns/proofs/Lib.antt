@@ -5,6 +5,7 @@ pub mod Counted
 pub mod DueTicks
 pub mod Ending
 pub mod Failing
+pub mod Gathered
 pub mod Heard
 pub mod Knowing
 pub mod Learnt

@@ -40,11 +40,12 @@ module _ {S : Type 0} (hears : Tells S) where
       all_alike polls h.0 last (with_told x p.family p.tick p.told) (with_told y p.family p.tick p.told) heard (told_alike x y e p.family p.tick p.told) h.3 in
       record { new = rest.new; polled = (h.0, sym (reply_alike x y e p.family) ∙ h.1, h.2, rest.polled); alike = rest.alike }
 
-  all_after : (first next : List SourcePoll) (s middle last : S) (x half heard : Race) → HearsAll hears s x first middle half → HearsAll hears middle half next last heard → HearsAll hears s x (first ++ next) last heard
-  all_after [] next s middle last x half heard h k =
+  -- polls after polls
+  pub all-after : (first next : List SourcePoll) (s middle last : S) (x half heard : Race) → HearsAll hears s x first middle half → HearsAll hears middle half next last heard → HearsAll hears s x (first ++ next) last heard
+  all-after [] next s middle last x half heard h k =
       let moved : HearsAll hears s half next last heard = subst (λ (t : S). HearsAll hears t half next last heard) h.0 k in
       subst (λ (r : Race). HearsAll hears s r next last heard) h.1 moved
-  all_after (p ∷ first) next s middle last x half heard h k = (h.0, h.1, h.2, all_after first next h.0 middle last (with_told x p.family p.tick p.told) half heard h.3 k)
+  all-after (p ∷ first) next s middle last x half heard h k = (h.0, h.1, h.2, all-after first next h.0 middle last (with_told x p.family p.tick p.told) half heard h.3 k)
 
   -- from one state of the source to another the race has what it told
   pub record IsTold (s : S) (x : Race) (last : S) (y : Race) : Type 0 where
@@ -62,7 +63,7 @@ module _ {S : Type 0} (hears : Tells S) where
       record {
         polls = h.polls ++ k.polls;
         heard = next.new;
-        polled = all_after h.polls k.polls s middle last x h.heard next.new h.polled next.polled;
+        polled = all-after h.polls k.polls s middle last x h.heard next.new h.polled next.polled;
         alike = alike-later next.new k.heard z next.alike k.alike;
       }
 

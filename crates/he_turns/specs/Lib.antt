@@ -1,5 +1,6 @@
 pub mod Answered
 pub mod Attempt
+pub mod Gathering
 pub mod Heard
 pub mod Kept
 pub mod Listening

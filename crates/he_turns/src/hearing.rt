@@ -88,14 +88,32 @@ impl Recorder {
         ensures turn { OnOk result (InTurn self.new.recorded now self.new.underway.attempts false) }
         ensures underway { OnOk result (IsUnderway self.new.recorded self.new.underway) }
     {
-        let known = told.known.as_slice();
-        let addresses = cleaned(self.alloc, family, known)?;
-        add_answer(&mut self.recorded, family, now, &addresses)?;
-        add_known(&mut self.recorded, known, &addresses)?;
-        add_lines(self.alloc, &mut self.recorded, family, told)?;
+        record_answer(self.alloc, &mut self.recorded, family, now, told)?;
         self.underway.hear();
         Ok(())
     }
+}
+
+// Records an answer for a family that has none, as come at the tick.
+pub(crate) fn record_answer(
+    alloc: Global,
+    recorded: &mut TimelineBuilder,
+    family: Family,
+    now: u64,
+    told: &Answer,
+) -> Result<(), Memory>
+    requires valid { IsRace recorded.old }
+    requires first { reply_of recorded.old family ≡ None }
+    requires in_time { now ≤ MAX_LIMIT }
+    ensures recorded { OnOk result (recorded.new ≡ with_heard recorded.old family now (lists_of told.now)
+        (cleaned family (ips_of told.now.known.items))) }
+    ensures valid { OnOk result (IsRace recorded.new) }
+{
+    let known = told.known.as_slice();
+    let addresses = cleaned(alloc, family, known)?;
+    add_answer(recorded, family, now, &addresses)?;
+    add_known(recorded, known, &addresses)?;
+    add_lines(alloc, recorded, family, told)
 }
 
 fn add_answer(

@@ -12,6 +12,8 @@
 //!   transcript of the race, its record as a timeline, and the winner's connection.
 //! - [`ResolvingRace`] is a race whose answers come while it runs, from an [`AnswerSource`]: each turn polls it once
 //!   for each family without an answer, and its answer counts as come at the turn's tick.
+//! - [`Gathering`] makes no attempt: it polls an [`AnswerSource`] until both families have an answer, and gives the
+//!   timeline with these answers.
 //!
 //! No call takes a handle: nothing here waits, starts a thread or reads a clock. The caller that polls does.
 //!
@@ -113,6 +115,8 @@
 //!   and routes (`IsOfSource` in `specs/OfSource.antt`, `with_told` in `specs/Heard.antt`). In each turn each family
 //!   without an answer is polled once, and no other (`HeardAt` in `specs/Resolving.antt`). One more answer, with
 //!   history, sources and routes, changes nothing before its tick (`laws::one_more_answer_above`).
+//! - The result of a `Gathering` is the given timeline with the source's answers for both families; one that has no
+//!   answer had none at the tick `MAX_LIMIT` (`IsGatheredFrom` in `specs/Gathering.antt`).
 //! - In a turn each unfinished attempt is polled once, with an answer and a new state that its trial's relation
 //!   allows; the outcome of one that answers is recorded, with the ticks since its start, and nothing else is; a
 //!   pause is recorded exactly if something was due before the turn, from that tick to the turn; the race ends
@@ -135,6 +139,7 @@ pub mod answers;
 pub mod attempt;
 pub mod connector;
 pub mod faults;
+pub mod gathering;
 mod hearing;
 pub mod laws;
 mod learning;
@@ -151,6 +156,7 @@ pub use answers::{Answer, AnswerSource, nothing_known};
 pub use attempt::{AttemptFuture, Finish};
 pub use connector::Connector;
 pub use faults::{AttemptFault, RaceFault, TickFault};
+pub use gathering::Gathering;
 pub use he_select::{Known, Route, Source};
 pub use live::Raced;
 pub use race::RaceFuture;
