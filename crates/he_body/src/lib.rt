@@ -3,7 +3,5 @@
 
 pub mod body;
 pub mod octets;
-#[cfg(test)]
-mod tests;
 
 pub use body::{Body, Framing, Malformed};

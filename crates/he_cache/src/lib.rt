@@ -18,8 +18,6 @@
 pub mod cache;
 pub mod history;
 pub mod history_text;
-#[cfg(test)]
-mod tests;
 
 pub use cache::AnswerCache;
 pub use history::{History, Seen};

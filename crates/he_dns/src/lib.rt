@@ -40,8 +40,6 @@ mod queries;
 mod question;
 mod records;
 mod server;
-#[cfg(test)]
-mod tests;
 mod words;
 
 pub use answer::{Answer, read_answer};

@@ -20,8 +20,6 @@ mod fields;
 mod forward;
 mod length;
 mod target;
-#[cfg(test)]
-mod tests;
 mod writing;
 
 pub use forward::{Forward, ReadForward, read_forward};

@@ -18,8 +18,6 @@
 pub mod answer;
 pub mod kept;
 pub mod table;
-#[cfg(test)]
-mod tests;
 
 pub use answer::{KeptAnswer, KeptHost, Lifetime, Question};
 pub use kept::{Asking, KeptAnswers};

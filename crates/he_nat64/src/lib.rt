@@ -18,8 +18,6 @@ pub mod laws;
 pub mod length;
 pub mod prefix;
 pub mod synthesis;
-#[cfg(test)]
-mod tests;
 
 pub use discovery::{FIRST_KNOWN, KNOWN_NAME, SECOND_KNOWN, discover};
 pub use length::Length;

@@ -17,8 +17,6 @@ pub mod empty;
 pub mod facts;
 pub mod laws;
 pub mod making;
-#[cfg(test)]
-mod tests;
 pub mod writing;
 
 pub use clock::moment_now;

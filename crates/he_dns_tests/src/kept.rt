@@ -1,8 +1,8 @@
 // That a kept answer is returned.
 
-use crate::answer::{KeptAnswer, Lifetime, Question};
-use crate::kept::KeptAnswers;
 use he_addr::{Family, Ip};
+use he_kept::answer::{KeptAnswer, Lifetime, Question};
+use he_kept::kept::KeptAnswers;
 use std::alloc::Global;
 use std::test::Fail;
 

@@ -1,7 +1,7 @@
 // Requests that were put together by hand from RFC 9112, and those of known ways to smuggle one.
 
-use crate::forward::{ReadForward, read_forward};
 use he_body::Framing;
+use he_forward::{ReadForward, read_forward};
 use std::alloc::Global;
 use std::test::Fail;
 

@@ -1,10 +1,9 @@
 // Messages put together by hand from the figures of RFC 1035 section 4.1.
 
-use crate::fault::{AnswerFault, NameFault};
-use crate::name::Name;
-use crate::queries::write_query;
-use crate::{Answer, read_answer};
 use he_addr::{Family, Ip};
+use he_dns::fault::{AnswerFault, NameFault};
+use he_dns::name::Name;
+use he_dns::{Answer, read_answer, write_query};
 use std::alloc::Global;
 use std::test::Fail;
 

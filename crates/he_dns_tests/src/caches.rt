@@ -1,7 +1,7 @@
 // The answers kept for hosts, and their lifetimes.
 
-use crate::cache::AnswerCache;
 use he_addr::Family;
+use he_cache::cache::AnswerCache;
 use std::test::Fail;
 
 #[test]
@@ -32,9 +32,9 @@ fn a_ttl_is_bounded(rt: HostRuntime) -> Result<(), Fail> {
 
 // The history of addresses.
 
-use crate::history::{History, SECONDS_KNOWN, Seen};
-use crate::history_text::{read_history, write_history};
 use he_addr::Ip;
+use he_cache::history::{History, SECONDS_KNOWN, Seen};
+use he_cache::history_text::{read_history, write_history};
 
 fn seen(last: u8, at: u64) -> Seen {
     Seen {

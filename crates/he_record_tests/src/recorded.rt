@@ -1,10 +1,10 @@
 // Records of facts: their texts, by hand, and the lines that are left out.
 
-use crate::facts::{AttemptFailure, Facts, ServerFailure, Target};
-use crate::making::record_of;
 use he_addr::Ip;
 use he_record::nat64::Nat64Prefix;
 use he_record::{AttemptReason, ClientEnd, LookupReason, Moment, ServerReason, write_record};
+use he_recording::facts::{AttemptFailure, Facts, ServerFailure, Target};
+use he_recording::making::record_of;
 use std::test::Fail;
 
 const MOMENT: Moment = Moment {

@@ -1,8 +1,9 @@
 // The vectors of RFC 6052 section 2.4, and networks as their name servers show them.
 
-use crate::discovery::{FIRST_KNOWN, SECOND_KNOWN, discover};
-use crate::length::Length;
-use crate::prefix::Prefix64;
+use he_nat64::discovery::{FIRST_KNOWN, SECOND_KNOWN, discover};
+use he_nat64::length::Length;
+use he_nat64::prefix::Prefix64;
+use he_nat64::synthesis::synthesize;
 use std::net::Ipv6Addr;
 use std::test::Fail;
 
@@ -84,5 +85,63 @@ fn passes_over_what_is_none(rt: HostRuntime) -> Result<(), Fail> {
     let answers = [prefix.embed(FIRST_KNOWN), prefix.embed(SECOND_KNOWN)];
     let found = discover(rt.alloc(), &answers)?;
     assert_eq!(rt; found.as_slice(), [prefix].as_slice());
+    Ok(())
+}
+
+fn prefix_of(text: &str, length: Length) -> Result<Prefix64, Fail> {
+    Ok(Prefix64::of(bits_of(text)?, length))
+}
+
+// The second known address alone, octets after the host, and two prefixes.
+#[test]
+fn discovers_other_answers(rt: HostRuntime) -> Result<(), Fail> {
+    let well_known = prefix_of("64:ff9b::", Length::Bits96)?;
+    let own = prefix_of("2001:db8:122:344::", Length::Bits64)?;
+    let found = discover(rt.alloc(), &[bits_of("64:ff9b::192.0.0.171")?])?;
+    assert_eq!(rt; found.as_slice(), [well_known].as_slice());
+    let found = discover(rt.alloc(), &[bits_of("2001:db8:122:344:c0:0:aa00:1")?])?;
+    assert_eq!(rt; found.as_slice(), [own].as_slice());
+    let answers = [
+        bits_of("64:ff9b::192.0.0.171")?,
+        bits_of("2001:db8:122:344:c0:0:ab00:0")?,
+        bits_of("64:ff9b::192.0.0.170")?,
+        bits_of("2001:db8:122:344:c0:0:aa00:0")?,
+    ];
+    let found = discover(rt.alloc(), &answers)?;
+    assert_eq!(rt; found.as_slice(), [well_known, own].as_slice());
+    Ok(())
+}
+
+#[test]
+fn extracts_by_its_prefix_only(rt: HostRuntime) -> Result<(), Fail> {
+    let own = prefix_of("2001:db8:122:344::", Length::Bits64)?;
+    for (text, host) in [
+        ("2001:db8:122:344:c0:2:2100::", Some(HOST)),
+        ("2001:db8:122:345:c0:2:2100::", None),
+        ("2001:db8:122:344:1c0:2:2100::", None),
+    ] {
+        assert_eq!(rt; own.extract(bits_of(text)?), host, "{text}");
+    }
+    Ok(())
+}
+
+// 203.0.113.80, the private 10.9.8.7 and loopback, by a prefix of the network's own and by 64:ff9b::/96.
+#[test]
+fn synthesizes_what_it_may(rt: HostRuntime) -> Result<(), Fail> {
+    let prefixes = [
+        prefix_of("2001:db8:122:344::", Length::Bits64)?,
+        prefix_of("64:ff9b::", Length::Bits96)?,
+    ];
+    let made = synthesize(
+        rt.alloc(),
+        &prefixes,
+        &[0xcb00_7150, 0x0a09_0807, 0x7f00_0001],
+    )?;
+    let wanted = [
+        bits_of("2001:db8:122:344:cb:71:5000:0")?,
+        bits_of("2001:db8:122:344:a:908:700:0")?,
+        bits_of("64:ff9b::203.0.113.80")?,
+    ];
+    assert_eq!(rt; made.as_slice(), wanted.as_slice());
     Ok(())
 }
