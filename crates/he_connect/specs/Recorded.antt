@@ -55,12 +55,20 @@ pub record IsFactsOf (target : Target) (tried : Families) (race : Race) (known :
     pub attempts : facts.attempts ≡ known.attempts
     pub end : facts.end ≡ None
 
--- so; or, through a NAT64, the IPv4 look-up has the reason *nat64*, if its answer is empty
+-- the look-up's own reason or, without one, *nat64*
+abbrev pub or_nat64 : Option LookupReason → Option LookupReason
+or_nat64 None = Some Nat64
+or_nat64 (Some reason) = Some reason
+
+-- so; or, through a NAT64, the IPv4 look-up has its own reason or *nat64*, if its answer is empty
 abbrev pub IsFactsFor : Bool → Target → Families → Race → KnownFacts → Facts → Type 0
 IsFactsFor false target tried race known facts = IsFactsOf target tried race known facts
 IsFactsFor true target tried race known facts =
     (plain : Facts) × IsFactsOf target tried race known plain
-    × (facts ≡ record plain { four = reason_if_empty race families.V4 (Some Nat64) })
+    × (facts ≡ record plain {
+      four =
+          reason_if_empty race families.V4 (or_nat64 (fault_reason (fault_of known.why families.V4)));
+    })
 
 -- the text has the record and the race: the record has the requested host and port, a look-up for a family without
 -- an address, and the failed attempts of the transcript
@@ -76,7 +84,7 @@ pub record IsRecordFor (by_nat64 : Bool) (request : ConnectRequest) (race : Race
 
 -- the explanation of a race with these record lines, if requested, is the story of its course
 abbrev pub IsExplained : Bool → List Said → Race → List ℕ → Type 0
-IsExplained true said race story = (course : Course Global) × IsCourse race 1 1 course × Tells said course [] story
+IsExplained true said race story = (course : Course Global) × IsCourse race 1 1 course × Tells said None course [] story
 IsExplained false said race story = story ≡ []
 
 -- the text of the race with its record, and the explanation of both

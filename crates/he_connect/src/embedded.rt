@@ -29,7 +29,7 @@ use std::rt::Files;
 use std::time::Clock;
 
 /// The name that shows the prefixes (RFC 7050 section 3). The final dot leaves out the search list.
-pub(crate) const KNOWN_HOST: &str = "ipv4only.arpa.";
+pub const KNOWN_HOST: &str = "ipv4only.arpa.";
 
 /// The answers for a host on a machine with only IPv6: the host's IPv6 addresses; or, if it has none, its IPv4
 /// addresses, embedded by the prefixes that the answer for `ipv4only.arpa.` shows. One is asked for after the other.
@@ -43,6 +43,8 @@ pub struct EmbeddedAnswers<'h, R, W: LookupWatcher> {
     // The addresses of `ipv4only.arpa.`
     prefixes: HostAnswers<'h, R, W>,
     stage: Stage,
+    // Why the host has no IPv6 address.
+    absence: NamesFault,
 }
 
 // Which look-up goes on.
@@ -87,6 +89,7 @@ where
             four,
             prefixes,
             stage: Stage::Six,
+            absence: NamesFault::NoAddress,
         })
     }
 }
@@ -148,6 +151,10 @@ where
                 if !is_without(&told) {
                     return Poll::Ready(told);
                 }
+                if let Err(fault) = told {
+                    self.absence = fault;
+                }
+                self.six.hear_nat64(Nat64::Unanswered);
                 self.stage = Stage::Four;
                 cx.yield_now()
             }
@@ -175,16 +182,32 @@ where
         }
     }
 
-    // The hosts to embed: the IPv4 addresses, unless the kernel has a way to one of them. `NoAddress` if there are
-    // none to embed.
+    // The hosts to embed: the IPv4 addresses, unless the kernel has a way to one of them. Notes why there is none. The
+    // fault of the race's answer if there are none to embed.
     fn hosts_of(&self, told: Result<Vec<Ip>, NamesFault>) -> Result<Vec<u32>, NamesFault>
         ensures { IsHostsOf told result }
     {
-        let ips = told?;
+        let ips = match told {
+            Ok(ips) => ips,
+            Err(fault) => {
+                self.six.note(Family::V4, fault);
+                return Err(self.fault_after(fault));
+            }
+        };
         if ips.is_empty() || self.six.has_way(&ips) {
-            return Err(NamesFault::NoAddress);
+            return Err(self.absence);
         }
         v4_numbers(self.alloc, &ips)
+    }
+
+    // The fault of the race's answer after this one of another look-up: why the host has no IPv6 address, unless this
+    // machine failed.
+    fn fault_after(&self, fault: NamesFault) -> NamesFault {
+        if fault.is_of_host() {
+            self.absence
+        } else {
+            fault
+        }
     }
 
     // Polls for the prefixes.
@@ -201,13 +224,13 @@ where
         }
     }
 
-    // The hosts, embedded by the prefixes that this answer for `ipv4only.arpa.` shows. `NoAddress` if none is
-    // embedded.
+    // The hosts, embedded by the prefixes that this answer for `ipv4only.arpa.` shows. The fault of the race's answer
+    // if none is embedded.
     fn embed(&self, told: Result<Vec<Ip>, NamesFault>) -> Result<Vec<Ip>, NamesFault>
         ensures { EmbedsAt self.now.stage told result }
     {
         let Stage::Prefixes(hosts) = &self.stage else {
-            return Err(NamesFault::NoAddress);
+            return Err(self.absence);
         };
         match told {
             Ok(ips) => self.embed_all(hosts, &ips),
@@ -215,16 +238,14 @@ where
         }
     }
 
-    // Why no host is embedded: there is no prefix, none is known, or a fault of this machine.
+    // Notes that there is no prefix, or that none is known; the fault of the race's answer.
     fn without_prefix(&self, fault: NamesFault) -> NamesFault {
         if fault.is_absence() {
             self.six.hear_nat64(Nat64::Prefixes(Vec::new(self.alloc)));
         } else if fault.is_of_host() {
             self.six.hear_nat64(Nat64::Unknown(fault));
-        } else {
-            return fault;
         }
-        NamesFault::NoAddress
+        self.fault_after(fault)
     }
 
     fn embed_all(&self, hosts: &[u32], ips: &[Ip]) -> Result<Vec<Ip>, NamesFault>
@@ -235,7 +256,7 @@ where
         self.six.hear_nat64(Nat64::Prefixes(prefixes));
         let embedded = embedded?;
         if embedded.is_empty() {
-            return Err(NamesFault::NoAddress);
+            return Err(self.absence);
         }
         Ok(embedded)
     }
@@ -252,8 +273,12 @@ fn is_without(told: &Result<Vec<Ip>, NamesFault>) -> bool
     }
 }
 
-// The prefixes that the addresses show.
-fn prefixes_of(alloc: Global, ips: &[Ip]) -> Result<Vec<Prefix64>, NamesFault>
+/// The prefixes that these addresses of `ipv4only.arpa.` show.
+///
+/// # Errors
+///
+/// `Memory`.
+pub fn prefixes_of(alloc: Global, ips: &[Ip]) -> Result<Vec<Prefix64>, NamesFault>
     ensures { IfOk result (λ prefixes. prefixes.items ≡ discovered (filter_map v6_number ips.now)) }
 {
     let numbers = v6_numbers(alloc, ips)?;
@@ -263,8 +288,12 @@ fn prefixes_of(alloc: Global, ips: &[Ip]) -> Result<Vec<Prefix64>, NamesFault>
     }
 }
 
-// The hosts, embedded by the prefixes.
-fn embed_by(alloc: Global, prefixes: &[Prefix64], hosts: &[u32]) -> Result<Vec<Ip>, NamesFault>
+/// The hosts, embedded by the prefixes.
+///
+/// # Errors
+///
+/// `Memory`.
+pub fn embed_by(alloc: Global, prefixes: &[Prefix64], hosts: &[u32]) -> Result<Vec<Ip>, NamesFault>
     ensures { IfOk result (λ ips. ips.items ≡ map (λ n. V6 n) (synthesized prefixes.now hosts.now)) }
 {
     match synthesize(alloc, prefixes, hosts) {
@@ -304,8 +333,12 @@ fn v6_number(ip: Ip) -> Option<u128>
     }
 }
 
-// The numbers of the IPv4 addresses.
-fn v4_numbers(alloc: Global, ips: &[Ip]) -> Result<Vec<u32>, NamesFault>
+/// The numbers of the IPv4 addresses.
+///
+/// # Errors
+///
+/// `Memory`.
+pub fn v4_numbers(alloc: Global, ips: &[Ip]) -> Result<Vec<u32>, NamesFault>
     ensures { IfOk result (λ numbers. numbers.items ≡ filter_map v4_number ips.now) }
 {
     match ips.iter().filter_map(|ip| v4_number(*ip)).collect(alloc) {

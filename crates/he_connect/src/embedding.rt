@@ -5,6 +5,7 @@ ghost use Rattle.he_connect.specs.Embedded.{MayEmbed, are_v4, is_embedded, is_of
 ghost use Rattle.he_connect.specs.Races.{IsSetUp, KnowsHost, only_six};
 ghost use Rattle.he_connect.specs.Start.{Starts};
 
+use crate::families::tell_unasked;
 use crate::fault::ConnectFault;
 use crate::request::{ConnectRequest, Families, Lines};
 use crate::setup::{Setup, set_up};
@@ -18,7 +19,8 @@ use std::mem::drop;
 use std::net::Net;
 use std::rt::Files;
 
-/// As [`set_up`]; on a machine with only IPv6, maybe of a race that embeds IPv4 hosts.
+/// As [`set_up`]; on a machine with only IPv6, maybe of a race that embeds IPv4 hosts. Prints which family is not
+/// queried, if steps or an explanation are requested.
 ///
 /// # Errors
 ///
@@ -37,7 +39,11 @@ where
     ensures embeds { IfOk result (λ setup. MayEmbed setup.embeds request.now) }
 {
     let setup = set_up(rt, alloc, request, faults)?;
-    if embeds(rt, &setup)? {
+    let embeds = embeds(rt, &setup)?;
+    if request.tells_steps || request.explains {
+        tell_unasked(request.families, setup.request.families, embeds, faults);
+    }
+    if embeds {
         embedding_of(alloc, setup)
     } else {
         Ok(setup)

@@ -61,7 +61,7 @@ pub(crate) fn write_unusable<R: Files + Net + AllocGlobal>(
         if lacks_network(attempts, steps, family) && !can_use(rt, asked, family)? {
             let version = version_of(family);
             let line = format!(in rt.alloc();
-                "he: this machine has no {version} address or route beyond its links\n"
+                "he: this machine has no {version} address or route beyond the local link\n"
             )?;
             out.extend_from_slice(line.as_bytes())?;
         }
@@ -81,8 +81,13 @@ fn lacks_network(attempts: &[Line], steps: &Steps, family: Family) -> bool {
     false
 }
 
-// Prints which family is not queried, and why.
-pub(crate) fn tell_unasked<F: Write>(wanted: Families, tried: Families, faults: &mut F) {
+// Prints which family is not queried, and why; in a race that embeds IPv4 hosts it may be queried later.
+pub(crate) fn tell_unasked<F: Write>(
+    wanted: Families,
+    tried: Families,
+    embeds: bool,
+    faults: &mut F,
+) {
     let Families::Only(family) = tried else {
         return;
     };
@@ -91,12 +96,13 @@ pub(crate) fn tell_unasked<F: Write>(wanted: Families, tried: Families, faults: 
         Family::V4 => ("AAAA", Family::V6, "-4"),
     };
     let version = version_of(without);
+    let asked = if embeds { "not asked yet" } else { "not asked" };
     let _ = if wanted == tried {
-        writeln!(faults, "he: 0 ms: {record} not asked ({option})")
+        writeln!(faults, "he: 0 ms: {record} {asked} ({option})")
     } else {
         writeln!(
             faults,
-            "he: 0 ms: {record} not asked: this machine has no {version} address or route beyond its links"
+            "he: 0 ms: {record} {asked}: this machine has no {version} address or route beyond the local link"
         )
     };
 }

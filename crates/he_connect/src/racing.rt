@@ -17,7 +17,7 @@ use crate::setup::Setup;
 use crate::source::{FamilyFaults, LookupFaults, OwnMachine};
 use crate::telling::Telling;
 use crate::translated::{Nat64, is_by_nat64, nat64_prefixes, write_translated, write_untranslated};
-use crate::tried::write_tried;
+use crate::tried::{excluded, write_excluded, write_tried};
 use he_course::Course;
 use he_live::{Dialed, ResolvingRequest, Steps, attempt_failures, resolving_race_on};
 use he_record::nat64::Nat64Prefix;
@@ -196,8 +196,11 @@ fn told_of<R: Files + Net + AllocGlobal>(
     if raced.winner.is_some() || why.nameless(request.families).is_some() {
         return Ok(told);
     }
-    match nat64 {
-        Some(nat64) if attempts.is_empty() => write_untranslated(alloc, setup, nat64, &mut told)?,
+    match (nat64, excluded(request)) {
+        (Some(nat64), _) if attempts.is_empty() && nat64.is_answered() => {
+            write_untranslated(alloc, setup, nat64, &mut told)?
+        }
+        (None, Some(family)) => write_excluded(request.host, family, &mut told)?,
         _ => {
             write_tried(alloc, request, raced, steps, why, &mut told)?;
             write_unusable(rt, &setup.asked, attempts, steps, &mut told)?;
@@ -276,7 +279,7 @@ fn explain(
     }
     let course = Course::of(alloc, recorded, 1, 1)?;
     let mut story = Vec::new(alloc);
-    write_story(alloc, &course, told, &mut story)?;
+    write_story(alloc, None, &course, told, &mut story)?;
     Ok(story)
 }
 

@@ -1,6 +1,6 @@
 //! What the record of a connection's race says beside the race.
 ghost use Rattle.std.specs.Prelude.{◌≡◌};
-ghost use Rattle.he_connect.specs.Recorded.{IsFactsFor, IsFactsOf, is_left_out, reason_of};
+ghost use Rattle.he_connect.specs.Recorded.{IsFactsFor, IsFactsOf, is_left_out, or_nat64, reason_of};
 
 use crate::request::Families;
 use crate::source::FamilyFaults;
@@ -53,7 +53,7 @@ pub fn facts_of<'n>(
     }
 }
 
-/// As [`facts_of`]; through a NAT64, the IPv4 look-up has the reason `Nat64`.
+/// As [`facts_of`]; through a NAT64, the IPv4 look-up has its own reason or, without one, `Nat64`.
 pub fn facts_for<'n>(
     by_nat64: bool,
     target: Target<'n>,
@@ -68,9 +68,20 @@ pub fn facts_for<'n>(
     if !by_nat64 {
         return facts;
     }
+    let reason = or_nat64(fault_reason(known.why.of(Family::V4)));
     Facts {
-        four: reason_if_empty(recorded, Family::V4, Some(LookupReason::Nat64)),
+        four: reason_if_empty(recorded, Family::V4, reason),
         ..facts
+    }
+}
+
+// The look-up's own reason or, without one, that IPv4 hosts are reached through a NAT64.
+fn or_nat64(reason: Option<LookupReason>) -> Option<LookupReason>
+    ensures { result ≡ or_nat64 reason }
+{
+    match reason {
+        Some(reason) => Some(reason),
+        None => Some(LookupReason::Nat64),
     }
 }
 

@@ -2,7 +2,7 @@
 ghost use Rattle.std.specs.Prelude.{◌≡◌, IfOk, false};
 ghost use Rattle.he_connect.specs.Races.{IsSetUp, KnowsHost};
 
-use crate::families::{families_to_try, tell_unasked};
+use crate::families::families_to_try;
 use crate::fault::ConnectFault;
 use crate::lines::{Destinations, read_lines_of};
 use crate::request::{ConnectRequest, Lines};
@@ -35,7 +35,7 @@ pub struct Setup<'a> {
 }
 
 /// Reads the known addresses of the host and the lines of the race, and decides which families to try. Prints which
-/// family is not queried, if steps or an explanation are requested, and which files of this machine can't be read.
+/// files of this machine can't be read.
 ///
 /// # Errors
 ///
@@ -57,9 +57,6 @@ where
     let scope = find_scope(rt, alloc, request.host)?;
     let asked = AskedWays::new(alloc)?;
     let tried = families_to_try(rt, &asked, request, known.is_some())?;
-    if request.tells_steps || request.explains {
-        tell_unasked(request.families, tried, faults);
-    }
     let to = Destinations {
         known: known.as_deref(),
         scope,

@@ -46,7 +46,7 @@ struct FaultCells {
     four: Cell<Option<NamesFault>>,
     // The events of the look-up.
     events: Cell<Option<Vec<LookupEvent>>>,
-    // What is known of the network's NAT64, once its prefixes are looked up.
+    // What is known of the network's NAT64, once it is looked up.
     nat64: Cell<Option<Nat64>>,
 }
 
@@ -115,7 +115,7 @@ impl LookupFaults {
         self.shared.events.set(Some(events));
     }
 
-    /// What is known of the network's NAT64, if its prefixes were looked up. Gives it once.
+    /// What is known of the network's NAT64, if the host's IPv4 addresses were looked up for it. Gives it once.
     pub fn take_nat64(&self) -> Option<Nat64> {
         self.shared.nat64.replace(None)
     }
@@ -146,15 +146,21 @@ impl FamilyFaults {
         }
     }
 
-    /// Why there is no address of the families to try; None if one of them has some, or none yet, and if the name has
-    /// addresses of the other family only.
+    /// Why there is no address of the families to try, by both look-ups if both were made; None if one of them has
+    /// some, or none yet, and if the name has addresses of the other family only.
     pub fn nameless(self, families: Families) -> Option<NamesFault> {
-        match families {
-            Families::Only(family) => self
-                .of(family)
-                .filter(|fault| *fault != NamesFault::NoAddress),
-            Families::Both => Some(first_fault(self.six?, self.four?)),
+        let both = self.of_both();
+        if both.is_some() {
+            return both;
         }
+        let family = families.only()?;
+        self.of(family)
+            .filter(|fault| *fault != NamesFault::NoAddress)
+    }
+
+    // The fault to report if neither family has an address.
+    fn of_both(self) -> Option<NamesFault> {
+        Some(first_fault(self.six?, self.four?))
     }
 }
 
@@ -275,16 +281,21 @@ where
         self.watcher.tell_prefixes_asked(tick);
     }
 
-    // Whether the kernel has a way to one of the addresses.
-    pub(crate) fn has_way(&self, ips: &[Ip]) -> bool {
+    /// Whether the kernel has a way to one of the addresses, if this machine's lines come with them.
+    pub fn has_way(&self, ips: &[Ip]) -> bool {
         let Some(machine) = &self.machine else {
             return false;
         };
         ips.iter().any(|ip| machine.asked.way(machine.rt, *ip, NO_SCOPE).from.is_some())
     }
 
-    // Takes what is known of the network's NAT64.
-    pub(crate) fn hear_nat64(&self, nat64: Nat64) {
+    // Takes why the family has no address.
+    pub(crate) fn note(&self, family: Family, fault: NamesFault) {
+        self.why.note(family, fault);
+    }
+
+    /// Notes what is known of the network's NAT64.
+    pub fn hear_nat64(&self, nat64: Nat64) {
         self.why.shared.nat64.set(Some(nat64));
     }
 

@@ -17,20 +17,22 @@ pub enum Nat64 {
     Prefixes(Vec<Prefix64>),
     /// Why they are not known.
     Unknown(NamesFault),
+    /// The host has no IPv6 address; its IPv4 addresses or the prefixes have no answer yet.
+    Unanswered,
 }
 
-/// Whether the race that is set up reaches IPv4 hosts through a NAT64.
+impl Nat64 {
+    // Whether the look-ups for it have their answers.
+    pub(crate) fn is_answered(&self) -> bool {
+        !matches!(self, Nat64::Unanswered)
+    }
+}
+
+/// Whether the race that is set up reaches its host only through a NAT64, for want of an IPv6 address.
 pub fn is_by_nat64(setup: &Setup<'_>, nat64: Option<&Nat64>) -> bool
     ensures { result ≡ true → setup.now.embeds ≡ true }
 {
-    setup.embeds && has_prefix(nat64)
-}
-
-fn has_prefix(nat64: Option<&Nat64>) -> bool {
-    match nat64 {
-        Some(Nat64::Prefixes(prefixes)) => !prefixes.is_empty(),
-        _ => false,
-    }
+    setup.embeds && nat64.is_some()
 }
 
 /// The prefixes of the network's NAT64, as a record has them; none if they are not known.
@@ -55,41 +57,42 @@ pub(crate) fn write_translated(
     attempts: &[Line],
     out: &mut Vec<u8>,
 ) -> Result<(), Memory> {
-    let Some(Nat64::Prefixes(prefixes)) = nat64 else {
-        return Ok(());
-    };
     for attempt in attempts {
-        if let Some(host) = host_of(prefixes, attempt.ip) {
+        if let Some(host) = embedded_host(nat64, attempt.ip) {
             out.extend_from_slice(b"he: ")?;
             write_ip(attempt.ip, out)?;
             out.extend_from_slice(b" is ")?;
-            write_ip(Ip::V4(host), out)?;
+            write_ip(host, out)?;
             out.push(b'\n')?;
         }
     }
     Ok(())
 }
 
-// The host that the address has embedded by one of the prefixes.
-fn host_of(prefixes: &[Prefix64], ip: Ip) -> Option<u32> {
-    let Ip::V6(number) = ip else {
+/// The IPv4 host that the address has embedded by a prefix of the network's NAT64.
+pub fn embedded_host(nat64: Option<&Nat64>, ip: Ip) -> Option<Ip> {
+    let (Some(Nat64::Prefixes(prefixes)), Ip::V6(number)) = (nat64, ip) else {
         return None;
     };
-    prefixes.iter().find_map(|prefix| prefix.extract(number))
+    let host = prefixes.iter().find_map(|prefix| prefix.extract(number))?;
+    Some(Ip::V4(host))
 }
 
-// Appends why no IPv4 address was embedded: the network has no prefix, or none for this host, or it is not known.
-pub(crate) fn write_untranslated(
+/// Appends a line that says why no IPv4 host was embedded: the network has no prefix, or none for this host, or it is not
+/// known. Appends nothing while look-ups have no answer.
+///
+/// # Errors
+///
+/// `Memory` if an allocation fails; part of the text may have been appended.
+pub fn write_untranslated(
     alloc: Global,
     setup: &Setup<'_>,
     nat64: &Nat64,
     out: &mut Vec<u8>,
 ) -> Result<(), Memory> {
     let host = setup.request.host;
-    if setup.known.is_none() {
-        write_lack(host, Family::V6, out)?;
-    }
     let line = match nat64 {
+        Nat64::Unanswered => return Ok(()),
         Nat64::Unknown(fault) => format!(in alloc;
             "he: this machine has no IPv4, and its network's NAT64 is unknown: AAAA of ipv4only.arpa: {fault}\n"
         )?,
@@ -100,6 +103,9 @@ pub(crate) fn write_untranslated(
             "he: this machine has no IPv4, and its network's NAT64 no address for {host}\n"
         )?,
     };
+    if setup.known.is_none() {
+        write_lack(host, Family::V6, out)?;
+    }
     out.extend_from_slice(line.as_bytes())?;
     Ok(())
 }

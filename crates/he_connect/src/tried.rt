@@ -2,7 +2,7 @@
 
 use crate::request::{ConnectRequest, Families};
 use crate::source::FamilyFaults;
-use he_addr::{Family, Memory, write_ip, write_number};
+use he_addr::{Family, Memory, read_ip, write_ip, write_number};
 use he_live::{Dialed, Reason, Steps};
 use he_plan::{Line, Mark};
 use he_settings::NamesFault;
@@ -53,6 +53,24 @@ pub(crate) fn write_lack(host: &str, family: Family, out: &mut Vec<u8>) -> Resul
     out.extend_from_slice(match family {
         Family::V6 => b" has no IPv6 address\n",
         Family::V4 => b" has no IPv4 address\n",
+    })?;
+    Ok(())
+}
+
+// The family of the host if it is an address of a family that is not requested.
+pub(crate) fn excluded(request: &ConnectRequest<'_>) -> Option<Family> {
+    let only = request.families.only()?;
+    let family = read_ip(request.host.as_bytes())?.family();
+    if family == only { None } else { Some(family) }
+}
+
+// Appends that the host is an address of this family, which an option excludes.
+pub(crate) fn write_excluded(host: &str, family: Family, out: &mut Vec<u8>) -> Result<(), Memory> {
+    out.extend_from_slice(b"he: ")?;
+    out.extend_from_slice(host.as_bytes())?;
+    out.extend_from_slice(match family {
+        Family::V6 => b" is an IPv6 address, but -4 was given\n",
+        Family::V4 => b" is an IPv4 address, but -6 was given\n",
     })?;
     Ok(())
 }
@@ -110,7 +128,7 @@ fn write_none(recorded: &Timeline, out: &mut Vec<u8>) -> Result<(), Memory> {
         out.extend_from_slice(b": no usable address")?;
         return Ok(());
     } else {
-        out.extend_from_slice(b": no address came in ")?;
+        out.extend_from_slice(b": no DNS answer in ")?;
     }
     write_number(recorded.settings().limit(), out)?;
     out.extend_from_slice(b" ms")?;

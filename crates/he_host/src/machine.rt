@@ -150,13 +150,13 @@ fn tell_guesses<R: Net>(
         if is_guess(rt, routes, *source) {
             write_guess(
                 *source,
-                b", since its network is on that one and on another",
+                b", because its network is on several interfaces",
                 remarks,
             )?;
         } else if is_asked_place(routes, *source) {
             write_guess(
                 *source,
-                b", since the kernel takes it for a route there",
+                b", because the kernel uses it for a route there",
                 remarks,
             )?;
         }

@@ -31,12 +31,10 @@ fn reason(why: Why) -> Option<&'static [u8]> {
     match why {
         Why::Unclear => Some(b"is not understood"),
         Why::Unready => Some(b"is not in use: tentative, or found twice on its link"),
-        Why::Unusable => Some(b"is none that a source can have"),
+        Why::Unusable => Some(b"cannot be used as a source address"),
         Why::Down => Some(b"is of an interface that is down, has no carrier or is not known"),
         Why::Unreachable => Some(b"leads nowhere: unreachable, prohibited or a blackhole"),
-        Why::Unconnected => Some(
-            b"is on an interface that no route and no answer of the kernel tells",
-        ),
+        Why::Unconnected => Some(b"is on an unknown interface: no route contains it"),
         Why::Repeated => Some(b"is there already, over another interface"),
         Why::TooMany => Some(b"is more than a race holds: 64 sources and 64 routes"),
         Why::Internal | Why::Again => None,
@@ -197,12 +195,12 @@ pub fn write_guess<A: Allocator + Copy>(
     reason: &[u8],
     out: &mut Vec<u8, A>,
 ) -> Result<(), Memory> {
-    write_word(b"he: a guess: the address ", out)?;
+    write_word(b"he: guess: the address ", out)?;
     write_ip(source.ip, out)?;
-    write_word(b" is taken to be on interface ", out)?;
+    write_word(b" is assumed to be on interface ", out)?;
     write_number(u64::from(source.interface), out)?;
     write_word(reason, out)?;
-    write_word(b", and nothing tells more\n", out)
+    write_word(b"\n", out)
 }
 
 /// Appends the remark for a route for whose destinations the kernel selects another source than the rules.
@@ -252,10 +250,10 @@ pub fn write_unseen_tables<A: Allocator + Copy>(
 ) -> Result<(), Memory> {
     for line in read_lines(alloc, fib_trie)?.iter() {
         if let Some(table) = table_of(line.text) {
-            write_word(b"he: not seen: the IPv4 routes of table ", out)?;
+            write_word(b"he: not included: the IPv4 routes of table ", out)?;
             write_number(table, out)?;
             write_word(
-                b", which `ip rule` may use: /proc/net/route has the main table alone\n",
+                b", which `ip rule` may use: /proc/net/route has only the main table\n",
                 out,
             )?;
         }

@@ -30,7 +30,7 @@ pub enum LiveFault {
     #[error("too many open files")]
     Files,
     /// The event loop could not be made or failed, or the clock failed.
-    #[error("cannot run the sockets")]
+    #[error("the event loop or the clock failed")]
     Runtime,
     /// An allocation failed.
     #[error("out of memory")]

@@ -30,7 +30,7 @@ pub enum SpecialUse {
     #[error("names in .local are not asked of name servers: try --resolver system")]
     Local,
     /// `onion`: services of Tor (RFC 7686).
-    #[error("names in .onion are reached through Tor alone")]
+    #[error("names in .onion can only be reached through Tor")]
     Onion,
     /// `invalid`: names that never exist (RFC 6761 section 6.4).
     #[error("no name in .invalid exists")]

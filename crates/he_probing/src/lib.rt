@@ -40,8 +40,6 @@ pub mod round;
 pub mod rows;
 mod shown;
 pub mod tables;
-#[cfg(test)]
-mod tests;
 pub mod totals;
 pub mod verdict;
 

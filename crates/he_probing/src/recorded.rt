@@ -24,6 +24,8 @@ pub struct RoundNotes<'n> {
     pub nat64: &'n [Nat64Prefix],
     /// Whether the IPv4 addresses are reached through a NAT64.
     pub by_nat64: bool,
+    /// Why no IPv4 host was embedded, if there is no address for that.
+    pub told: &'n [u8],
 }
 
 /// The text of the timeline with its record lines: the requested host and port, a look-up only for a family whose

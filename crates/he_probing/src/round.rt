@@ -10,10 +10,10 @@ use crate::recorded::{RoundNotes, write_round};
 use crate::request::RoundRequest;
 use crate::rows::{AddressRow, addresses_of, rows_of};
 use crate::verdict::{Verdict, verdict_of};
-use he_addr::Ip;
+use he_addr::{Ip, Memory};
 use he_connect::{
-    ConnectFault, FamilyFaults, LookupFaults, OwnMachine, RaceAnswers, Setup, Telling, is_by_nat64,
-    look_up, nat64_prefixes, set_up_any,
+    ConnectFault, FamilyFaults, LookupFaults, Nat64, OwnMachine, RaceAnswers, Setup, Telling,
+    is_by_nat64, look_up, nat64_prefixes, set_up_any, write_untranslated,
 };
 use he_course::Course;
 use he_live::{Endpoint, ProbeRequest, Steps, gather_on, probe_on};
@@ -51,6 +51,8 @@ pub struct Round {
     pub why: FamilyFaults,
     /// Why there is no address at all, if a look-up failed.
     pub nameless: Option<NamesFault>,
+    /// A line that says why no IPv4 host was embedded, if there is no address for that.
+    pub told: Vec<u8>,
 }
 
 /// Looks up the host's addresses, connects to each, and judges the results. Each step is printed to `faults` as it
@@ -110,16 +112,33 @@ where
     let servers = why.servers(alloc)?;
     let nat64 = why.take_nat64();
     let prefixes = nat64_prefixes(alloc, nat64.as_ref())?;
+    let told = untranslated(alloc, setup, nat64.as_ref(), &addresses)?;
     let notes = RoundNotes {
         at,
         why: why.families(),
         servers: &servers,
         nat64: &prefixes,
         by_nat64: is_by_nat64(setup, nat64.as_ref()),
+        told: &told,
     };
     let recorded = with_probes(alloc, &gathered, &probes)?;
-    let rows = rows_of(alloc, &probes, &preferred, &steps)?;
+    let rows = rows_of(alloc, &probes, &preferred, &steps, nat64.as_ref())?;
     judge(alloc, setup, notes, rows, &recorded)
+}
+
+// Why no IPv4 host was embedded, if there is no address for that.
+fn untranslated(
+    alloc: Global,
+    setup: &Setup<'_>,
+    nat64: Option<&Nat64>,
+    addresses: &[Ip],
+) -> Result<Vec<u8>, Memory> {
+    let mut told = Vec::new(alloc);
+    match nat64 {
+        Some(nat64) if addresses.is_empty() => write_untranslated(alloc, setup, nat64, &mut told)?,
+        _ => {}
+    }
+    Ok(told)
 }
 
 // The addresses at their port, with the request's times. A race has at most `MAX_ATTEMPTS`.
@@ -166,6 +185,7 @@ fn judge(
         fastest: fastest_of(&rows, &course),
         why: notes.why,
         nameless: notes.why.nameless(setup.request.families),
+        told: Vec::from_slice(alloc, notes.told)?,
         rows,
         course,
         text,

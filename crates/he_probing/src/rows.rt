@@ -5,6 +5,7 @@ ghost use Rattle.he_probe.specs.Probing.{row_ip};
 ghost use Rattle.he_probing.specs.Rows.{has_connected, preferred_ip, probe_of};
 
 use he_addr::{Ip, Memory};
+use he_connect::{Nat64, embedded_host};
 use he_course::Preferred;
 use he_live::{Reason, Steps};
 use he_probe::ProbeRow;
@@ -21,6 +22,8 @@ pub struct AddressRow {
     pub outcome: Option<Outcome>,
     /// Why the attempt failed; `Unknown` if it didn't fail.
     pub reason: Reason,
+    /// The IPv4 host that the address has embedded by a prefix of the network's NAT64.
+    pub host: Option<Ip>,
 }
 
 impl AddressRow {
@@ -58,6 +61,7 @@ pub fn rows_of(
     probes: &[ProbeRow],
     preferred: &[Preferred],
     steps: &Steps,
+    nat64: Option<&Nat64>,
 ) -> Result<Vec<AddressRow>, Memory>
     ensures { IfOk result (λ rows. map probe_of rows.items ≡ probes.now) }
 {
@@ -69,6 +73,7 @@ pub fn rows_of(
             source: source_at(preferred, place),
             outcome: probe.outcome,
             reason: steps.reason_of(place),
+            host: embedded_host(nat64, probe.ip),
         })?;
     }
     Ok(rows)

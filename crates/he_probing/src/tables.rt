@@ -20,7 +20,8 @@ use std::alloc::Global;
 // The columns of words, before that of milliseconds.
 const WORD_COLUMNS: usize = 4;
 
-/// The lines of a round: how many addresses connect, a row for each, and the verdict. They begin with the heading.
+/// The lines of a round: how many addresses connect, a row for each, the IPv4 hosts that they have embedded, and the
+/// verdict. They begin with the heading.
 ///
 /// # Errors
 ///
@@ -35,6 +36,7 @@ pub fn table(
     write_words(heading, &mut text)?;
     write_summary(&round.rows, &mut text)?;
     write_rows(alloc, &round.rows, request.timeout, &mut text)?;
+    write_hosts(&round.rows, &mut text)?;
     write_verdict(round, &mut text)?;
     text.push(b'\n')?;
     Ok(text)
@@ -117,6 +119,22 @@ fn write_rows(
         cells.push(cells_of(alloc, timeout, row)?)?;
     }
     write_columns(alloc, WORD_COLUMNS, &cells, text)
+}
+
+// A line for each address that has an IPv4 host embedded: `64:ff9b::cb00:7150 is 203.0.113.80`.
+fn write_hosts(rows: &[AddressRow], text: &mut Vec<u8>) -> Result<(), Memory> {
+    for row in rows {
+        if let Some(host) = row.host {
+            let parts: [Piece; 4] = [
+                Part::Ip(row.ip),
+                Part::Words(b" is "),
+                Part::Ip(host),
+                Part::Words(b"\n"),
+            ];
+            write_parts(&parts, text)?;
+        }
+    }
+    Ok(())
 }
 
 fn heading_cells(alloc: Global) -> Result<Cells, Memory> {

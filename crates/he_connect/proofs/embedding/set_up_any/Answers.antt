@@ -3,16 +3,16 @@ use Rattle.he_connect.specs.Embedded.{MayEmbed}
 use Rattle.he_connect.proofs.Runs.{all_known, all_set_up, made_so}
 use Rattle.he_connect.proofs.embedding.set_up_any.Goals as goal
 
-pub returns-then-branch-clause-setup : goal.returns-then-branch-clause-setup
-returns-then-branch-clause-setup g c =
+pub returns-then-embeds-clause-setup : goal.returns-then-embeds-clause-setup
+returns-then-embeds-clause-setup g c =
     let setup = c.in_ok-setup.setup in
     let made = c.embedding_of.ensures in
     all_set_up c.args.request.now setup c.embedding_of.result c.in_ok-setup.ensures.setup
-    (subst (λ (b : Bool). MayEmbed b setup.request) c.if-branch.true c.in_ok-embeds.ensures)
+    (subst (λ (b : Bool). MayEmbed b setup.request) c.if-embeds.true c.in_ok-embeds.ensures)
     (made_so setup c.embedding_of.result made.request made.starts made.to made.known)
 
-pub returns-then-branch-clause-known : goal.returns-then-branch-clause-known
-returns-then-branch-clause-known g c =
+pub returns-then-embeds-clause-known : goal.returns-then-embeds-clause-known
+returns-then-embeds-clause-known g c =
     let made = c.embedding_of.ensures in
     all_known c.in_ok-setup.setup c.embedding_of.result c.in_ok-setup.ensures.known
     (made_so c.in_ok-setup.setup c.embedding_of.result made.request made.starts made.to made.known)

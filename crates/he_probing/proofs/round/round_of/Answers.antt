@@ -18,7 +18,7 @@ returns g c = λ knows.
     let from = c.in_ok-gathered.ensures.source in
     round-of c.args.setup.now.embeds c.is_by_nat64.result c.args.setup.now.request (origins_of c.in_ok-source.source) c.args.setup.now.start c.in_ok-gathered.gathered c.in_ok-recorded.recorded c.in_ok-preferred.field-0 probes
     c.in_ok-addresses.addresses.items c.in_ok-rows.rows.items c.judge.result
-    (c.in_ok-recorded.ensures ∙ ap (λ (p : List ProbeRow). with_probes (unrecorded c.in_ok-gathered.gathered) p) c.deref-5.ensures.value)
+    (c.in_ok-recorded.ensures ∙ ap (λ (p : List ProbeRow). with_probes (unrecorded c.in_ok-gathered.gathered) p) c.deref-7.ensures.value)
     (start_kept _ _ c.args.setup.now.start c.in_ok-gathered.gathered probes from)
     (comes_as c.args.setup.now.embeds c.args.setup.now.request c.in_ok-lookups.lookups c.in_ok-source.source c.in_ok-source.ensures.origins (c.in_ok-lookups.ensures.comes knows))
     (of_answers c.args.setup.now.start c.in_ok-source.source _ (recorded_of _ _ c.args.setup.now.start c.in_ok-gathered.gathered probes from) (c.in_ok-source.ensures.sound c.in_ok-lookups.ensures.sound))
@@ -26,5 +26,5 @@ returns g c = λ knows.
     c.in_ok-preferred.ensures
     (c.in_ok-addresses.ensures ∙ ap (λ (p : List Preferred). map preferred_ip p) c.deref.ensures.value)
     (c.in_ok-probes.ensures.ips ∙ c.in_ok-probe.ensures.addresses ∙ c.deref-2.ensures.value)
-    (c.in_ok-rows.ensures ∙ c.deref-6.ensures.value)
+    (c.in_ok-rows.ensures ∙ c.deref-8.ensures.value)
     c.judge.ensures
