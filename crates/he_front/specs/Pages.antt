@@ -10,10 +10,14 @@ use Rattle.he_front.specs.Authority.{IsAuthority}
 use Rattle.he_front.specs.declared.pages.Page.{Page}
 use Rattle.he_front.specs.declared.pages.Page.TheVariants as pages
 
+-- the paths of the proxy auto-config text
+abbrev pub IsConfigPath : List ℕ → Type 0
+IsConfigPath target = (target ≡ codes "/proxy.pac") ⊎ (target ≡ codes "/wpad.dat")
+
 -- the paths (origin form, RFC 9112 section 3.2.1)
-abbrev pub path_of : Page → List ℕ
-path_of pages.Config = codes "/proxy.pac"
-path_of pages.Races = codes "/"
+abbrev pub IsPath : Page → List ℕ → Type 0
+IsPath pages.Config target = IsConfigPath target
+IsPath pages.Races target = target ≡ codes "/"
 
 -- the address is 127.0.0.1, ::1 or the one that the client reached
 abbrev pub IsOwnIp : Ip → Ip → Type 0
@@ -33,7 +37,7 @@ IsOwn own port value = (host : List ℕ) × IsAuthority value host port × IsOwn
 -- the page is requested by its path, of the proxy itself
 abbrev pub Asks : Ip → ℕ → List ℕ → Option (List ℕ) → Page → Type 0
 Asks own port target None page = ⊥
-Asks own port target (Some host) page = (target ≡ path_of page) × IsOwn own port host
+Asks own port target (Some host) page = IsPath page target × IsOwn own port host
 
 abbrev pub AsksNone : Ip → ℕ → List ℕ → Option (List ℕ) → Type 0
 AsksNone own port target host = (page : Page) → Asks own port target host page → ⊥

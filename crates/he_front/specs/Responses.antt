@@ -29,9 +29,12 @@ status_text status phrase = codes "HTTP/1.1 " ++ (decimal status ++ (codes " " +
 unfoldable pub media_text : List ℕ → List ℕ
 media_text media = codes "Content-Type: " ++ (media ++ codes "\r\n")
 
--- the body's length, no caching (RFC 9111 section 5.2.2.5), and that the connection is closed afterwards
+-- the body's length; no caching (RFC 9111 section 5.2.2.5); neither in a frame (RFC 7034) nor for another site's page
+-- (Cross-Origin-Resource-Policy of the Fetch standard); and that the connection is closed afterwards
 unfoldable pub len_text : ℕ → List ℕ
-len_text len = codes "Content-Length: " ++ (decimal len ++ codes "\r\nCache-Control: no-store\r\nConnection: close\r\n\r\n")
+len_text len =
+    codes "Content-Length: " ++ (decimal len ++ (codes "\r\nCache-Control: no-store\r\nX-Frame-Options: DENY\r\n"
+    ++ codes "Cross-Origin-Resource-Policy: same-origin\r\nConnection: close\r\n\r\n"))
 
 -- the head before a body of `len` octets
 unfoldable pub head_text : ℕ → List ℕ → List ℕ → ℕ → List ℕ

@@ -32,8 +32,6 @@ pub mod pages;
 pub mod replies;
 pub mod responses;
 pub mod socks;
-#[cfg(test)]
-mod tests;
 
 pub use asked::Asked;
 pub use authority::{MOST_HOST, read_authority};

@@ -1,7 +1,7 @@
 // The proxy's own pages.
 
 ghost use Rattle.std.specs.Prelude.{◌≡◌, ◌↔◌, IfNone, IfSome, IsTrue, None, Some};
-ghost use Rattle.he_front.specs.Pages.{Asks, AsksNone, IsOwn, IsOwnHost, IsOwnIp, SpellsOwn, host_of, path_of};
+ghost use Rattle.he_front.specs.Pages.{Asks, AsksNone, IsConfigPath, IsOwn, IsOwnHost, IsOwnIp, IsPath, SpellsOwn, host_of};
 ghost use Rattle.he_front.specs.declared.pages.Page.{Page};
 
 use crate::authority::read_authority;
@@ -10,7 +10,7 @@ use he_addr::{Ip, read_ip};
 /// A page of the proxy itself.
 #[derive(Clone, Copy, Debug, PartialEq, Eq)]
 pub enum Page {
-    /// `/proxy.pac`: the proxy auto-config text that [`write_config`](crate::write_config) writes.
+    /// `/proxy.pac` or `/wpad.dat`: the proxy auto-config text that [`write_config`](crate::write_config) writes.
     Config,
     /// `/`: the last races.
     Races,
@@ -37,16 +37,22 @@ pub fn page_asked(target: &[u8], host: Option<&[u8]>, own: Ip, port: u16) -> Opt
 }
 
 fn page_at(target: &[u8]) -> Option<Page>
-    ensures found { IfSome result (λ page. target.now ≡ path_of page) }
-    ensures none { IfNone result ((page : Page) → target.now ≡ path_of page → ⊥) }
+    ensures found { IfSome result (λ page. IsPath page target.now) }
+    ensures none { IfNone result ((page : Page) → IsPath page target.now → ⊥) }
 {
-    if target == b"/proxy.pac".as_slice() {
+    if is_config_path(target) {
         Some(Page::Config)
     } else if target == b"/".as_slice() {
         Some(Page::Races)
     } else {
         None
     }
+}
+
+fn is_config_path(target: &[u8]) -> bool
+    ensures { IsTrue result ↔ IsConfigPath target.now }
+{
+    target == b"/proxy.pac".as_slice() || target == b"/wpad.dat".as_slice()
 }
 
 fn is_own(value: &[u8], own: Ip, port: u16) -> bool

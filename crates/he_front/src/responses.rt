@@ -153,7 +153,11 @@ fn write_len<A: Allocator + Copy>(len: usize, out: &mut Vec<u8, A>) -> Result<()
     write_octets(b"Content-Length: ", out)?;
     write_number(len as u64, out)?;
     write_octets(
-        b"\r\nCache-Control: no-store\r\nConnection: close\r\n\r\n",
+        b"\r\nCache-Control: no-store\r\nX-Frame-Options: DENY\r\n",
+        out,
+    )?;
+    write_octets(
+        b"Cross-Origin-Resource-Policy: same-origin\r\nConnection: close\r\n\r\n",
         out,
     )
 }

@@ -90,7 +90,8 @@ struct Counts {
     not_won: u64,
     // The times to connect of the won races.
     times: Vec<u64>,
-    end: u64,
+    // The ticks at which races end.
+    ends: Vec<u64>,
 }
 
 impl Counts {
@@ -100,12 +101,12 @@ impl Counts {
             by_v4: 0,
             not_won: 0,
             times: Vec::new(alloc),
-            end: 0,
+            ends: Vec::new(alloc),
         }
     }
 
     fn add(&mut self, course: &Course<Global>) -> Result<(), Memory> {
-        self.end = self.end.max(course.end());
+        self.ends.push(course.end())?;
         let count = match course.ended.winner {
             Some(line) => {
                 self.times.push(course.end())?;
@@ -126,16 +127,18 @@ impl Counts {
             by_v4,
             not_won,
             mut times,
-            end,
+            mut ends,
         } = self;
         times.sort_unstable();
+        ends.sort_unstable();
         Ok(Totals {
             races: by_v6.saturating_add(by_v4).saturating_add(not_won),
             by_v6,
             by_v4,
             not_won,
             times: times_of(times.as_slice()),
-            end,
+            end: within(ends.as_slice(), 99).unwrap_or(0),
+            longest: within(ends.as_slice(), 100).unwrap_or(0),
         })
     }
 }

@@ -31,7 +31,7 @@ pub enum ProxyFault {
     #[error("too many open files")]
     Files,
     /// The event loop could not be made or failed.
-    #[error("cannot run the sockets")]
+    #[error("the event loop or the clock failed")]
     Runtime,
     /// An allocation failed.
     #[error("out of memory")]

@@ -17,8 +17,8 @@ pub struct Asked<'a> {
     pub is_near: bool,
 }
 
-/// Appends the response: the requested page, for a client of this machine that names the proxy itself; otherwise a
-/// 501 response with a line on how to use the proxy.
+/// Appends the response: the requested page, for a client that names the proxy itself, the races only for one on this
+/// machine; otherwise a 501 response with a line on how to use the proxy.
 ///
 /// # Errors
 ///
@@ -30,8 +30,8 @@ pub fn write_answer(
     out: &mut Vec<u8>,
 ) -> Result<(), Memory> {
     let (path, at) = (without_query(asked.path), asked.at);
-    if asked.is_near
-        && let Some(page) = page_asked(path, asked.host, at.ip, at.port)
+    if let Some(page) = page_asked(path, asked.host, at.ip, at.port)
+        && (asked.is_near || page == Page::Config)
     {
         return write_own(alloc, at, recent, page, out);
     }
