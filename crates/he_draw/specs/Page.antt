@@ -77,9 +77,9 @@ pub record IsSection {A : Type 0} (said : List RecordSaid) (course : Course A) (
   pub story : List ℕ
   pub last : List ℕ
   pub opened : States (opening_facts course file) links
-  pub headed : States (race_facts said course) heading
+  pub headed : States (race_facts said None course) heading
   pub drawn : States (section_facts said course) rows
-  pub told : Tells said course [] story
+  pub told : Tells said None course [] story
   pub parts : text ≡ links ++ (flat_map escaped heading ++ (rows ++ (flat_map escaped story ++ last)))
 
 -- it has been appended
@@ -99,10 +99,16 @@ times_facts None = []
 times_facts (Some times) =
     count_facts counts.Median times.median ++ (count_facts counts.P90 times.p90 ++ count_facts counts.P99 times.p99)
 
+-- the end of the scale, and of the longest race where that is later
+abbrev pub scale_facts : Totals → List (Fact Counted)
+scale_facts totals =
+    count_facts counts.End totals.end
+    ++ (if totals.longest == totals.end then [] else count_facts counts.Longest totals.longest)
+
 -- the end of the scale comes twice: for the browser, and for its reader
 unfoldable pub totals_facts : Totals → List (Fact Counted)
 totals_facts totals =
     (count_facts counts.End totals.end ++ count_facts counts.Races totals.races)
     ++ (times_facts totals.times
     ++ (count_facts counts.ByV6 totals.by_v6 ++ (count_facts counts.ByV4 totals.by_v4
-    ++ (count_facts counts.NotWon totals.not_won ++ count_facts counts.End totals.end))))
+    ++ (count_facts counts.NotWon totals.not_won ++ scale_facts totals))))

@@ -1,5 +1,5 @@
 -- The facts of pictures, in any words, signs and colours; and the picture of a race for a terminal.
-use Rattle.std.specs.Prelude.{ℕ, ◌≡◌, ◌-◌, ◌*◌, ◌/◌, ◌%◌, ◌==◌, ◌++◌, if◌then◌else◌, List, [], ◌∷◌, min}
+use Rattle.std.specs.Prelude.{ℕ, ◌≡◌, ◌-◌, ◌*◌, ◌/◌, ◌%◌, ◌==◌, ◌++◌, if◌then◌else◌, List, [], ◌∷◌, min, Option}
 use Rattle.std.specs.List.{flat_map}
 use Rattle.he_addr.specs.declared.ip.Family.TheVariants as families
 use Rattle.he_course.specs.declared.course.Course.{Course}
@@ -70,7 +70,7 @@ row_facts columns end row =
     ++ words_facts row.from row.to row.what)
 
 -- the heading of its story, its rows in this number of columns, and the end of the scale below them
-unfoldable pub picture_facts : {A : Type 0} → ℕ → List RecordSaid → Course A → List (Fact Words)
-picture_facts columns said course =
-    race_facts said course
+unfoldable pub picture_facts : {A : Type 0} → ℕ → List RecordSaid → Option (List ℕ) → Course A → List (Fact Words)
+picture_facts columns said file course =
+    race_facts said file course
     ++ (flat_map (row_facts columns (end_of course)) (rows_of said course) ++ Number (end_of course) ∷ [])

@@ -8,7 +8,7 @@
 //! alone. Ticks are milliseconds.
 //!
 //! ```text
-//! race 1, line 1: connected by IPv4 (198.51.100.1) in 340 ms
+//! race 1 (line 1): connected by IPv4 (198.51.100.1) in 340 ms
 //! AAAA answer   |      o                                 | 60 ms, 1 usable
 //! A answer      |  o~~~~                                 | 25-60 ms wait, 1 usable
 //! 2001:db8:1::1 |      =====================x            | 60-240 ms failed
@@ -42,7 +42,7 @@ pub mod svg;
 pub mod totals;
 mod words;
 
-pub use look::Look;
+pub use look::{Look, Screen};
 pub use page::{write_head, write_name, write_tail};
 pub use picture::write_picture;
 pub use rows::{Row, What, collect_rows};

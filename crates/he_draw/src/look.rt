@@ -11,6 +11,13 @@ pub enum Look {
     Unicode,
 }
 
+/// The screen of a picture: its characters, and the number of its columns.
+#[derive(Clone, Copy, Debug, PartialEq, Eq)]
+pub struct Screen {
+    pub look: Look,
+    pub width: u16,
+}
+
 /// A sign of a row, once and eight times.
 pub(crate) type Run = (&'static [u8], &'static [u8]);
 

@@ -11,8 +11,9 @@ use he_print::write_parts;
 use std::alloc::Allocator;
 
 // The beginning of a page, up to its first text. Totals are known last but shown first, and races are written as they
-// come but shown by their end: `order` sorts them. Bars are as long as their ticks, on the scale of the longest race,
-// or on their race's own.
+// come but shown by their end: `order` sorts them. Bars are as long as their ticks, on one scale for all races, by whose
+// end 99 of 100 have ended, or on their race's own. A bar that goes on after the end of its scale is cut there, and
+// ends in dots.
 const HEAD: &[u8] = b"<!DOCTYPE html>\n<html lang='en'>\n<head>\n<meta charset='utf-8'>\n\
 <meta name='viewport' content='width=device-width,initial-scale=1'>\n<title>Races</title>\n<style>\n\
 :root{color-scheme:light dark;--bg:#fff;--fg:#222;--dim:#666;--line:#ddd;--won:#171;--failed:#b22;--stopped:#767676;\
@@ -40,8 +41,10 @@ font:.85rem ui-monospace,monospace}\n\
 section div span{overflow-wrap:anywhere}\n\
 section p{position:relative;height:.8rem;margin:0;background:linear-gradient(var(--line),var(--line)) center/100% 1px \
 no-repeat}\n\
-section i{position:absolute;top:0;bottom:0;min-width:2px;border-radius:2px;left:calc(100%*var(--s)/var(--e));\
-width:calc(100%*var(--l)/var(--e))}\n\
+section i{position:absolute;top:0;bottom:0;box-sizing:border-box;min-width:2px;border-radius:2px;\
+left:calc(100%*min(var(--s),var(--e))/var(--e));\
+width:calc(100%*(min(var(--s) + var(--l),var(--e)) - min(var(--s),var(--e)))/var(--e));\
+border-right:calc(8px*clamp(0,var(--s) + var(--l,0) - var(--e),1)) dotted var(--bg)}\n\
 section .dot{width:6px;margin-left:-3px}\n\
 .won{background:var(--won)}.failed,.silent{background:var(--failed)}.stopped{background:var(--stopped)}\
 .dot{background:var(--dot)}\n\
@@ -49,6 +52,7 @@ section .dot{width:6px;margin-left:-3px}\n\
 .pause{background:repeating-linear-gradient(45deg,var(--dim) 0 1px,transparent 1px 4px)}\n\
 summary{margin-top:.3rem;color:var(--dim);font-size:.85rem;cursor:pointer}\n\
 pre{font-size:.78rem;white-space:pre-wrap;overflow-wrap:anywhere}\n\
+@media(max-width:64rem){section div{grid-template-columns:10rem 1fr 11rem}}\n\
 @media(max-width:48rem){section div{grid-template-columns:1fr auto;gap:.1rem .6rem;margin:.35rem 0}\
 section p{grid-column:1/3;grid-row:2}small{font-size:.78rem}}\n\
 @media print{nav label{display:none}section{content-visibility:visible;break-inside:avoid}i{print-color-adjust:exact}}\n\

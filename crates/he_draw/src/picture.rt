@@ -3,11 +3,12 @@
 ghost use Rattle.std.specs.Prelude.{ℕ, ◌≡◌, ◌≤◌, ◌++◌, ◌∷◌, [], OnOk, OnErr, IfOk};
 ghost use Rattle.he_print.specs.Parts.{States};
 ghost use Rattle.he_print.specs.declared.part.Fact.TheVariants.{Number};
+ghost use Rattle.he_story.specs.Story.{name_of};
 ghost use Rattle.he_draw.specs.Picture.{Prints, picture_facts, told};
 
 use crate::drawing::{blank, push_rows};
 use crate::frame::{Frame, LEAST_COLUMNS, frame_of};
-use crate::look::Look;
+use crate::look::Screen;
 use crate::rows::collect_rows;
 use he_addr::Memory;
 use he_course::Course;
@@ -18,20 +19,21 @@ use std::alloc::Allocator;
 
 /// Appends the picture of the race: the first line of its story, without the time that it lost; a row for each answer,
 /// each pause that begins before the end, and each attempt by place, with a bar from its start to its end and these
-/// ticks, in milliseconds; the scale; and an empty line. Lines are `width` columns wide, or wider if that leaves fewer
-/// than ten for the bars. After `Memory` the vector is unchanged.
+/// ticks, in milliseconds; the scale; and an empty line. Lines are as wide as the screen, or wider if that leaves fewer
+/// than ten columns for the bars. `file` is the name of the race's file for the first line, if there is one. After
+/// `Memory` the vector is unchanged.
 pub fn write_picture<A: Allocator + Copy, B: Allocator, C: Allocator>(
+    file: Option<&str>,
     course: &Course<B>,
     recorded: &Record<'_, C>,
-    look: Look,
-    width: u16,
+    screen: Screen,
     out: &mut Vec<u8, A>,
 ) -> Result<(), Memory>
     ensures ok { OnOk result ((columns : ℕ) × (LEAST_COLUMNS ≤ columns)
-        × Prints (picture_facts columns recorded.now course.now) out.old.items out.new.items) }
+        × Prints (picture_facts columns recorded.now (name_of file.entry) course.now) out.old.items out.new.items) }
     ensures err { OnErr result (out.new.items ≡ out.old.items) }
 {
-    let text = picture(*out.allocator(), course, recorded, look, width)?;
+    let text = picture(*out.allocator(), file, course, recorded, screen)?;
     out.extend_from_slice(&text)
 }
 
@@ -39,17 +41,17 @@ pub fn write_picture<A: Allocator + Copy, B: Allocator, C: Allocator>(
 #[tactic(auto, unfolding(crate::specs::Picture::picture_facts))]
 fn picture<A: Allocator + Copy, B: Allocator, C: Allocator>(
     alloc: A,
+    file: Option<&str>,
     course: &Course<B>,
     recorded: &Record<'_, C>,
-    look: Look,
-    width: u16,
+    screen: Screen,
 ) -> Result<Vec<u8, A>, Memory>
     ensures { IfOk result (λ text. (columns : ℕ) × (LEAST_COLUMNS ≤ columns)
-        × States (picture_facts columns recorded.now course.now) text.items) }
+        × States (picture_facts columns recorded.now (name_of file.entry) course.now) text.items) }
 {
     let rows = collect_rows(alloc, course, recorded)?;
-    let (frame, labels) = frame_of(alloc, look, width, course.end(), &rows)?;
-    let mut parts = heading_parts(alloc, course, recorded)?;
+    let (frame, labels) = frame_of(alloc, screen.look, screen.width, course.end(), &rows)?;
+    let mut parts = heading_parts(alloc, file, course, recorded)?;
     push_parts(&[Part::Words(b"\n")], &mut parts)?;
     push_rows(frame, &labels, &rows, &mut parts)?;
     push_scale(frame, &mut parts)?;

@@ -1,6 +1,6 @@
 // A race's part of a page.
 
-ghost use Rattle.std.specs.Prelude.{◌≡◌, ◌++◌, [], IfOk, OnOk};
+ghost use Rattle.std.specs.Prelude.{◌≡◌, ◌++◌, [], None, IfOk, OnOk};
 ghost use Rattle.std.specs.List.{flat_map};
 ghost use Rattle.he_print.specs.Parts.{States, fact_of};
 ghost use Rattle.he_story.specs.Story.{Tells, race_facts};
@@ -45,9 +45,9 @@ fn heading<A: Allocator + Copy, B: Allocator, C: Allocator>(
     course: &Course<B>,
     recorded: &Record<'_, C>,
 ) -> Result<Vec<u8, A>, Memory>
-    ensures { IfOk result (λ heading. States (race_facts recorded.now course.now) heading.items) }
+    ensures { IfOk result (λ heading. States (race_facts recorded.now None course.now) heading.items) }
 {
-    let parts = heading_parts(alloc, course, recorded)?;
+    let parts = heading_parts(alloc, None, course, recorded)?;
     let mut heading = Vec::new(alloc);
     write_parts(&parts, &mut heading)?;
     Ok(heading)
@@ -58,10 +58,10 @@ fn story<A: Allocator + Copy, B: Allocator, C: Allocator>(
     course: &Course<B>,
     recorded: &Record<'_, C>,
 ) -> Result<Vec<u8, A>, Memory>
-    ensures { IfOk result (λ story. Tells recorded.now course.now [] story.items) }
+    ensures { IfOk result (λ story. Tells recorded.now None course.now [] story.items) }
 {
     let mut story = Vec::new(alloc);
-    write_story(alloc, course, recorded, &mut story)?;
+    write_story(alloc, None, course, recorded, &mut story)?;
     Ok(story)
 }
 

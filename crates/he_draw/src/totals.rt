@@ -2,7 +2,8 @@
 
 ghost use Rattle.std.specs.Prelude.{◌≡◌, ◌++◌, OnOk};
 ghost use Rattle.he_draw.specs.Picture.{told};
-ghost use Rattle.he_draw.specs.Page.{count_facts, times_facts, totals_facts};
+ghost use Rattle.he_draw.specs.Page.{count_facts, scale_facts, times_facts, totals_facts};
+ghost use Rattle.he_draw.specs.declared.totals.Counted.TheVariants.{Longest};
 
 use he_addr::Memory;
 use he_print::{Part, push_parts};
@@ -21,8 +22,11 @@ pub struct Totals {
     /// The times to connect of the races that were won, if any.
     pub times: Option<Times>,
 
-    /// The tick at which the longest race ends.
+    /// The tick by which 99 of 100 races end, at which their scale ends.
     pub end: u64,
+
+    /// The tick at which the longest race ends.
+    pub longest: u64,
 }
 
 /// The least milliseconds within which 50, 90 and 99 of 100 connect.
@@ -44,6 +48,7 @@ pub enum Counted {
     ByV4,
     NotWon,
     End,
+    Longest,
 }
 
 /// Totals, as the heading of a page, shown first wherever it is written.
@@ -95,15 +100,7 @@ pub(crate) fn push_totals<A: Allocator>(
         ),
         parts,
     )?;
-    push_parts(
-        &number(
-            Counted::End,
-            b"</p><p class='scale'>one scale for all races: 0 to ",
-            totals.end,
-        ),
-        parts,
-    )?;
-    push_parts(&[Part::Words(b" ms</p></header>\n")], parts)
+    push_scale(totals, parts)
 }
 
 fn push_times<A: Allocator>(
@@ -125,6 +122,37 @@ fn push_times<A: Allocator>(
     )?;
     push_parts(
         &count(Counted::P99, times.p99, b"</b> p99 ms</span>"),
+        parts,
+    )
+}
+
+// The end of the scale, and of the longest race where that is later.
+fn push_scale<A: Allocator>(totals: Totals, parts: &mut Vec<Part<Counted>, A>) -> Result<(), Memory>
+    ensures { OnOk result (told parts.new.items ≡ told parts.old.items ++ scale_facts totals) }
+{
+    push_parts(
+        &number(
+            Counted::End,
+            b"</p><p class='scale'>one scale for all races: 0 to ",
+            totals.end,
+        ),
+        parts,
+    )?;
+    if totals.longest != totals.end {
+        push_longest(totals.longest, parts)?;
+    }
+    push_parts(&[Part::Words(b" ms</p></header>\n")], parts)
+}
+
+fn push_longest<A: Allocator>(longest: u64, parts: &mut Vec<Part<Counted>, A>) -> Result<(), Memory>
+    ensures { OnOk result (told parts.new.items ≡ told parts.old.items ++ count_facts Longest longest) }
+{
+    push_parts(
+        &number(
+            Counted::Longest,
+            b" ms, by which 99 of 100 have ended; longer bars are cut and end in dots; the longest race took ",
+            longest,
+        ),
         parts,
     )
 }

@@ -1,6 +1,9 @@
+pub mod Check
 pub mod Ends
+pub mod Hosts
 pub mod Lines
 pub mod Lost
 pub mod Recorded
+pub mod Slow
 pub mod Story
 pub mod Why

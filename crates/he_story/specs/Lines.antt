@@ -1,12 +1,11 @@
 -- The lines of a story: a race's addresses in order of preference, and its events.
-use Rattle.std.specs.Prelude.{ℕ, ◌+◌, ◌-◌, ◌*◌, ◌^◌, ◌==◌, ◌&&◌, ◌++◌, if◌then◌else◌, Bool, true, false, List, [], ◌∷◌, filter, find, nat_le, nat_lt, option_map, slice_get, Option, Some, None}
+use Rattle.std.specs.Prelude.{ℕ, ◌+◌, ◌-◌, ◌==◌, ◌&&◌, ◌++◌, if◌then◌else◌, Bool, true, false, List, [], ◌∷◌, filter, find, nat_le, nat_lt, option_map, slice_get, Option, Some, None}
 use Rattle.std.specs.List.{flat_map}
 use Rattle.std.specs.Option.{option_map_or}
-use Rattle.he_addr.specs.Bits.{agrees}
 use Rattle.he_addr.specs.declared.ip.Family.{Family}
 use Rattle.he_addr.specs.declared.ip.Family.TheVariants as families
 use Rattle.he_addr.specs.declared.ip.Ip.{Ip}
-use Rattle.he_addr.specs.declared.ip.Ip.TheVariants.{V4, V6}
+use Rattle.he_addr.specs.Prefix.{PrefixBits}
 use Rattle.he_plan.specs.declared.transcript.Line.{Line}
 use Rattle.he_select.specs.declared.attributes.DestinationAttributes.{DestinationAttributes}
 use Rattle.he_select.specs.declared.deciding.DestinationRule.{DestinationRule}
@@ -30,6 +29,7 @@ use Rattle.he_record.specs.declared.reasons.LookupReason.{LookupReason}
 use Rattle.he_record.specs.Given.{end_given, lookup_given}
 use Rattle.he_record.specs.Said.{Said as RecordSaid}
 use Rattle.he_story.specs.Ends.{cut_at}
+use Rattle.he_story.specs.Hosts.{block_facts, prefixes_of}
 use Rattle.he_story.specs.Recorded.{because_facts, course_said, reason_at, say}
 use Rattle.he_story.specs.declared.happening.TheConstants.{LEAST_PAUSE}
 use Rattle.he_story.specs.declared.said.Said.{Said}
@@ -39,15 +39,6 @@ use Rattle.he_story.specs.declared.story.Story.{Story}
 -- the facts of the story so far
 abbrev pub told : {A : Type 0} → Story A → List (Fact Said)
 told story = flat_map fact_of story.parts.items
-
--- the block of an address, by its prefix: 64:ff9b::/96 (RFC 6052), 2002::/16 (RFC 3056), 2001::/32 (RFC 4380)
-abbrev pub block_facts : Ip → List (Fact Said)
-block_facts (V4 n) = []
-block_facts (V6 n) =
-    if agrees 128 n (0x64_ff9b * 2 ^ 96) 96 then say says.Nat64 []
-    else if agrees 128 n (0x2002 * 2 ^ 112) 16 then say says.SixToFour []
-    else if agrees 128 n (0x2001 * 2 ^ 112) 32 then say says.Teredo []
-    else []
 
 -- the source that the host uses for an address, or why it does not reach it: a route leads to it but it has no
 -- source, or no route does
@@ -84,25 +75,34 @@ reason_facts None rule later = []
 reason_facts (Some earlier) None later = []
 reason_facts (Some earlier) (Some rule) later = rule_facts rule (compared rule earlier later)
 
-abbrev pub address_facts : ℕ → Option DestinationAttributes → Preferred → List (Fact Said)
-address_facts number earlier address =
-    say says.Address (facts.Number number ∷ facts.Ip address.attributes.ip ∷ [])
-    ++ (block_facts address.attributes.ip
+-- an address after its number
+abbrev pub numbered : List (Fact Said) → Ip → List (Fact Said)
+numbered number ip = say says.Address (number ++ facts.Ip ip ∷ [])
+
+-- what is said after the address: which IPv4 host it is by one of these prefixes, its source, and why it comes after
+-- the one before it
+abbrev pub ranked_facts : List PrefixBits → Option DestinationAttributes → Preferred → List (Fact Said)
+ranked_facts prefixes earlier address =
+    block_facts prefixes address.attributes.ip
     ++ (reached_facts address.is_routed address.attributes.source
-    ++ reason_facts earlier address.rule address.attributes))
+    ++ reason_facts earlier address.rule address.attributes)
+
+abbrev pub address_facts : List PrefixBits → ℕ → Option DestinationAttributes → Preferred → List (Fact Said)
+address_facts prefixes number earlier address =
+    numbered (facts.Number number ∷ []) address.attributes.ip ++ ranked_facts prefixes earlier address
 
 -- addresses, the first of them with this number, given the one before it
-abbrev pub address_lines : ℕ → Option DestinationAttributes → List Preferred → List (Fact Said)
-address_lines number earlier [] = []
-address_lines number earlier (first ∷ more) =
-    address_facts number earlier first ++ address_lines (number + 1) (Some first.attributes) more
+abbrev pub address_lines : List PrefixBits → ℕ → Option DestinationAttributes → List Preferred → List (Fact Said)
+address_lines prefixes number earlier [] = []
+address_lines prefixes number earlier (first ∷ more) =
+    address_facts prefixes number earlier first ++ address_lines prefixes (number + 1) (Some first.attributes) more
 
 abbrev pub title_facts : List Preferred → List (Fact Said)
 title_facts [] = say says.NoAddress []
 title_facts (first ∷ more) = say says.Preferred []
 
-abbrev pub preferred_facts : List Preferred → List (Fact Said)
-preferred_facts addresses = title_facts addresses ++ address_lines 1 None addresses
+abbrev pub preferred_facts : List RecordSaid → List Preferred → List (Fact Said)
+preferred_facts said addresses = title_facts addresses ++ address_lines (prefixes_of said) 1 None addresses
 
 -- a pause that is too short for a line
 abbrev pub is_short : ℕ → EventKind → Bool

@@ -10,13 +10,15 @@ use Rattle.he_course.specs.declared.course.Course.{Course}
 use Rattle.he_print.specs.declared.part.Fact.{Fact}
 use Rattle.he_print.specs.declared.part.Fact.TheVariants as facts
 use Rattle.he_record.specs.Said.{Said as RecordSaid}
+use Rattle.he_story.specs.Check.{check_facts}
 use Rattle.he_story.specs.Ends.{end_said}
 use Rattle.he_story.specs.Recorded.{say}
+use Rattle.he_story.specs.Slow.{are_names_slow}
 use Rattle.he_story.specs.Why.{server_facts}
 use Rattle.he_story.specs.declared.said.Said.{Said}
 use Rattle.he_story.specs.declared.said.Said.TheVariants as says
 use Rattle.he_story.specs.declared.verdict.Charge.{Charge}
-use Rattle.he_story.specs.declared.verdict.TheConstants.{MAX_NAMED, SLOW_NAMES}
+use Rattle.he_story.specs.declared.verdict.TheConstants.{MAX_NAMED}
 
 -- how many ticks the attempt of this place owns
 abbrev pub ticks_of : {A : Type 0} → Course A → ℕ → ℕ
@@ -43,10 +45,6 @@ rest_facts lost nobody =
     else if nobody == lost then say says.LostAlone []
     else say says.LostRest (facts.Number nobody ∷ [])
 
--- the names took more than this number of milliseconds, and more than half of the race
-abbrev pub are_names_slow : Times → Bool
-are_names_slow times = nat_lt SLOW_NAMES times.names && nat_lt (times.all - times.names) times.names
-
 -- of a race with attempts; with the name servers that were given up
 abbrev pub names_facts : List RecordSaid → ℕ → Times → List (Fact Said)
 names_facts said attempts times =
@@ -72,6 +70,14 @@ abbrev pub if_charged : Option Charge → List Charge
 if_charged None = []
 if_charged (Some charge) = charge ∷ []
 
+-- the time that was lost, where these attempts own ticks
+abbrev pub lost_facts : {A : Type 0} → List Charge → Course A → List (Fact Said)
+lost_facts charges course =
+    if course.account.lost == 0
+    then nothing_facts (are_names_slow (course_times course) || length course.transcript.lines == 0)
+    else say says.Lost (facts.Number course.account.lost ∷ [])
+    ++ (each_facts course.account.lost charges ++ rest_facts course.account.lost course.account.nobody)
+
 module _ {A : Type 0} (said : List RecordSaid) (course : Course A) where
   -- the attempt of a line, if it owns ticks
   abbrev pub charge_of : Line → Option Charge
@@ -86,13 +92,8 @@ module _ {A : Type 0} (said : List RecordSaid) (course : Course A) where
   abbrev pub charges_of : List Line → List Charge
   charges_of lines = flat_map (λ line. if_charged (charge_of line)) lines
 
-  abbrev pub lost_facts : List (Fact Said)
-  lost_facts =
-      if course.account.lost == 0
-      then nothing_facts (are_names_slow (course_times course) || length course.transcript.lines == 0)
-      else say says.Lost (facts.Number course.account.lost ∷ [])
-      ++ (each_facts course.account.lost (charges_of course.transcript.lines)
-      ++ rest_facts course.account.lost course.account.nobody)
-
   abbrev pub verdict_facts : List (Fact Said)
-  verdict_facts = lost_facts ++ (names_facts said (length course.transcript.lines) (course_times course) ++ times_facts (course_times course))
+  verdict_facts =
+      lost_facts (charges_of course.transcript.lines) course
+      ++ (names_facts said (length course.transcript.lines) (course_times course)
+      ++ (check_facts said (charges_of course.transcript.lines) course ++ times_facts (course_times course)))

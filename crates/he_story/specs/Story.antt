@@ -1,5 +1,6 @@
 -- The story of a race, for a person to read.
-use Rattle.std.specs.Prelude.{ℕ, ◌≡◌, ◌-◌, ◌==◌, ◌++◌, if◌then◌else◌, List, [], ◌∷◌, find, nat_lt, Option, Some, None}
+use Rattle.std.specs.Prelude.{ℕ, ◌≡◌, ◌-◌, ◌==◌, ◌++◌, if◌then◌else◌, Bool, true, false, List, [], ◌∷◌, find, nat_lt, Option, Some, None, option_map}
+use Rattle.std.specs.Borrow.{Bor}
 use Rattle.std.specs.List.{flat_map}
 use Rattle.he_addr.specs.declared.ip.Family.{Family}
 use Rattle.he_addr.specs.declared.ip.Family.TheVariants as families
@@ -17,12 +18,12 @@ use Rattle.he_course.specs.declared.floor.Ended.{Ended}
 use Rattle.he_print.specs.Parts.{States}
 use Rattle.he_print.specs.declared.part.Fact.{Fact}
 use Rattle.he_print.specs.declared.part.Fact.TheVariants as facts
-use Rattle.he_record.specs.Given.{end_given}
+use Rattle.he_record.specs.Given.{at_given, end_given, from_given, to_given}
 use Rattle.he_record.specs.Said.{Said as RecordSaid}
 use Rattle.he_story.specs.Lines.{happening_facts, preferred_facts}
 use Rattle.he_story.specs.Lost.{verdict_facts}
 use Rattle.he_story.specs.Why.{ended_with}
-use Rattle.he_story.specs.Recorded.{client_facts, named_facts, note_facts, say, unseen_reason, why_facts}
+use Rattle.he_story.specs.Recorded.{byte_facts, client_facts, named_facts, note_facts, say, unseen_reason, why_facts}
 use Rattle.he_story.specs.declared.said.Said.{Said}
 use Rattle.he_story.specs.declared.said.Said.TheVariants as says
 
@@ -37,20 +38,46 @@ ended_by winner attempts (results.Limit tick) = say says.LimitReached (facts.Num
 abbrev pub ending_facts : Ended → List (Fact Said)
 ending_facts ended = ended_by ended.winner ended.attempts ended.result
 
+-- the record says for whom, where or when the race was recorded
+abbrev pub is_named_by : {X Y Z : Type 0} → Option X → Option Y → Option Z → Bool
+is_named_by None None None = false
+is_named_by _ _ _ = true
+
+abbrev pub is_named : List RecordSaid → Bool
+is_named said = is_named_by (to_given said) (from_given said) (at_given said)
+
+-- the name of a race's file, if it has one
+abbrev pub name_of : Option (Bor (List ℕ)) → Option (List ℕ)
+name_of file = option_map (λ name. name.now) file
+
+abbrev pub file_facts : List ℕ → List (Fact Said)
+file_facts name = say says.File (byte_facts name)
+
 -- the number of the race in its input, and its first line
-abbrev pub place_facts : ℕ → ℕ → List (Fact Said)
-place_facts number line = say says.Race (facts.Number number ∷ facts.Number line ∷ [])
+abbrev pub number_facts : ℕ → ℕ → List (Fact Said)
+number_facts number line = say says.Race (facts.Number number ∷ facts.Number line ∷ [])
 
--- the race, the recorded client's own result, and how the race ended
+-- the place of a race: its file, if it has one, its number and its line. A race without a file whose record names it
+-- is known by these names alone
+abbrev pub place_facts : Bool → Option (List ℕ) → ℕ → ℕ → List (Fact Said)
+place_facts true None number line = []
+place_facts false None number line = number_facts number line
+place_facts named (Some name) number line = file_facts name ++ number_facts number line
+
+-- the recorded client's own result, and how the race ended
+abbrev pub result_facts : {A : Type 0} → List RecordSaid → Course A → List (Fact Said)
+result_facts said course =
+    client_facts (end_given said)
+    ++ ended_with said course.transcript.lines course.ended.winner course.ended.result
+
+-- and before that its number and its line
 abbrev pub outcome_facts : {A : Type 0} → List RecordSaid → Course A → List (Fact Said)
-outcome_facts said course =
-    place_facts course.number course.line
-    ++ (client_facts (end_given said)
-    ++ ended_with said course.transcript.lines course.ended.winner course.ended.result)
+outcome_facts said course = place_facts false None course.number course.line ++ result_facts said course
 
--- and before that its record's host, client and time
-abbrev pub race_facts : {A : Type 0} → List RecordSaid → Course A → List (Fact Said)
-race_facts said course = named_facts said ++ outcome_facts said course
+-- or its record's host, client and time, and its place, in the file of this name, if there is one
+abbrev pub race_facts : {A : Type 0} → List RecordSaid → Option (List ℕ) → Course A → List (Fact Said)
+race_facts said file course =
+    named_facts said ++ (place_facts (is_named said) file course.number course.line ++ result_facts said course)
 
 -- the first attempt at an address of the family
 abbrev pub first_of : Family → List Line → Option Line
@@ -79,10 +106,6 @@ sooner_facts None = []
 sooner_facts (Some ended) = say says.WithFloor (facts.Number MIN_FLOOR ∷ []) ++ ending_facts ended
 
 module _ {A : Type 0} (said : List RecordSaid) (course : Course A) where
-  -- the race, how it ended, the time that it lost, and where its time went
-  abbrev pub heading_facts : List (Fact Said)
-  heading_facts = race_facts said course ++ verdict_facts said course
-
   abbrev pub answer_facts : Family → List (Fact Said)
   answer_facts family =
       answered_by (end_event course.transcript.result).tick course.transcript.lines family (answer_of course family)
@@ -93,12 +116,17 @@ module _ {A : Type 0} (said : List RecordSaid) (course : Course A) where
   abbrev pub closing_facts : List (Fact Said)
   closing_facts = answer_facts families.V6 ++ (answer_facts families.V4 ++ flat_map note_facts said)
 
-  abbrev pub story_facts : List (Fact Said)
-  story_facts =
-      heading_facts
-      ++ (preferred_facts course.addresses.items
-      ++ (happening_facts said course ++ (closing_facts ++ (sooner_facts course.sooner ++ say says.End []))))
+-- the race, how it ended, the time that it lost, and where its time went
+abbrev pub heading_facts : {A : Type 0} → List RecordSaid → Option (List ℕ) → Course A → List (Fact Said)
+heading_facts said file course = race_facts said file course ++ verdict_facts said course
 
-  -- a text that states these facts has been appended
-  abbrev pub Tells : List ℕ → List ℕ → Type 0
-  Tells old new = (text : List ℕ) × States story_facts text × (new ≡ old ++ text)
+-- the story of a race in the file of this name, if it has one
+abbrev pub story_facts : {A : Type 0} → List RecordSaid → Option (List ℕ) → Course A → List (Fact Said)
+story_facts said file course =
+    heading_facts said file course
+    ++ (preferred_facts said course.addresses.items
+    ++ (happening_facts said course ++ (closing_facts said course ++ (sooner_facts course.sooner ++ say says.End []))))
+
+-- a text that states these facts has been appended
+abbrev pub Tells : {A : Type 0} → List RecordSaid → Option (List ℕ) → Course A → List ℕ → List ℕ → Type 0
+Tells said file course old new = (text : List ℕ) × States (story_facts said file course) text × (new ≡ old ++ text)

@@ -1,5 +1,5 @@
 -- Why a race did not connect, by its attempts and its record.
-use Rattle.std.specs.Prelude.{ℕ, ◌==◌, ◌++◌, if◌then◌else◌, Bool, true, false, List, [], ◌∷◌, count_by, length, Option, Some, None}
+use Rattle.std.specs.Prelude.{ℕ, ◌==◌, ◌++◌, if◌then◌else◌, Bool, true, false, List, [], ◌∷◌, count_by, length, nat_le, Option, Some, None}
 use Rattle.std.specs.List.{flat_map, list_all, list_any}
 use Rattle.he_addr.specs.declared.ip.Family.TheVariants as families
 use Rattle.he_plan.specs.declared.transcript.Line.{Line}
@@ -57,11 +57,21 @@ failed_count lines = count_by (λ (line : Line). is_failed line.mark) lines
 abbrev pub have_untried : List RecordSaid → List Line → Bool
 have_untried said lines = list_any (λ (line : Line). is_untried_given line.ip said) lines
 
--- why the name has no address, if the record has a reason for each family: that of AAAA, unless it
--- was not asked
+-- which of two reasons says more: first that a look-up failed, then that IPv4 hosts are reached only through a NAT64,
+-- that there is no such name, that it has no address, and that it was not asked for
+abbrev pub rank_of : LookupReason → ℕ
+rank_of lookups.NoAnswer = 0
+rank_of lookups.Refused = 1
+rank_of lookups.Failed = 2
+rank_of lookups.Malformed = 3
+rank_of lookups.Nat64 = 4
+rank_of lookups.NoSuchName = 5
+rank_of lookups.NoAddress = 6
+rank_of lookups.NotAsked = 7
+
+-- why the name has no address, if the record has a reason for each family
 abbrev pub reason_of_both : Option LookupReason → Option LookupReason → Option LookupReason
-reason_of_both (Some lookups.NotAsked) (Some other) = Some other
-reason_of_both (Some reason) (Some other) = Some reason
+reason_of_both (Some aaaa) (Some a) = if nat_le (rank_of aaaa) (rank_of a) then Some aaaa else Some a
 reason_of_both _ _ = None
 
 -- the name servers that were given up

@@ -8,7 +8,7 @@ ghost use Rattle.he_story.specs.Story.{answer_facts, answered_by, closing_facts,
 use crate::recorded::unseen_reason;
 use crate::said::Said;
 use crate::story::Story;
-use crate::words::name_of;
+use crate::words::{name_of, version_of};
 use he_addr::{Family, Memory};
 use he_course::{Course, Ended, Seen};
 use he_plan::Line;
@@ -34,16 +34,14 @@ impl<A: Allocator> Story<A> {
     fn tell_gap(&mut self, family: Family, seen: u64, first: Option<Line>) -> Result<(), Memory>
         ensures { OnOk result (told self.new ≡ told self.old ++ gap_facts family seen first) }
     {
-        let name = Part::Words(name_of(family));
         match first {
             Some(line) if seen < line.tick => {
-                self.tell(
-                    Said::Passed(family),
-                    &[Part::Number(line.tick - seen), name],
-                )
+                let version = Part::Words(version_of(family));
+                let passed = Part::Number(line.tick - seen);
+                self.tell(Said::Passed(family), &[version, passed])
             }
             Some(_) => Ok(()),
-            None => self.tell(Said::Untried(family), &[name]),
+            None => self.tell(Said::Untried(family), &[Part::Words(name_of(family))]),
         }
     }
 

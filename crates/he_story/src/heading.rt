@@ -4,7 +4,7 @@ ghost use Rattle.std.specs.Prelude.{◌≡◌, ◌++◌, IfOk, OnOk};
 ghost use Rattle.std.specs.List.{flat_map};
 ghost use Rattle.he_print.specs.Parts.{fact_of};
 ghost use Rattle.he_story.specs.Lines.{told};
-ghost use Rattle.he_story.specs.Story.{ending_facts, heading_facts, outcome_facts, place_facts, race_facts};
+ghost use Rattle.he_story.specs.Story.{ending_facts, file_facts, heading_facts, is_named, name_of, number_facts, outcome_facts, place_facts, race_facts, result_facts};
 
 use crate::said::Said;
 use crate::story::Story;
@@ -40,87 +40,135 @@ impl<A: Allocator> Story<A> {
         }
     }
 
-    // The race, after a gap, and how it ended.
+    // The race, and how it ended.
     fn tell_race<B: Allocator, C: Allocator>(
         &mut self,
-        gap: &'static [u8],
+        file: Option<&str>,
         course: &Course<B>,
         recorded: &Record<'_, C>,
     ) -> Result<(), Memory>
-        ensures { OnOk result (told self.new ≡ told self.old ++ race_facts recorded.now course.now) }
+        ensures { OnOk result (told self.new ≡ told self.old
+            ++ race_facts recorded.now (name_of file.entry) course.now) }
     {
-        push_parts(&[Part::Words(gap)], &mut self.parts)?;
-        let first = self.parts.len();
         self.tell_named(recorded)?;
-        let is_named = self.parts.len() != first;
-        self.tell_outcome(is_named, course, recorded)
+        self.tell_place(is_named(recorded), file, course.number, course.line)?;
+        self.tell_outcome(course, recorded)
     }
 
-    // The race, its client's own result, and how it ended.
+    // The recorded client's own result, and how the race ended.
     fn tell_outcome<B: Allocator, C: Allocator>(
         &mut self,
-        is_named: bool,
         course: &Course<B>,
         recorded: &Record<'_, C>,
     ) -> Result<(), Memory>
-        ensures { OnOk result (told self.new ≡ told self.old ++ outcome_facts recorded.now course.now) }
+        ensures { OnOk result (told self.new ≡ told self.old ++ result_facts recorded.now course.now) }
     {
-        self.tell_place(is_named, course.number, course.line)?;
         self.tell_client(recorded.end())?;
         self.tell_result(recorded, course.transcript.attempts(), course.ended)
     }
 
-    // The number of the race and its line, in brackets after its record's names.
-    fn tell_place(&mut self, is_named: bool, number: usize, line: u64) -> Result<(), Memory>
-        ensures { OnOk result (told self.new ≡ told self.old ++ place_facts number line) }
+    // The place of a race: after its record's names in brackets, if a file is named.
+    fn tell_place(
+        &mut self,
+        is_named: bool,
+        file: Option<&str>,
+        number: usize,
+        line: u64,
+    ) -> Result<(), Memory>
+        ensures { OnOk result (told self.new ≡ told self.old
+            ++ place_facts is_named (name_of file.entry) number line) }
     {
-        let number = Part::Number(number as u64);
-        let (opening, closing) = around(is_named);
-        let (opening, closing) = (Part::Words(opening), Part::Words(closing));
-        self.tell(Said::Race, &[opening, number, Part::Number(line), closing])
+        match file {
+            None if is_named => push_parts(&[Part::Words(b": ")], &mut self.parts),
+            None => self.tell_number((b"", b" (line ", b"): "), number, line),
+            Some(name) if is_named => {
+                self.tell_file(b" (", name)?;
+                self.tell_number((b", ", b", line ", b"): "), number, line)
+            }
+            Some(name) => {
+                self.tell_file(b"", name)?;
+                self.tell_number((b", ", b" (line ", b"): "), number, line)
+            }
+        }
     }
 
+    // The name of the file, after these words.
+    fn tell_file(&mut self, before: &'static [u8], name: &str) -> Result<(), Memory>
+        ensures { OnOk result (told self.new ≡ told self.old ++ file_facts name.now) }
+    {
+        push_parts(&[Part::Says(Said::File, before)], &mut self.parts)?;
+        self.tell_bytes(name.as_bytes())
+    }
+
+    // The number of the race and its line, with the words before, between and after them.
+    fn tell_number(&mut self, words: PlaceWords, number: usize, line: u64) -> Result<(), Memory>
+        ensures { OnOk result (told self.new ≡ told self.old ++ number_facts number line) }
+    {
+        let (before, between, after) = words;
+        push_parts(&[Part::Words(before)], &mut self.parts)?;
+        let number = Part::Number(number as u64);
+        let (between, after) = (Part::Words(between), Part::Words(after));
+        self.tell(Said::Race, &[number, between, Part::Number(line), after])
+    }
+}
+
+impl<A: Allocator + Copy> Story<A> {
     // A blank line comes first, unless it is the first race.
     pub(crate) fn tell_heading<B: Allocator, C: Allocator>(
         &mut self,
         alloc: A,
+        file: Option<&str>,
         course: &Course<B>,
         recorded: &Record<'_, C>,
     ) -> Result<(), Memory>
-        ensures { OnOk result (told self.new ≡ told self.old ++ heading_facts recorded.now course.now) }
+        ensures { OnOk result (told self.new ≡ told self.old
+            ++ heading_facts recorded.now (name_of file.entry) course.now) }
     {
-        self.tell_race(noun(course.number, b"", b"\n"), course, recorded)?;
+        let gap = Part::Words(noun(course.number, b"", b"\n"));
+        push_parts(&[gap], &mut self.parts)?;
+        self.tell_race(file, course, recorded)?;
         self.tell_verdict(alloc, course, recorded)
     }
 }
 
-// The words around the place of a race.
-fn around(is_named: bool) -> (&'static [u8], &'static [u8]) {
-    if is_named { (b" (", b")") } else { (b"", b"") }
+// The words before the number of a race, between it and its line, and after that.
+type PlaceWords = (&'static [u8], &'static [u8], &'static [u8]);
+
+// Whether the record says for whom, where or when the race was recorded.
+fn is_named<A: Allocator>(recorded: &Record<'_, A>) -> bool
+    ensures { result ≡ is_named recorded.now }
+{
+    match (recorded.to(), recorded.from(), recorded.at()) {
+        (None, None, None) => false,
+        _ => true,
+    }
 }
 
 /// The race and how it ended, in the words of a story, for other printers: with the host, the client and the time of
-/// its record. The bytes of the host are unescaped.
+/// its record, and its place in the file of this name, if there is one. The bytes of the host and the name are
+/// unescaped.
 ///
 /// # Errors
 ///
 /// `Memory` if an allocation was refused.
 pub fn heading_parts<A: Allocator, B: Allocator, C: Allocator>(
     alloc: A,
+    file: Option<&str>,
     course: &Course<B>,
     recorded: &Record<'_, C>,
 ) -> Result<Vec<Part<Said>, A>, Memory>
-    ensures { IfOk result (λ parts. flat_map fact_of parts.items ≡ race_facts recorded.now course.now) }
+    ensures { IfOk result (λ parts. flat_map fact_of parts.items
+        ≡ race_facts recorded.now (name_of file.entry) course.now) }
 {
     let mut story = Story {
         parts: Vec::new(alloc),
     };
-    story.tell_race(b"", course, recorded)?;
+    story.tell_race(file, course, recorded)?;
     let Story { parts } = story;
     Ok(parts)
 }
 
-/// As [`heading_parts`], without the host, the client and the time: no byte of it comes from the race's text.
+/// As [`heading_parts`], by its number and its line alone: no byte of it comes from the race's text.
 ///
 /// # Errors
 ///
@@ -135,7 +183,8 @@ pub fn outcome_parts<A: Allocator, B: Allocator, C: Allocator>(
     let mut story = Story {
         parts: Vec::new(alloc),
     };
-    story.tell_outcome(false, course, recorded)?;
+    story.tell_place(false, None, course.number, course.line)?;
+    story.tell_outcome(course, recorded)?;
     let Story { parts } = story;
     Ok(parts)
 }

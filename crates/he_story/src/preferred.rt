@@ -1,13 +1,17 @@
 // A race's addresses in order of preference, each with the reason that sorts it after the one before.
 
-ghost use Rattle.std.specs.Prelude.{◌≡◌, ◌++◌, None, OnOk};
-ghost use Rattle.he_story.specs.Lines.{address_facts, address_lines, block_facts, compared, preferred_facts, reached_facts, reason_facts, rule_facts, source_label, source_scope, title_facts, told};
+ghost use Rattle.std.specs.Prelude.{◌≡◌, ◌++◌, None, IfOk, OnOk};
+ghost use Rattle.he_print.specs.Parts.{fact_of};
+ghost use Rattle.he_story.specs.Hosts.{block_facts, extracted, host_by, host_facts, host_of, prefixes_of};
+ghost use Rattle.he_story.specs.Lines.{address_lines, compared, numbered, preferred_facts, ranked_facts, reached_facts, reason_facts, rule_facts, source_label, source_scope, title_facts, told};
 
 use crate::said::Said;
 use crate::story::Story;
-use he_addr::{Ip, Memory};
+use he_addr::{Ip, Memory, Prefix};
 use he_course::Preferred;
+use he_nat64::Prefix64;
 use he_print::Part;
+use he_record::Record;
 use he_select::{DestinationAttributes, DestinationRule};
 use itoa::Buffer;
 use std::alloc::Allocator;
@@ -61,16 +65,64 @@ fn compared(
     }
 }
 
+// The prefixes by which an address is an IPv4 host: those of the race's network, and the well-known one.
+fn prefixes_of<A: Allocator, B: Allocator>(
+    alloc: A,
+    recorded: &Record<'_, B>,
+) -> Result<Vec<Prefix, A>, Memory>
+    ensures { IfOk result (λ prefixes. prefixes.items ≡ prefixes_of recorded.now) }
+{
+    let mut prefixes = recorded.nat64(alloc)?;
+    prefixes.push(Prefix::new(0x64_ff9b << 96, 96))?;
+    Ok(prefixes)
+}
+
+// The IPv4 host of an address by the first prefix that has one.
+fn host_of(prefixes: &[Prefix], address: u128) -> Option<u32>
+    ensures { result ≡ host_of prefixes.now address }
+{
+    for prefix in prefixes {
+        if let Some(host) = host_by(*prefix, address) {
+            return Some(host);
+        }
+    }
+    None
+}
+
+fn host_by(prefix: Prefix, address: u128) -> Option<u32>
+    ensures { result ≡ host_by prefix address }
+{
+    match Prefix64::read(prefix) {
+        Some(prefix) => extract(prefix, address),
+        None => None,
+    }
+}
+
+fn extract(prefix: Prefix64, address: u128) -> Option<u32>
+    ensures { result ≡ extracted prefix address }
+{
+    prefix.extract(address)
+}
+
 impl<A: Allocator> Story<A> {
-    // The address block that the prefix of the address belongs to.
-    fn tell_block(&mut self, ip: Ip) -> Result<(), Memory>
-        ensures { OnOk result (told self.new ≡ told self.old ++ block_facts ip) }
+    // The IPv4 host that the address is by one of the prefixes, or the address block that it belongs to.
+    fn tell_block(&mut self, prefixes: &[Prefix], ip: Ip) -> Result<(), Memory>
+        ensures { OnOk result (told self.new ≡ told self.old ++ block_facts prefixes.now ip) }
     {
         match ip {
-            Ip::V6(number) if number >> 32 == 0x64_ff9b << 64 => self.tell(Said::Nat64, &[]),
-            Ip::V6(number) if number >> 112 == 0x2002 => self.tell(Said::SixToFour, &[]),
-            Ip::V6(number) if number >> 96 == 0x2001 << 16 => self.tell(Said::Teredo, &[]),
-            _ => Ok(()),
+            Ip::V4(_) => Ok(()),
+            Ip::V6(number) => self.tell_host(host_of(prefixes, number), number),
+        }
+    }
+
+    fn tell_host(&mut self, host: Option<u32>, number: u128) -> Result<(), Memory>
+        ensures { OnOk result (told self.new ≡ told self.old ++ host_facts host number) }
+    {
+        match host {
+            Some(host) => self.tell(Said::Nat64, &[Part::Ip(Ip::V4(host))]),
+            None if number >> 112 == 0x2002 => self.tell(Said::SixToFour, &[]),
+            None if number >> 96 == 0x2001 << 16 => self.tell(Said::Teredo, &[]),
+            None => Ok(()),
         }
     }
 
@@ -125,27 +177,30 @@ impl<A: Allocator> Story<A> {
 
     fn tell_address(
         &mut self,
-        width: usize,
-        number: u64,
+        number: Part<Said>,
+        prefixes: &[Prefix],
         earlier: Option<DestinationAttributes>,
         address: &Preferred,
     ) -> Result<(), Memory>
-        ensures { OnOk result (told self.new ≡ told self.old ++ address_facts number earlier address.now) }
+        ensures { OnOk result (told self.new ≡ told self.old
+            ++ (numbered (fact_of number) address.now.attributes.ip
+            ++ ranked_facts prefixes.now earlier address.now)) }
     {
         let ip = address.attributes.ip;
-        self.tell(Said::Address, &[Part::Aligned(width, number), Part::Ip(ip)])?;
-        self.tell_block(ip)?;
+        self.tell(Said::Address, &[number, Part::Ip(ip)])?;
+        self.tell_block(prefixes, ip)?;
         self.tell_reached(address)?;
         self.tell_reason(earlier, address)
     }
 
-    fn tell_addresses(&mut self, addresses: &[Preferred]) -> Result<(), Memory>
-        ensures { OnOk result (told self.new ≡ told self.old ++ address_lines 1 None addresses.now) }
+    fn tell_addresses(&mut self, prefixes: &[Prefix], addresses: &[Preferred]) -> Result<(), Memory>
+        ensures { OnOk result (told self.new ≡ told self.old ++ address_lines prefixes.now 1 None addresses.now) }
     {
         let width = width_of(addresses.len() as u64);
         let mut earlier = None;
         for (place, address) in addresses.iter().enumerate() {
-            self.tell_address(width, place as u64 + 1, earlier, address)?;
+            let number = Part::Aligned(width, place as u64 + 1);
+            self.tell_address(number, prefixes, earlier, address)?;
             earlier = Some(address.attributes);
         }
         Ok(())
@@ -162,10 +217,16 @@ impl<A: Allocator> Story<A> {
         }
     }
 
-    pub(crate) fn tell_preferred(&mut self, addresses: &[Preferred]) -> Result<(), Memory>
-        ensures { OnOk result (told self.new ≡ told self.old ++ preferred_facts addresses.now) }
+    pub(crate) fn tell_preferred<B: Allocator>(
+        &mut self,
+        alloc: A,
+        recorded: &Record<'_, B>,
+        addresses: &[Preferred],
+    ) -> Result<(), Memory>
+        ensures { OnOk result (told self.new ≡ told self.old ++ preferred_facts recorded.now addresses.now) }
     {
+        let prefixes = prefixes_of(alloc, recorded)?;
         self.tell_title(addresses)?;
-        self.tell_addresses(addresses)
+        self.tell_addresses(&prefixes, addresses)
     }
 }

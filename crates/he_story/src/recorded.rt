@@ -71,7 +71,7 @@ pub(crate) fn unseen_reason<A: Allocator>(
 }
 
 impl<A: Allocator> Story<A> {
-    fn tell_bytes(&mut self, bytes: &[u8]) -> Result<(), Memory>
+    pub(crate) fn tell_bytes(&mut self, bytes: &[u8]) -> Result<(), Memory>
         ensures { OnOk result (told self.new ≡ told self.old ++ byte_facts bytes.now) }
     {
         for byte in bytes {

@@ -16,7 +16,8 @@ pub enum Said {
     ClientGaveUp,
     ClientFailed,
     ByRules,
-    // The race, and how it ended.
+    // The race, by its file and its place in it, and how it ended.
+    File,
     Race,
     Connected,
     NothingLeft,
@@ -37,6 +38,11 @@ pub enum Said {
     LostAlone,
     LostRest,
     NamesSlow,
+    CheckPath,
+    CheckService,
+    CheckRoute,
+    CheckServer,
+    AtPort,
     TimeWent,
     MachineTook,
     UnknownTook,

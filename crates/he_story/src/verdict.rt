@@ -3,7 +3,8 @@
 ghost use Rattle.std.specs.Prelude.{◌≡◌, ◌==◌, ◌||◌, ◌++◌, length, IfOk, OnOk};
 ghost use Rattle.std.specs.List.{flat_map};
 ghost use Rattle.he_story.specs.Lines.{told};
-ghost use Rattle.he_story.specs.Lost.{are_names_slow, charge_facts, charge_of, charges_of, each_facts, lost_facts, more_facts, names_facts, nothing_facts, rest_facts, share_facts, ticks_of, times_facts, verdict_facts};
+ghost use Rattle.he_story.specs.Slow.{are_names_slow};
+ghost use Rattle.he_story.specs.Lost.{charge_facts, charge_of, charges_of, each_facts, lost_facts, more_facts, names_facts, nothing_facts, rest_facts, share_facts, ticks_of, times_facts, verdict_facts};
 
 use crate::ends::end_said;
 use crate::said::Said;
@@ -82,7 +83,7 @@ fn separator(is_first: bool) -> &'static [u8] {
 }
 
 // Whether the names took most of a race, and more than that.
-fn are_names_slow(times: Times) -> bool
+pub(crate) fn are_names_slow(times: Times) -> bool
     ensures { result ≡ are_names_slow times }
 {
     times.names > SLOW_NAMES && times.all.saturating_sub(times.names) < times.names
@@ -181,13 +182,13 @@ impl<A: Allocator> Story<A> {
         self.tell(Said::LostRest, &[Part::Number(nobody)])
     }
 
-    fn tell_lost<B: Allocator, C: Allocator>(
+    // The time that was lost, with the attempts that own some of it.
+    fn tell_lost<B: Allocator>(
         &mut self,
-        alloc: A,
         course: &Course<B>,
-        recorded: &Record<'_, C>,
+        charges: &[Charge],
     ) -> Result<(), Memory>
-        ensures { OnOk result (told self.new ≡ told self.old ++ lost_facts recorded.now course.now) }
+        ensures { OnOk result (told self.new ≡ told self.old ++ lost_facts charges.now course.now) }
     {
         let lost = course.account.lost;
         if lost == 0 {
@@ -196,9 +197,8 @@ impl<A: Allocator> Story<A> {
                 course.transcript.attempts(),
             ));
         }
-        let charges = charges(alloc, course, recorded, course.transcript.attempts())?;
         self.tell(Said::Lost, &[Part::Number(lost)])?;
-        self.tell_charges(lost, &charges)?;
+        self.tell_charges(lost, charges)?;
         self.tell_rest(lost, course.account.nobody)
     }
 
@@ -222,7 +222,9 @@ impl<A: Allocator> Story<A> {
         self.tell_share(Said::MachineTook, times.machine)?;
         self.tell_share(Said::UnknownTook, times.unknown)
     }
+}
 
+impl<A: Allocator + Copy> Story<A> {
     pub(crate) fn tell_verdict<B: Allocator, C: Allocator>(
         &mut self,
         alloc: A,
@@ -231,9 +233,11 @@ impl<A: Allocator> Story<A> {
     ) -> Result<(), Memory>
         ensures { OnOk result (told self.new ≡ told self.old ++ verdict_facts recorded.now course.now) }
     {
-        let times = course.times();
-        self.tell_lost(alloc, course, recorded)?;
-        self.tell_names(recorded, course.transcript.attempts().len(), times)?;
+        let (times, attempts) = (course.times(), course.transcript.attempts());
+        let charges = charges(alloc, course, recorded, attempts)?;
+        self.tell_lost(course, &charges)?;
+        self.tell_names(recorded, attempts.len(), times)?;
+        self.tell_check(alloc, course, recorded, &charges)?;
         self.tell_times(times)
     }
 }

@@ -4,7 +4,7 @@ ghost use Rattle.std.specs.Prelude.{◌≡◌, ◌++◌, map, OnOk};
 ghost use Rattle.std.specs.List.{flat_map};
 ghost use Rattle.he_record.specs.Left.{said_of};
 ghost use Rattle.he_story.specs.Lines.{told};
-ghost use Rattle.he_story.specs.Why.{all_have, common_reason, ended_with, exhausted_facts, failed_count, failed_facts, given_up_facts, have_untried, is_failed, limit_facts, none_facts, reason_of_all, reason_of_both, reason_place, same_reason, server_facts, unanswered_facts, unfound_facts, won_facts};
+ghost use Rattle.he_story.specs.Why.{all_have, common_reason, ended_with, exhausted_facts, failed_count, failed_facts, given_up_facts, have_untried, is_failed, limit_facts, none_facts, rank_of, reason_of_all, reason_of_both, reason_place, same_reason, server_facts, unanswered_facts, unfound_facts, won_facts};
 
 use crate::said::Said;
 use crate::story::Story;
@@ -100,13 +100,31 @@ fn have_untried<A: Allocator>(recorded: &Record<'_, A>, lines: &[Line]) -> bool
     lines.iter().any(|line| recorded.is_untried(line.ip))
 }
 
+// The rank of a reason: the first of two says why a name has no address.
+fn rank_of(reason: LookupReason) -> u8
+    ensures { result ≡ rank_of reason }
+{
+    match reason {
+        LookupReason::NoAnswer => 0,
+        LookupReason::Refused => 1,
+        LookupReason::Failed => 2,
+        LookupReason::Malformed => 3,
+        LookupReason::Nat64 => 4,
+        LookupReason::NoSuchName => 5,
+        LookupReason::NoAddress => 6,
+        LookupReason::NotAsked => 7,
+    }
+}
+
 // Why the name has no address, if there is a reason for each family.
-fn reason_of_both(aaaa: Option<LookupReason>, a: Option<LookupReason>) -> Option<LookupReason>
+pub(crate) fn reason_of_both(
+    aaaa: Option<LookupReason>,
+    a: Option<LookupReason>,
+) -> Option<LookupReason>
     ensures { result ≡ reason_of_both aaaa a }
 {
     match (aaaa, a) {
-        (Some(LookupReason::NotAsked), Some(other)) => Some(other),
-        (Some(reason), Some(_)) => Some(reason),
+        (Some(aaaa), Some(a)) => Some(if rank_of(aaaa) <= rank_of(a) { aaaa } else { a }),
         _ => None,
     }
 }

@@ -10,10 +10,10 @@ use he_select::DestinationRule;
 pub(crate) type Pieces = &'static [&'static [u8]];
 
 const NOTHING_LEFT: Pieces = &[
-    b"not connected: nothing is left to try after ",
-    b" ms and ",
+    b"not connected: no address left to try after ",
+    b" ms (",
     b" ",
-    b"",
+    b")",
 ];
 
 const NONE_ANSWERED: Pieces = &[
@@ -49,32 +49,28 @@ const WAITS: Pieces = &[
 ];
 
 const FLOOR_IS_OVER: Pieces = &[
-    b"all before have failed, and the floor of ",
+    b"all earlier attempts failed; ",
     b" ms after attempt ",
-    b" is over",
+    b" (set floor)",
 ];
 
 const PASSED: Pieces = &[
-    b"\n",
-    b" ms passed between the ",
-    b" answer and the first attempt at one of its addresses",
+    b"\nan ",
+    b" address was known ",
+    b" ms before one was tried",
 ];
 
-const NAT64_PREFIX: Pieces = &[
-    b"\nthe network's NAT64 has the IPv4 addresses by ",
-    b"/",
-    b"",
-];
+const CHECK_SERVER: Pieces = &[b"\ncheck: the name server ", b" (/etc/resolv.conf)"];
 
 pub(crate) fn words_of(said: Said) -> Pieces {
     match said {
-        Said::Target | Said::Moment => &[],
+        Said::Target | Said::Moment | Said::File => &[],
         Said::For => &[b"", b"for ", b""],
         Said::ClientConnected => &[b"the client connected after ", b" ms"],
         Said::ClientGaveUp => &[b"the client gave up after ", b" ms"],
         Said::ClientFailed => &[b"the client failed after ", b" ms"],
         Said::ByRules => &[b"; by RFC 8305: "],
-        Said::Race => &[b"", b"race ", b", line ", b"", b": "],
+        Said::Race => &[b"race ", b"", b"", b""],
         Said::Connected => &[b"connected by ", b" (", b") in ", b" ms"],
         Said::NothingLeft => NOTHING_LEFT,
         Said::LimitReached => &[b"not connected: timed out after ", b" ms and ", b" ", b""],
@@ -92,13 +88,18 @@ pub(crate) fn words_of(said: Said) -> Pieces {
         Said::LostAlone => &[b" with no address left to try"],
         Said::LostRest => &[b", ", b" with no address left to try"],
         Said::NamesSlow => &[b"; ", b" of ", b" ms waiting for DNS"],
+        Said::CheckPath => &[b"\ncheck: the path and firewalls to ", b""],
+        Said::CheckService => &[b"\ncheck: whether a server listens at ", b""],
+        Said::CheckRoute => &[b"\ncheck: the route to ", b""],
+        Said::CheckServer => CHECK_SERVER,
+        Said::AtPort => &[b" port ", b""],
         Said::TimeWent => TIME_WENT,
         Said::MachineTook => &[b", this machine ", b" ms"],
         Said::UnknownTook => &[b", unknown ", b" ms"],
         Said::NoAddress => &[b"\nno address to try"],
         Said::Preferred => &[b"\npreferred, once every answer is known:"],
         Said::Address => &[b"\n", b". ", b""],
-        Said::Nat64 => &[b" (NAT64)"],
+        Said::Nat64 => &[b" is ", b" (NAT64)"],
         Said::SixToFour => &[b" (6to4)"],
         Said::Teredo => &[b" (Teredo)"],
         Said::From => &[b" from ", b""],
@@ -109,12 +110,15 @@ pub(crate) fn words_of(said: Said) -> Pieces {
         Said::Course => &[b"\ncourse:"],
         Said::CourseByRules => &[b"\ncourse by RFC 8305:"],
         Said::At => &[b"\n", b" ms  "],
-        Said::Paused => &[b"pause: the client sees and starts nothing until ", b" ms"],
+        Said::Paused => &[
+            b"this machine was busy until ",
+            b" ms: it saw and started nothing",
+        ],
         Said::Late => &[b" (", b" ms late)"],
         Said::Answered(_) => &[b"", b" answer"],
         Said::ToTry => &[b": ", b" ", b" to try"],
         Said::Lookup(_, reason) => lookup_words(reason),
-        Said::StillMissing(_) => &[b"; the ", b" answer is not there yet"],
+        Said::StillMissing(_) => &[b"; still waiting for the ", b" answer"],
         Said::Waits => WAITS,
         Said::DelayOver => &[b"the wait is over, without the AAAA answer"],
         Said::Starts => &[b"attempt ", b" to ", b": "],
@@ -124,27 +128,30 @@ pub(crate) fn words_of(said: Said) -> Pieces {
         Said::Silent => &[b"attempt ", b": no answer in ", b" ms"],
         Said::Stopped => &[b"attempt ", b" stopped after ", b" ms"],
         Said::Unknown => &[b"attempt ", b": no client tried it, unknown after ", b" ms"],
-        Said::Exhausted => &[b"nothing is left to try"],
+        Said::Exhausted => &[b"no address left to try"],
         Said::Limit => &[b"the limit: the race is given up"],
-        Said::AaaaThere => &[b"the AAAA answer is there"],
-        Said::BothThere => &[b"both answers are there"],
+        Said::AaaaThere => &[b"AAAA answer received"],
+        Said::BothThere => &[b"both answers received"],
         Said::WaitIsOver => &[b"the wait for the AAAA answer is over"],
         Said::AfterStart => &[b"", b" ms after the start of attempt ", b""],
         Said::FloorIsOver => FLOOR_IS_OVER,
-        Said::AllFailed => &[b"all before have failed"],
+        Said::AllFailed => &[b"all earlier attempts failed"],
         Said::CameWith(_) => &[b"it came with the ", b" answer"],
-        Said::HeldBack => &[b", late because of a pause"],
-        Said::OnlyOne => &[b"; the only address known"],
-        Said::Turn(_) => &[b"; number ", b" of ", b" known, ", b""],
+        Said::HeldBack => &[b", late because this machine was busy"],
+        Said::OnlyOne => &[b"; no other address known"],
+        Said::Turn(_) => &[b"; number ", b" of ", b" known addresses, ", b""],
         Said::NoAnswer(_) => &[b"\nno ", b" answer came"],
         Said::AfterEnd(_) => &[b"\nthe ", b" answer came at ", b" ms, after the end"],
         Said::Why(reason) => why_words(reason),
         Said::Untried(_) => &[b"\nno address of the ", b" answer was tried"],
         Said::Passed(_) => PASSED,
         Said::Server(reason) => server_words(reason),
-        Said::Nat64Prefix => NAT64_PREFIX,
+        Said::Nat64Prefix => &[b"\nthe network's NAT64 prefix is ", b"/", b""],
         Said::NobodyTried => &[b"\nno client tried ", b": its outcome is unknown"],
-        Said::WithFloor => &[b"\nwith `set floor ", b"`: "],
+        Said::WithFloor => &[
+            b"\nif the next attempt followed a failure at once (--set floor=",
+            b"): ",
+        ],
         Said::End => &[b"\n"],
     }
 }
@@ -293,7 +300,7 @@ fn rule_words(rule: DestinationRule) -> Pieces {
         DestinationRule::AvoidDeprecated => &[b"; its source is deprecated (RFC 6724 rule 3)"],
         DestinationRule::MatchingLabel => &[b"; label ", b", its source ", b" (RFC 6724 rule 5)"],
         DestinationRule::HigherPrecedence => &[
-            b"; precedence ",
+            b"; lower precedence: ",
             b", the one before ",
             b" (RFC 6724 rule 6)",
         ],
@@ -326,9 +333,9 @@ pub(crate) fn turn_words(turn: Turn, family: Family) -> &'static [u8] {
     match (turn, family) {
         (Turn::Leads, Family::V6) => b"IPv6 first",
         (Turn::Leads, Family::V4) => b"IPv4 first",
-        (Turn::InTurn, _) => b"IPv6 and IPv4 in turn",
-        (Turn::RunOut, Family::V6) => b"IPv6 alone is left",
-        (Turn::RunOut, Family::V4) => b"IPv4 alone is left",
+        (Turn::InTurn, _) => b"families alternate",
+        (Turn::RunOut, Family::V6) => b"only IPv6 is left",
+        (Turn::RunOut, Family::V4) => b"only IPv4 is left",
     }
 }
 

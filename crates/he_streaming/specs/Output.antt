@@ -43,12 +43,12 @@ IsOrderObject spot text race = IsOrderJson spot (all_attributes_of race) text
 -- the text of a printer for a course and the record of its race, whose timeline comes from a file of this name, if it
 -- has one
 abbrev pub IsPrinted : {A : Type 0} → Printer → Option (List ℕ) → List Said → Course A → List ℕ → Type 0
-IsPrinted printers.Story file said course text = States (story_facts said course) text
+IsPrinted printers.Story file said course text = States (story_facts said file course) text
 IsPrinted printers.Json file said course text =
     IsExplanationJson (record { file = file; number = course.number; line = course.line }) said (course_times course)
     course.addresses.items course.events.items text
 IsPrinted (printers.Picture look width) file said course text =
-    (columns : ℕ) × (LEAST_COLUMNS ≤ columns) × States (picture_facts columns said course) text
+    (columns : ℕ) × (LEAST_COLUMNS ≤ columns) × States (picture_facts columns said file course) text
 IsPrinted printers.Image file said course text = States (svg_facts said course) text
 IsPrinted (printers.Section place) file said course text = IsSection said course place text
 

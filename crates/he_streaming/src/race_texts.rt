@@ -8,7 +8,7 @@ ghost use Rattle.he_streaming.specs.Rounds.{IsAsked, WritesText};
 use crate::limits::TEXT_ROOM;
 use he_addr::Memory;
 use he_course::Course;
-use he_draw::{Look, write_picture, write_section, write_svg};
+use he_draw::{Look, Screen, write_picture, write_section, write_svg};
 use he_json::{Place, write_explanation_json, write_order_json, write_transcript_json};
 use he_plan::{Transcript, sorted_attributes, transcript_of};
 use he_record::Record;
@@ -73,7 +73,7 @@ pub struct TextRequest<'f> {
     pub content: Content,
     /// The settings that replace the race's own.
     pub changes: Changes,
-    /// The name of the input's file for JSON objects, if it has one.
+    /// The name of the input's file for JSON objects and the headings of races, if it has one.
     pub file: Option<&'f str>,
 }
 
@@ -256,9 +256,12 @@ impl Printer {
             text.old.items text.new.items) }
     {
         match self {
-            Printer::Story => write_story(alloc, course, recorded, text),
+            Printer::Story => write_story(alloc, file, course, recorded, text),
             Printer::Json => write_explanation_json(alloc, course, recorded, file, text),
-            Printer::Picture { look, width } => write_picture(course, recorded, look, width, text),
+            Printer::Picture { look, width } => {
+                let screen = Screen { look, width };
+                write_picture(file, course, recorded, screen, text)
+            }
             Printer::Image => write_svg(course, recorded, text),
             Printer::Section { text: place } => write_section(course, recorded, place, text),
         }
