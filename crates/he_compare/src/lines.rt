@@ -5,7 +5,7 @@ ghost use Rattle.he_print.specs.Parts.{fact_of};
 ghost use Rattle.he_print.specs.declared.part.Fact.TheVariants as facts;
 ghost use Rattle.he_compare.specs.declared.lines.Told.TheVariants.{Won};
 ghost use Rattle.he_summary.specs.Written.{Tells};
-ghost use Rattle.he_compare.specs.Lines.{AreLines, ending_facts, line_facts};
+ghost use Rattle.he_compare.specs.Lines.{AreLines, ending_facts, exhausted_said, line_facts};
 ghost use Rattle.he_compare.specs.declared.verdict.Finish.TheVariants.{NotWon};
 
 use crate::verdict::{Finish, Verdict, own_after};
@@ -18,7 +18,10 @@ use std::alloc::Allocator;
 #[derive(Clone, Copy, Debug, PartialEq, Eq)]
 pub enum Told {
     Won,
+    /// All addresses failed.
     Exhausted,
+    /// There was no address to try.
+    NoAddress,
     Limit,
     Is(Verdict),
 }
@@ -78,7 +81,7 @@ fn push_line<A: Allocator>(
 {
     let verdict = Verdict::of(own, Finish::of(race));
     push_parts(&place_parts(form, race.place), text)?;
-    push_ending(form, race.ending, text)?;
+    push_ending(form, race, text)?;
     push_parts(
         &[Part::Says(Told::Is(verdict), verdict_words(form, verdict))],
         text,
@@ -87,16 +90,28 @@ fn push_line<A: Allocator>(
 
 fn push_ending<A: Allocator>(
     form: Form,
-    ending: Ending,
+    race: &Kept,
     text: &mut Vec<Part<Told>, A>,
 ) -> Result<(), Memory>
-    ensures { OnOk result (flat_map fact_of text.new.items ≡ flat_map fact_of text.old.items ++ ending_facts ending) }
+    ensures { OnOk result (flat_map fact_of text.new.items ≡ flat_map fact_of text.old.items
+        ++ ending_facts race.now.attempts race.now.ending) }
 {
-    match ending {
+    match race.ending {
         Ending::Won(Some(ip), tick) => push_won(form, ip, tick, text),
         Ending::Won(None, tick) => push_end(form, Told::Won, tick, text),
-        Ending::Exhausted(tick) => push_end(form, Told::Exhausted, tick, text),
+        Ending::Exhausted(tick) => push_end(form, exhausted_said(race.attempts), tick, text),
         Ending::Limit(tick) => push_end(form, Told::Limit, tick, text),
+    }
+}
+
+// Why nothing was left to try, by the number of attempts.
+fn exhausted_said(attempts: usize) -> Told
+    ensures { result ≡ exhausted_said attempts }
+{
+    if attempts == 0 {
+        Told::NoAddress
+    } else {
+        Told::Exhausted
     }
 }
 
@@ -141,13 +156,13 @@ fn push_end<A: Allocator>(
 {
     let (before, after): (&'static [u8], &'static [u8]) = match (form, said) {
         (Form::Text, Told::Won) => (b": connected in ", b" ms"),
-        (Form::Text, Told::Exhausted) => (
-            b": not connected: nothing is left to try after ",
-            b" ms",
-        ),
+        (Form::Text, Told::Exhausted) => (b": not connected: all addresses failed in ", b" ms"),
+        (Form::Text, Told::NoAddress) => (b": not connected: no address to try in ", b" ms"),
         (Form::Text, _) => (b": not connected: timed out after ", b" ms"),
         (_, Told::Won) => (b",\"ended\":\"won\",\"ms\":", b""),
-        (_, Told::Exhausted) => (b",\"ended\":\"exhausted\",\"ms\":", b""),
+        (_, Told::Exhausted) | (_, Told::NoAddress) => {
+            (b",\"ended\":\"exhausted\",\"ms\":", b"")
+        }
         (_, _) => (b",\"ended\":\"limit\",\"ms\":", b""),
     };
     push_parts(

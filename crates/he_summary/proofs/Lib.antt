@@ -1,5 +1,6 @@
 mod Hosted
 mod Joined
+mod Listed
 pub mod Loops
 pub mod Percentiles
 pub mod Sums

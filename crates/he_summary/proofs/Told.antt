@@ -5,7 +5,9 @@ use Rattle.std.specs.List.{flat_map}
 use Rattle.he_print.specs.Parts.{fact_of, text_of}
 use Rattle.he_print.specs.declared.part.Fact.{Fact}
 use Rattle.he_print.specs.declared.part.Part.{Part}
-use Rattle.he_summary.specs.Written.{AreSlowest, HasWords, Tells, TellsEach, TellsSlowest, slow_facts}
+use Rattle.he_addr.specs.declared.ip.Ip.{Ip}
+use Rattle.he_summary.specs.Written.{AreSlowest, HasWords, Tells, TellsAddress, TellsAddresses, TellsEach, TellsSlowest, slow_facts}
+use Rattle.he_summary.specs.declared.tallies.Tally.{Tally}
 use Rattle.he_summary.specs.declared.figures.Form.{Form}
 use Rattle.he_summary.specs.declared.kept.Kept.{Kept}
 
@@ -53,3 +55,13 @@ pub some_slowest : (form : Form) (most : ℕ) (kept slow : List Kept) (old betwe
     → HasWords between new → TellsSlowest form most kept old new
 some_slowest form zero kept slow old between new some are tells words = absurd (omega arith)
 some_slowest form (suc most) kept slow old between new some are tells words = (slow, are, before_words (map (slow_facts form) slow) old between new tells words)
+
+-- the row of one address more after words, and none
+pub address_more : (hosts : Ip → List (List ℕ)) (rows : List (Ip × Tally)) (i : ℕ) (d : Ip × Tally) (old before between new : List ℕ) → i < length rows → HasWords old before
+    → TellsAddress (hosts (get_or rows i d).0) (get_or rows i d) before between → TellsAddresses hosts (drop (i + 1) rows) between new → TellsAddresses hosts (drop i rows) old new
+address_more hosts rows i d old before between new lt (words, is) tells rest =
+    subst (λ (l : List (Ip × Tally)). TellsAddresses hosts l old new) (sym (drop_more rows i d lt))
+    (words, between, subst (λ (t : List ℕ). TellsAddress (hosts (get_or rows i d).0) (get_or rows i d) t between) is tells, rest)
+
+pub no_address : (hosts : Ip → List (List ℕ)) (rows : List (Ip × Tally)) (i : ℕ) (text : List ℕ) → length rows ≤ i → TellsAddresses hosts (drop i rows) text text
+no_address hosts rows i text le = subst (λ (l : List (Ip × Tally)). TellsAddresses hosts l text text) (sym (drop_all i rows le)) refl

@@ -17,7 +17,9 @@ use Rattle.he_inputs.specs.Recorded.{IsRecordedText}
 use Rattle.he_inputs.proofs.RaceReadingLaws.{line_count-append}
 use Rattle.he_inputs.proofs.RaceStreamLaws.{none_handed}
 use Rattle.he_record.specs.Said.{Said}
-use Rattle.he_summary.specs.Hosts.{AreNamed}
+use Rattle.std.specs.List.{fold}
+use Rattle.he_summary.proofs.Hosted.{pairs_on}
+use Rattle.he_summary.specs.Hosts.{AreNamed, HasTried, pairs_at, with_pair}
 use Rattle.he_addr.specs.declared.ip.Ip.{Ip}
 use Rattle.he_course.proofs.AccountLaws.{account_times}
 use Rattle.he_course.specs.Accounts.{IsAccount, end_of}
@@ -28,7 +30,7 @@ use Rattle.he_plan.specs.Transcript.{Report}
 use Rattle.he_record.specs.Given.{untried_given}
 use Rattle.he_summary.specs.Kept.{IsCharged, Run, kept_of}
 use Rattle.he_summary.specs.Steps.{AddsNext, AddsRace, AddsRuns, HasRead}
-use Rattle.he_summary.specs.Summed.{AddsAll, AreRows, AreRuns, HasAdded, HasSummed, IsRow, Sums, all_servers, all_tries, host_of}
+use Rattle.he_summary.specs.Summed.{AddsAll, AreRows, AreRuns, HasAdded, HasSummed, IsRow, Sums, all_servers, all_tries, host_of, pairs_of}
 use Rattle.he_summary.specs.Tries.{AreTallies, Try, servers_of, tries_of}
 use Rattle.he_summary.specs.declared.kept.Kept.{Kept}
 use Rattle.he_summary.specs.declared.kept.Place.{Place}
@@ -95,8 +97,9 @@ charged_run {A} row place said race report untried account same is lost =
 pub summed_on : (old new : Sums) (run : Run) (kept : Kept) (before : List Run) → new.kept ≡ old.kept ++ kept ∷ [] → kept ≡ kept_of run
     → ((tries : List Try) → AreTallies tries old.tallies → AreTallies (tries ++ tries_of run) new.tallies)
     → ((tries : List Try) → AreTallies tries old.servers → AreTallies (tries ++ servers_of run) new.servers)
-    → ((texts : List (List ℕ)) → AreNamed texts old.hosts → AreNamed (texts ++ host_of run ∷ []) new.hosts) → HasSummed old before → HasSummed new (before ++ run ∷ [])
-summed_on old new run kept before pushed is tallied served hosted had =
+    → ((texts : List (List ℕ)) → AreNamed texts old.hosts → AreNamed (texts ++ host_of run ∷ []) new.hosts) → HasTried run.said run.report.lines old.hosts new.hosts
+    → HasSummed old before → HasSummed new (before ++ run ∷ [])
+summed_on old new run kept before pushed is tallied served hosted (host, placed, paired) had =
     let servers : all_servers (before ++ run ∷ []) ≡ all_servers before ++ servers_of run =
     flat_map-append servers_of before (run ∷ []) ∙ ap (λ (t : List Try). all_servers before ++ t) (append-nil (servers_of run)) in
     let tries : all_tries (before ++ run ∷ []) ≡ all_tries before ++ tries_of run =
@@ -106,6 +109,8 @@ summed_on old new run kept before pushed is tallied served hosted had =
       tallies = subst (λ (t : List Try). AreTallies t new.tallies) (sym tries) (tallied (all_tries before) had.tallies);
       servers = subst (λ (t : List Try). AreTallies t new.servers) (sym servers) (served (all_servers before) had.servers);
       hosts = subst (λ (t : List (List ℕ)). AreNamed t new.hosts) (sym (map-append host_of before (run ∷ []))) (hosted (map host_of before) had.hosts);
+      pairs = paired ∙ ap (λ (pairs : List (Ip × ℕ)). fold with_pair pairs (pairs_at host run.said run.report.lines)) had.pairs
+          ∙ sym (pairs_on old.hosts host before run had.hosts) ∙ ap (λ (places : List ℕ). pairs_of places (before ++ run ∷ [])) (sym placed);
     }
 
 pub nothing_added : (sums : Sums) → AddsRuns [] sums sums

@@ -146,10 +146,8 @@ server_facts tallied =
     facts.Number tallied.1.attempts ∷ facts.Number tallied.1.failed ∷ facts.Number tallied.1.no_answer
     ∷ facts.Ip tallied.0 ∷ []
 
--- the totals, what the record lines say, the addresses, and the name servers
-abbrev pub text_facts : Totals → List Kept → List (Ip × Tally) → List (Ip × Tally) → List (Fact Said)
-text_facts totals kept failing servers =
+-- the totals, and what the record lines say
+abbrev pub text_facts : Totals → List Kept → List (Fact Said)
+text_facts totals kept =
     totals_facts totals
-    ++ (flat_map (counted_facts kept) client_kinds
-    ++ (flat_map (counted_facts kept) lookup_kinds
-    ++ (flat_map tally_facts failing ++ flat_map server_facts servers)))
+    ++ (flat_map (counted_facts kept) client_kinds ++ flat_map (counted_facts kept) lookup_kinds)

@@ -8,6 +8,7 @@ use Rattle.he_addr.specs.declared.ip.Ip.{Ip}
 use Rattle.he_course.specs.declared.accounts.Times.{Times}
 use Rattle.he_record.specs.declared.reasons.LookupReason.{LookupReason}
 use Rattle.he_record.specs.declared.reasons.LookupReason.TheVariants as reasons
+use Rattle.he_print.specs.Escaping.{string_text}
 use Rattle.he_summary.specs.Figures.{greatest_of, total_of}
 use Rattle.he_summary.specs.Members.{members_text}
 use Rattle.he_summary.specs.Totals.{is_kind}
@@ -81,15 +82,29 @@ numbers_json rows.Servers tally =
     ((codes "\",\"given_up\":", tally.attempts) ∷ (codes ",\"failed\":", tally.failed)
     ∷ (codes ",\"no_answer\":", tally.no_answer) ∷ [])
 
--- the attempts to an address, or how often a name server was given up
-abbrev pub tally_json : Rows → Ip × Tally → List ℕ
-tally_json rows tallied =
-    codes "{\"address\":\"" ++ (printed tallied.0 ++ (numbers_json rows tallied.1 ++ codes "}"))
+abbrev pub strings_json : List (List ℕ) → List ℕ
+strings_json [] = codes "[]"
+strings_json (first ∷ more) =
+    codes "[" ++ (string_text first ++ (flat_map (λ name. codes "," ++ string_text name) more ++ codes "]"))
 
-abbrev pub tallies_json : Rows → List (Ip × Tally) → List ℕ
-tallies_json rows [] = codes "[]"
-tallies_json rows (first ∷ more) =
-    codes "[" ++ (tally_json rows first ++ (flat_map (λ tallied. codes "," ++ tally_json rows tallied) more ++ codes "]"))
+-- the hosts of an address; a name server has none
+abbrev pub hosts_json : Rows → List (List ℕ) → List ℕ
+hosts_json rows.Addresses names = codes ",\"hosts\":" ++ strings_json names
+hosts_json rows.Servers names = []
+
+-- the attempts to an address, and the hosts whose races made them, or how often a name server was given up
+abbrev pub tally_json : Rows → (Ip → List (List ℕ)) → Ip × Tally → List ℕ
+tally_json rows hosts tallied =
+    codes "{\"address\":\""
+    ++ (printed tallied.0
+    ++ (numbers_json rows tallied.1 ++ (hosts_json rows (hosts tallied.0) ++ codes "}")))
+
+abbrev pub tallies_json : Rows → (Ip → List (List ℕ)) → List (Ip × Tally) → List ℕ
+tallies_json rows hosts [] = codes "[]"
+tallies_json rows hosts (first ∷ more) =
+    codes "["
+    ++ (tally_json rows hosts first
+    ++ (flat_map (λ tallied. codes "," ++ tally_json rows hosts tallied) more ++ codes "]"))
 
 abbrev pub count_of : List Kept → Kind → ℕ
 count_of kept kind = count_by (is_kind kind) kept
@@ -129,9 +144,9 @@ record_json totals kept =
     ++ (spread_json (codes ",\"rules_ms\":") totals.by_rules ++ all_lookups_json kept))
 
 -- up to the slowest races and the end
-abbrev pub summary_json : Totals → List Kept → List (Ip × Tally) → List (Ip × Tally) → List ℕ
-summary_json totals kept failing servers =
+abbrev pub summary_json : Totals → List Kept → (Ip → List (List ℕ)) → List (Ip × Tally) → List (Ip × Tally) → List ℕ
+summary_json totals kept hosts failing servers =
     totals_json totals
     ++ (codes ",\"addresses\":"
-    ++ (tallies_json rows.Addresses failing
-    ++ (record_json totals kept ++ (codes ",\"servers\":" ++ tallies_json rows.Servers servers))))
+    ++ (tallies_json rows.Addresses hosts failing
+    ++ (record_json totals kept ++ (codes ",\"servers\":" ++ tallies_json rows.Servers hosts servers))))

@@ -1,6 +1,6 @@
 -- The races that are summed.
 use Rattle.std.specs.Prelude.{ℕ, ◌≡◌, ◌⊎◌, ◌+◌, ◌++◌, ⊤, Bool, List, [], ◌∷◌, map, Option, Some, None, Result, Ok, Err}
-use Rattle.std.specs.List.{flat_map}
+use Rattle.std.specs.List.{flat_map, fold, zip}
 use Rattle.he_addr.specs.declared.ip.Ip.{Ip}
 use Rattle.he_timeline.specs.Changes.{ChangeValues, changed}
 use Rattle.he_timeline.specs.Race.{Race}
@@ -12,7 +12,7 @@ use Rattle.he_inputs.specs.declared.input_fault.InputFault.TheVariants as inputs
 use Rattle.he_inputs.specs.declared.stream_fault.StreamFault.{StreamFault}
 use Rattle.he_inputs.specs.declared.stream_fault.StreamFault.TheVariants.{Text, Read, Write, Memory}
 use Rattle.he_inputs.specs.Recorded.{IsRecordedText}
-use Rattle.he_summary.specs.Hosts.{AreNamed, Named, host_said}
+use Rattle.he_summary.specs.Hosts.{AreNamed, Named, host_said, pairs_at, with_pair}
 use Rattle.he_summary.specs.Kept.{IsCharged, Run, kept_of}
 use Rattle.he_summary.specs.Tries.{AreTallies, Try, servers_of, tries_of}
 use Rattle.he_summary.specs.declared.kept.Kept.{Kept}
@@ -39,12 +39,19 @@ all_servers runs = flat_map servers_of runs
 abbrev pub host_of : Run → List ℕ
 host_of run = host_said run.said
 
+-- the addresses that races tried, each with the place of the race's host, each such pair once: `places` has the place
+-- of each race
+abbrev pub pairs_of : List ℕ → List Run → List (Ip × ℕ)
+pairs_of places runs =
+    fold with_pair [] (flat_map (λ (placed : ℕ × Run). pairs_at placed.0 placed.1.said placed.1.report.lines) (zip places runs))
+
 -- these races are summed
 pub record HasSummed (sums : Sums) (runs : List Run) : Type 0 where
   pub kept : sums.kept ≡ map kept_of runs
   pub tallies : AreTallies (all_tries runs) sums.tallies
   pub servers : AreTallies (all_servers runs) sums.servers
   pub hosts : AreNamed (map host_of runs) sums.hosts
+  pub pairs : sums.hosts.pairs ≡ pairs_of sums.hosts.places runs
 
 -- a race with a row's changes of its settings, its record, its transcript and its account
 pub record IsRow (said : List Said) (race : Race) (place : Place) (row : ℕ) (changes : ChangeValues)

@@ -1,5 +1,6 @@
 -- The text on the races that are summed.
-use Rattle.std.specs.Prelude.{ℕ, zero, suc, ◌≡◌, ◌++◌, List, [], ◌∷◌, codes, filter, map, slice_get, take, IsPermutation, Some}
+use Rattle.std.specs.Prelude.{ℕ, zero, suc, ◌≡◌, ◌-◌, ◌==◌, ◌++◌, if◌then◌else◌, List, [], ◌∷◌, codes, decimal, filter, length, map, slice_get, take, IsPermutation, Some}
+use Rattle.std.specs.List.{flat_map}
 use Rattle.std.specs.List.Sorted.{IsSortedByKey}
 use Rattle.std.specs.Option.{unwrap_or}
 use Rattle.std.specs.Ordering.{nat_cmp, ordering_then}
@@ -9,11 +10,12 @@ use Rattle.he_print.specs.Parts.{States}
 use Rattle.he_print.specs.declared.part.Fact.{Fact}
 use Rattle.he_print.specs.declared.part.Fact.TheVariants as facts
 use Rattle.he_course.specs.declared.accounts.Times.{Times}
-use Rattle.he_summary.specs.Figures.{text_facts}
+use Rattle.he_summary.specs.Figures.{server_facts, tally_facts, text_facts}
+use Rattle.he_summary.specs.Hosts.{AreNamed, Named, hosts_in}
 use Rattle.he_summary.specs.Json.{summary_json}
 use Rattle.he_summary.specs.Metrics.{metrics_text}
 use Rattle.he_summary.specs.Kept.{Run, kept_of}
-use Rattle.he_summary.specs.Summed.{all_servers, all_tries}
+use Rattle.he_summary.specs.Summed.{all_servers, all_tries, host_of, pairs_of}
 use Rattle.he_summary.specs.Totals.{AreTotals, is_kind, time_of}
 use Rattle.he_summary.specs.Tries.{AreFailing}
 use Rattle.he_summary.specs.declared.figures.Form.{Form}
@@ -79,17 +81,52 @@ TellsSlowest form zero kept old new = HasWords old new
 TellsSlowest form (suc most) kept old new =
     (slow : List Kept) × AreSlowest (suc most) kept slow × TellsEach (map (slow_facts form) slow) old new
 
--- the report on these races with these tables of addresses and name servers, up to the slowest ones
-abbrev pub IsReport : Form → Totals → List Kept → List (Ip × Tally) × List (Ip × Tally) → List ℕ → List ℕ → Type 0
-IsReport forms.Text totals kept tables old new = Tells (text_facts totals kept tables.0 tables.1) old new
-IsReport forms.Json totals kept tables old new = new ≡ old ++ summary_json totals kept tables.0 tables.1
-IsReport forms.Metrics totals kept tables old new = new ≡ old ++ metrics_text totals
+-- the hosts of a row: the first three, and the number of the others
+abbrev pub more_text : ℕ → List ℕ
+more_text n = if n == 0 then [] else codes " and " ++ (decimal n ++ codes " more")
+
+abbrev pub after_comma : List ℕ → List ℕ
+after_comma name = codes ", " ++ name
+
+abbrev pub hosts_text : List (List ℕ) → List ℕ
+hosts_text [] = []
+hosts_text (first ∷ more) = first ++ (flat_map after_comma (take 2 more) ++ more_text (length more - 2))
+
+-- the row of an address has been appended: the attempts to it, and after a gap its hosts
+abbrev pub TellsAddress : List (List ℕ) → Ip × Tally → List ℕ → List ℕ → Type 0
+TellsAddress hosts tallied old new =
+    (between gap : List ℕ) × Tells (tally_facts tallied) old between × (new ≡ between ++ (gap ++ hosts_text hosts))
+
+-- the rows of these addresses with their hosts, each after words
+abbrev pub TellsAddresses : (Ip → List (List ℕ)) → List (Ip × Tally) → List ℕ → List ℕ → Type 0
+TellsAddresses hosts [] old new = new ≡ old
+TellsAddresses hosts (tallied ∷ rows) old new =
+    (words between : List ℕ) × TellsAddress (hosts tallied.0) tallied (old ++ words) between
+    × TellsAddresses hosts rows between new
+
+-- the report on these races as text: the totals and what the record lines say, the addresses, and the name servers
+pub record IsText (totals : Totals) (kept : List Kept) (tables : List (Ip × Tally) × List (Ip × Tally))
+    (hosts : Ip → List (List ℕ)) (old new : List ℕ) : Type 0 where
+  pub first : List ℕ
+  pub second : List ℕ
+  pub headed : Tells (text_facts totals kept) old first
+  pub addresses : TellsAddresses hosts tables.0 first second
+  pub servers : Tells (flat_map server_facts tables.1) second new
+
+-- the report on these races with these tables of addresses and name servers, and these hosts of the addresses, up to
+-- the slowest ones
+abbrev pub IsReport : Form → Totals → List Kept → List (Ip × Tally) × List (Ip × Tally) → (Ip → List (List ℕ)) → List ℕ
+    → List ℕ → Type 0
+IsReport forms.Text totals kept tables hosts old new = IsText totals kept tables hosts old new
+IsReport forms.Json totals kept tables hosts old new = new ≡ old ++ summary_json totals kept hosts tables.0 tables.1
+IsReport forms.Metrics totals kept tables hosts old new = new ≡ old ++ metrics_text totals
 
 -- the text on these races, with the `most` slowest ones
 abbrev pub IsWritten : Form → List Run → ℕ → List ℕ → List ℕ → Type 0
 IsWritten form runs most old new =
-    (totals : Totals) × (failing servers : List (Ip × Tally)) × (between : List ℕ)
+    (totals : Totals) × (failing servers : List (Ip × Tally)) × (named : Named) × (between : List ℕ)
     × AreTotals (map kept_of runs) totals × AreFailing (all_tries runs) failing
     × AreFailing (all_servers runs) servers
-    × IsReport form totals (map kept_of runs) (failing, servers) old between
+    × AreNamed (map host_of runs) named × (named.pairs ≡ pairs_of named.places runs)
+    × IsReport form totals (map kept_of runs) (failing, servers) (hosts_in named) old between
     × TellsSlowest form most (map kept_of runs) between new

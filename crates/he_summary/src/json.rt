@@ -1,10 +1,12 @@
 // The object of a summary.
-ghost use Rattle.std.specs.Prelude.{◌≡◌, ◌++◌, codes, OnOk};
+ghost use Rattle.std.specs.Prelude.{◌≡◌, ◌++◌, codes, map, OnOk};
 ghost use Rattle.std.specs.List.{flat_map};
 ghost use Rattle.he_summary.specs.declared.json.Rows.TheVariants.{Servers};
-ghost use Rattle.he_summary.specs.Json.{all_lookups_json, attempts_json, clients_json, counts_json, lookups_json, lookups_of, numbers_json, percentiles_json, record_json, spread_json, spreads_json, summary_json, sums_json, tallies_json, tally_json, totals_json};
+ghost use Rattle.he_summary.specs.Hosts.{hosts_in};
+ghost use Rattle.he_summary.specs.Json.{all_lookups_json, attempts_json, clients_json, counts_json, hosts_json, lookups_json, lookups_of, numbers_json, percentiles_json, record_json, spread_json, spreads_json, strings_json, summary_json, sums_json, tallies_json, tally_json, totals_json};
 
 use crate::figures::{greatest_of, total_of};
+use crate::hosts::Hosts;
 use crate::kept::Kept;
 use crate::members::{Member, write_members};
 use crate::tallies::Tally;
@@ -12,6 +14,7 @@ use crate::times::Spread;
 use crate::totals::{Counts, Kind, Totals, count};
 use he_addr::{Family, Ip, Memory, write_ip};
 use he_course::Times;
+use he_print::write_string;
 use he_record::LookupReason;
 use std::alloc::Allocator;
 
@@ -27,27 +30,29 @@ pub(crate) fn write_summary<A: Allocator + Copy>(
     totals: Totals,
     kept: &[Kept],
     tables: (&[(Ip, Tally)], &[(Ip, Tally)]),
+    hosts: &Hosts<A>,
     text: &mut Vec<u8, A>,
 ) -> Result<(), Memory>
     ensures { OnOk result (text.new.items ≡ text.old.items
-        ++ summary_json totals kept.now tables.entry.0.now tables.entry.1.now) }
+        ++ summary_json totals kept.now (hosts_in hosts.now) tables.entry.0.now tables.entry.1.now) }
 {
     write_totals(totals, text)?;
     text.extend_from_slice(b",\"addresses\":")?;
-    write_tallies(Rows::Addresses, tables.0, text)?;
+    write_tallies(Rows::Addresses, hosts, tables.0, text)?;
     write_record(totals, kept, text)?;
-    write_servers(tables.1, text)
+    write_servers(hosts, tables.1, text)
 }
 
 fn write_servers<A: Allocator + Copy>(
+    hosts: &Hosts<A>,
     servers: &[(Ip, Tally)],
     text: &mut Vec<u8, A>,
 ) -> Result<(), Memory>
     ensures { OnOk result (text.new.items ≡ text.old.items
-        ++ (codes ",\"servers\":" ++ tallies_json Servers servers.now)) }
+        ++ (codes ",\"servers\":" ++ tallies_json Servers (hosts_in hosts.now) servers.now)) }
 {
     text.extend_from_slice(b",\"servers\":")?;
-    write_tallies(Rows::Servers, servers, text)
+    write_tallies(Rows::Servers, hosts, servers, text)
 }
 
 /// Appends the totals of races as the members of an object, from its beginning on.
@@ -162,20 +167,22 @@ fn write_attempts<A: Allocator + Copy>(totals: Totals, text: &mut Vec<u8, A>) ->
 
 fn write_tallies<A: Allocator + Copy>(
     rows: Rows,
+    hosts: &Hosts<A>,
     tallies: &[(Ip, Tally)],
     text: &mut Vec<u8, A>,
 ) -> Result<(), Memory>
-    ensures { OnOk result (text.new.items ≡ text.old.items ++ tallies_json rows tallies.now) }
+    ensures { OnOk result (text.new.items ≡ text.old.items
+        ++ tallies_json rows (hosts_in hosts.now) tallies.now) }
 {
     let Some((first, more)) = tallies.split_first() else {
         text.extend_from_slice(b"[]")?;
         return Ok(());
     };
     text.extend_from_slice(b"[")?;
-    write_tally(rows, *first, text)?;
+    write_tally(rows, hosts, *first, text)?;
     for tallied in more {
         text.extend_from_slice(b",")?;
-        write_tally(rows, *tallied, text)?;
+        write_tally(rows, hosts, *tallied, text)?;
     }
     text.extend_from_slice(b"]")?;
     Ok(())
@@ -183,15 +190,54 @@ fn write_tallies<A: Allocator + Copy>(
 
 fn write_tally<A: Allocator + Copy>(
     rows: Rows,
+    hosts: &Hosts<A>,
     tallied: (Ip, Tally),
     text: &mut Vec<u8, A>,
 ) -> Result<(), Memory>
-    ensures { OnOk result (text.new.items ≡ text.old.items ++ tally_json rows tallied) }
+    ensures { OnOk result (text.new.items ≡ text.old.items ++ tally_json rows (hosts_in hosts.now) tallied) }
 {
     text.extend_from_slice(b"{\"address\":\"")?;
     write_ip(tallied.0, text)?;
     write_numbers(rows, tallied.1, text)?;
+    write_hosts(rows, hosts, tallied.0, text)?;
     text.extend_from_slice(b"}")?;
+    Ok(())
+}
+
+// The hosts whose races tried an address.
+fn write_hosts<A: Allocator + Copy>(
+    rows: Rows,
+    hosts: &Hosts<A>,
+    ip: Ip,
+    text: &mut Vec<u8, A>,
+) -> Result<(), Memory>
+    ensures { OnOk result (text.new.items ≡ text.old.items ++ hosts_json rows (hosts_in hosts.now ip)) }
+{
+    match rows {
+        Rows::Addresses => {
+            let names = hosts.names_at(*text.allocator(), ip)?;
+            text.extend_from_slice(b",\"hosts\":")?;
+            write_strings(&names, text)
+        }
+        Rows::Servers => Ok(()),
+    }
+}
+
+fn write_strings<A: Allocator>(names: &[&[u8]], text: &mut Vec<u8, A>) -> Result<(), Memory>
+    ensures { OnOk result (text.new.items ≡ text.old.items
+        ++ strings_json (map (λ name. name.now) names.now)) }
+{
+    let Some((first, more)) = names.split_first() else {
+        text.extend_from_slice(b"[]")?;
+        return Ok(());
+    };
+    text.extend_from_slice(b"[")?;
+    write_string(first, text)?;
+    for name in more {
+        text.extend_from_slice(b",")?;
+        write_string(name, text)?;
+    }
+    text.extend_from_slice(b"]")?;
     Ok(())
 }
 

@@ -15,9 +15,9 @@
 //! until given up             2000      2000     10000     10000
 //! where the time went: names 51200 ms, lost 94000 ms, connecting 41000 ms
 //! attempts: 2610, at most 6 in a race
-//! races that waited out the Resolution Delay: 17 (0.9 %)
-//!   attempts    failed no answer   lost ms  address
-//!        340        20       100     24200  2001:db8:1::1
+//! slow AAAA: in 17 races (0.9 %) the IPv4 attempt started without it, after the Resolution Delay
+//!   attempts    failed no answer   lost ms  address        hosts
+//!        340        20       100     24200  2001:db8:1::1  www.example.com 443, mail.example.com 993
 //! slowest:
 //!   office.timeline:12 race 2: 2950 ms to 198.51.100.5, names 20 ms, lost 500 ms
 //! ```
@@ -41,12 +41,14 @@
 //! answer (`specs/Tries`), the slowest races the first of the won ones by time (`specs/Written`). What the attempts
 //! to all addresses own and what was lost with nothing left to try is what all races lost ([`laws`]). An object and
 //! metrics are those of `specs/Json` and `specs/Metrics`, byte for byte, up to the slowest races. A text states its
-//! numbers, each with its meaning, in the order of `specs/Figures`; the words between are free.
+//! numbers, each with its meaning, in the order of `specs/Figures`, and the hosts of each address (`specs/Hosts`); the
+//! words between are free.
 //!
 //! Not proved: that a call succeeds if memory is granted.
 #![tactic(auto)]
 
 mod adding;
+mod addresses;
 pub mod figures;
 mod hosts;
 pub mod json;
@@ -59,6 +61,7 @@ pub mod tallies;
 pub mod text;
 pub mod times;
 pub mod totals;
+mod tried;
 mod writing;
 
 pub use figures::Form;

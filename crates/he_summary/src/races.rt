@@ -38,7 +38,7 @@ pub struct Races<A: Allocator> {
     tallies: Tallies<A>,
     // The name servers that did not answer.
     servers: Tallies<A>,
-    hosts: Hosts<A>,
+    pub(crate) hosts: Hosts<A>,
 }
 
 impl<A: Allocator> Model for Races<A> {
@@ -156,7 +156,7 @@ impl<A: Allocator + Copy> Races<A> {
     {
         self.kept
             .push(Kept::of(at, told, race, transcript, account))?;
-        self.hosts.add_host(told)?;
+        self.hosts.add_host(told, transcript.attempts())?;
         self.servers.add_servers(told)?;
         self.tallies.add(told, race, transcript.attempts(), account.tried.as_slice())
     }

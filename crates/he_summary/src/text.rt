@@ -5,7 +5,7 @@ ghost use Rattle.he_print.specs.Parts.{fact_of};
 ghost use Rattle.he_summary.specs.declared.text.Said.TheVariants.{Are, Within};
 ghost use Rattle.he_summary.specs.declared.totals.Kind.TheVariants.{Waited};
 ghost use Rattle.he_summary.specs.declared.totals.Value.TheVariants.{GivenUp};
-ghost use Rattle.he_summary.specs.Figures.{attempt_facts, client_facts, client_kinds, counted_facts, family_facts, first_facts, lookup_kinds, nonzero, number_facts, row_facts, rows_facts, server_facts, share_facts, some_facts, some_share_facts, tally_facts, text_facts, totals_facts, went_facts, why_facts};
+ghost use Rattle.he_summary.specs.Figures.{attempt_facts, client_facts, client_kinds, counted_facts, family_facts, first_facts, lookup_kinds, nonzero, number_facts, row_facts, rows_facts, server_facts, share_facts, some_facts, some_share_facts, text_facts, totals_facts, went_facts, why_facts};
 
 use crate::figures::{greatest_of, share, total_of};
 use crate::kept::Kept;
@@ -34,23 +34,20 @@ pub enum Said {
 }
 
 // The width of a column.
-const WIDTH: usize = 10;
+pub(crate) const WIDTH: usize = 10;
 
-// Appends the report.
+// Appends the report, up to the addresses.
 pub(crate) fn push_text<A: Allocator>(
     totals: Totals,
     kept: &[Kept],
-    tables: (&[(Ip, Tally)], &[(Ip, Tally)]),
     text: &mut Vec<Part<Said>, A>,
 ) -> Result<(), Memory>
     ensures { OnOk result (flat_map fact_of text.new.items ≡ flat_map fact_of text.old.items
-        ++ text_facts totals kept.now tables.entry.0.now tables.entry.1.now) }
+        ++ text_facts totals kept.now) }
 {
     push_totals(totals, text)?;
     push_clients(kept, text)?;
-    push_lookups(kept, text)?;
-    push_tallies(tables.0, text)?;
-    push_servers(tables.1, text)
+    push_lookups(kept, text)
 }
 
 fn push_totals<A: Allocator>(totals: Totals, text: &mut Vec<Part<Said>, A>) -> Result<(), Memory>
@@ -263,10 +260,30 @@ fn push_end<A: Allocator>(totals: Totals, text: &mut Vec<Part<Said>, A>) -> Resu
         ++ some_share_facts (Are Waited) totals.counts.waited totals.counts.races)) }
 {
     push_attempts(totals.attempts, text)?;
-    push_some_share(
+    push_waited(totals.counts, text)
+}
+
+fn push_waited<A: Allocator>(counts: Counts, text: &mut Vec<Part<Said>, A>) -> Result<(), Memory>
+    ensures { OnOk result (flat_map fact_of text.new.items ≡ flat_map fact_of text.old.items
+        ++ some_share_facts (Are Waited) counts.waited counts.races) }
+{
+    if counts.waited == 0 {
+        return Ok(());
+    }
+    let races: &'static [u8] = if counts.waited == 1 {
+        b" race"
+    } else {
+        b" races"
+    };
+    push_number(
         Said::Are(Kind::Waited),
-        b"\nraces that waited out the Resolution Delay: ",
-        (totals.counts.waited, totals.counts.races),
+        [b"\nslow AAAA: in ", races],
+        counts.waited,
+        text,
+    )?;
+    push_share(counts.waited, counts.races, text)?;
+    push_parts(
+        &[Part::Words(b" the IPv4 attempt started without it, after the Resolution Delay")],
         text,
     )
 }
@@ -468,36 +485,8 @@ fn v4_lookup(reason: LookupReason) -> &'static [u8] {
     }
 }
 
-// The addresses that cost most, below a heading.
-fn push_tallies<A: Allocator>(
-    tallies: &[(Ip, Tally)],
-    text: &mut Vec<Part<Said>, A>,
-) -> Result<(), Memory>
-    ensures { OnOk result (flat_map fact_of text.new.items ≡ flat_map fact_of text.old.items
-        ++ flat_map tally_facts tallies.now) }
-{
-    let mut before: &'static [u8] = b"\n  attempts    failed no answer   lost ms  address\n";
-    for tallied in tallies {
-        let (ip, tally) = *tallied;
-        push_parts(
-            &[
-                Part::Words(before),
-                Part::Aligned(WIDTH, tally.attempts),
-                Part::Aligned(WIDTH, tally.failed),
-                Part::Aligned(WIDTH, tally.no_answer),
-                Part::Aligned(WIDTH, tally.lost),
-                Part::Words(b"  "),
-                Part::Ip(ip),
-            ],
-            text,
-        )?;
-        before = b"\n";
-    }
-    Ok(())
-}
-
 // The name servers that did not answer, below a heading.
-fn push_servers<A: Allocator>(
+pub(crate) fn push_servers<A: Allocator>(
     servers: &[(Ip, Tally)],
     text: &mut Vec<Part<Said>, A>,
 ) -> Result<(), Memory>

@@ -3,20 +3,23 @@ ghost use Rattle.std.specs.Prelude.{◌≡◌, ◌++◌, filter, IfOk, IsPermuta
 ghost use Rattle.std.specs.List.{flat_map};
 ghost use Rattle.std.specs.List.Sorted.{IsSortedByKey};
 ghost use Rattle.he_print.specs.Parts.{fact_of};
-ghost use Rattle.he_summary.specs.Figures.{text_facts};
+ghost use Rattle.he_summary.specs.Figures.{server_facts, text_facts};
+ghost use Rattle.he_summary.specs.Hosts.{hosts_in};
 ghost use Rattle.he_summary.specs.Kept.{Run};
 ghost use Rattle.he_summary.specs.Summed.{HasSummed};
 ghost use Rattle.he_summary.specs.Totals.{is_kind};
-ghost use Rattle.he_summary.specs.Written.{AreSlowest, HasWords, IsReport, IsWritten, Tells, TellsEach, TellsSlowest, name_at, place_facts, slow_facts, slow_key, slowest_first};
+ghost use Rattle.he_summary.specs.Written.{AreSlowest, HasWords, IsReport, IsText, IsWritten, Tells, TellsEach, TellsSlowest, name_at, place_facts, slow_facts, slow_key, slowest_first};
 ghost use Rattle.he_summary.specs.declared.totals.Kind.TheVariants.{Won};
 
+use crate::addresses::write_addresses;
 use crate::figures::Form;
+use crate::hosts::Hosts;
 use crate::json::write_summary;
 use crate::kept::{Ending, Kept, Place};
 use crate::metrics::write_metrics;
 use crate::races::Races;
 use crate::tallies::Tally;
-use crate::text::{Said, push_text};
+use crate::text::{Said, push_servers, push_text};
 use crate::totals::{Kind, Totals, Value, is_kind, value_of};
 use he_addr::{Ip, Memory};
 use he_print::{Part, push_parts, write_parts, write_string};
@@ -44,8 +47,26 @@ impl<A: Allocator + Copy> Races<A> {
         let failing = self.failing()?;
         let servers = self.failing_servers()?;
         let tables = (failing.as_slice(), servers.as_slice());
-        write_report(form, totals, self.kept(), tables, text)?;
+        self.write_report(form, totals, tables, text)?;
         self.write_rest(form, slowest, names, text)
+    }
+
+    // Appends the report, up to the slowest races.
+    fn write_report(
+        &self,
+        form: Form,
+        totals: Totals,
+        tables: (&[(Ip, Tally)], &[(Ip, Tally)]),
+        text: &mut Vec<u8, A>,
+    ) -> Result<(), Memory>
+        ensures { OnOk result (IsReport form totals self.now.kept (tables.entry.0.now, tables.entry.1.now)
+            (hosts_in self.now.hosts) text.old.items text.new.items) }
+    {
+        match form {
+            Form::Text => write_text(totals, self.kept(), tables, &self.hosts, text),
+            Form::Json => write_summary(totals, self.kept(), tables, &self.hosts, text),
+            Form::Metrics => write_metrics(totals, text),
+        }
     }
 
     // Appends the `slowest` slowest races, and the end.
@@ -72,33 +93,43 @@ impl<A: Allocator + Copy> Races<A> {
     }
 }
 
-// Appends the report on races, up to the slowest ones.
-fn write_report<A: Allocator + Copy>(
-    form: Form,
-    totals: Totals,
-    kept: &[Kept],
-    tables: (&[(Ip, Tally)], &[(Ip, Tally)]),
-    text: &mut Vec<u8, A>,
-) -> Result<(), Memory>
-    ensures { OnOk result (IsReport form totals kept.now (tables.entry.0.now, tables.entry.1.now) text.old.items text.new.items) }
-{
-    match form {
-        Form::Text => write_text(totals, kept, tables, text),
-        Form::Json => write_summary(totals, kept, tables, text),
-        Form::Metrics => write_metrics(totals, text),
-    }
-}
-
 fn write_text<A: Allocator + Copy>(
     totals: Totals,
     kept: &[Kept],
     tables: (&[(Ip, Tally)], &[(Ip, Tally)]),
+    hosts: &Hosts<A>,
     text: &mut Vec<u8, A>,
 ) -> Result<(), Memory>
-    ensures { OnOk result (Tells (text_facts totals kept.now tables.entry.0.now tables.entry.1.now) text.old.items text.new.items) }
+    ensures { OnOk result (IsText totals kept.now (tables.entry.0.now, tables.entry.1.now) (hosts_in hosts.now)
+        text.old.items text.new.items) }
+{
+    write_figures(totals, kept, text)?;
+    write_addresses(hosts, tables.0, text)?;
+    write_servers(tables.1, text)
+}
+
+// Appends the totals, and what the record lines say.
+fn write_figures<A: Allocator + Copy>(
+    totals: Totals,
+    kept: &[Kept],
+    text: &mut Vec<u8, A>,
+) -> Result<(), Memory>
+    ensures { OnOk result (Tells (text_facts totals kept.now) text.old.items text.new.items) }
 {
     let mut parts = Vec::new(*text.allocator());
-    push_text(totals, kept, tables, &mut parts)?;
+    push_text(totals, kept, &mut parts)?;
+    write_parts(parts.as_slice(), text)
+}
+
+// Appends the name servers, and the last line end.
+fn write_servers<A: Allocator + Copy>(
+    servers: &[(Ip, Tally)],
+    text: &mut Vec<u8, A>,
+) -> Result<(), Memory>
+    ensures { OnOk result (Tells (flat_map server_facts servers.now) text.old.items text.new.items) }
+{
+    let mut parts = Vec::new(*text.allocator());
+    push_servers(servers, &mut parts)?;
     push_parts(&[Part::Words(b"\n")], &mut parts)?;
     write_parts(parts.as_slice(), text)
 }

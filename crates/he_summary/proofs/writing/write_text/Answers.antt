@@ -1,13 +1,14 @@
-use Rattle.std.proofs.Common.{◌∙◌}
-use Rattle.std.proofs.lemmas.List.{append-nil}
 use Rattle.std.proofs.lemmas.Result.{on_ok_weaker}
-use Rattle.he_summary.specs.Figures.{text_facts}
-use Rattle.he_summary.proofs.Told.{told_parts}
 use Rattle.he_summary.proofs.writing.write_text.Goals as goal
 
 pub returns : goal.returns
 returns g c =
-    on_ok_weaker c.write_parts.result
-    (λ done. told_parts c.new-parts.result.items c.push_parts.new.text.items (text_facts c.args.totals c.args.kept.now c.args.tables.0.now c.args.tables.1.now) c.args.text.now.items c.write_parts.new.text.items
-    c.new-parts.ensures.items (c.in_ok-push_parts.ensures.facts ∙ append-nil _ ∙ c.in_ok-push_text.ensures) (rw c.as_slice.ensures.value at done))
-    c.write_parts.ensures
+    on_ok_weaker c.write_servers.result
+    (λ servers. record {
+      first = c.write_figures.new.text.items;
+      second = c.write_addresses.new.text.items;
+      headed = c.in_ok-write_figures.ensures;
+      addresses = c.in_ok-write_addresses.ensures;
+      servers = servers;
+    })
+    c.write_servers.ensures

@@ -3,6 +3,7 @@ use Rattle.std.proofs.lemmas.Result.{on_ok_weaker}
 use Rattle.he_course.specs.Accounts.{end_of}
 use Rattle.he_course.specs.Amounts.{times_of}
 use Rattle.he_plan.specs.declared.transcript.Line.{Line}
+use Rattle.he_summary.specs.Hosts.{HasTried}
 use Rattle.he_summary.specs.Kept.{Run}
 use Rattle.he_summary.specs.Summed.{HasSummed, Sums}
 use Rattle.he_summary.specs.Tries.{AreTallies, Try, tries_of, tries_on}
@@ -18,8 +19,9 @@ returns g c =
     on_ok_weaker c.add.result
     (λ tallied. record {
       settings = ap (λ (s : Sums). s.settings) c.self.view_is;
-      sums = λ before has. summed_on old new run c.of.result before c.in_ok-push.ensures.items c.of.ensures tallied c.in_ok-add_servers.ensures c.in_ok-add_host.ensures (subst (λ (s : Sums). HasSummed s before) (sym c.self.view_is) has);
+      sums = λ before has. summed_on old new run c.of.result before c.in_ok-push.ensures.items c.of.ensures tallied c.in_ok-add_servers.ensures c.in_ok-add_host.ensures.named
+          (subst (λ (lines : List Line). HasTried c.args.told.now lines c.self.inside.hosts c.add_host.new.self) c.attempts.ensures c.in_ok-add_host.ensures.paired) (subst (λ (s : Sums). HasSummed s before) (sym c.self.view_is) has);
     })
     (for_each (λ (t : List Try). AreTallies t c.self.inside.tallies) (λ (t : List Try). AreTallies (t ++ tries_of run) c.add.new.self) c.add.result
-    (subst (λ (lines : List Line). (tries : List Try) → AreTallies tries c.self.inside.tallies → OnOk c.add.result (AreTallies (tries ++ tries_on c.args.told.now c.args.race.now lines c.args.account.now.tried.items) c.add.new.self)) c.attempts.ensures
-    (subst (λ (charges : List ℕ). (tries : List Try) → AreTallies tries c.self.inside.tallies → OnOk c.add.result (AreTallies (tries ++ tries_on c.args.told.now c.args.race.now c.attempts.result.now charges) c.add.new.self)) c.as_slice.ensures.value c.add.ensures)))
+    (subst (λ (lines : List Line). (tries : List Try) → AreTallies tries c.self.inside.tallies → OnOk c.add.result (AreTallies (tries ++ tries_on c.args.told.now c.args.race.now lines c.args.account.now.tried.items) c.add.new.self)) c.attempts-2.ensures
+    (subst (λ (charges : List ℕ). (tries : List Try) → AreTallies tries c.self.inside.tallies → OnOk c.add.result (AreTallies (tries ++ tries_on c.args.told.now c.args.race.now c.attempts-2.result.now charges) c.add.new.self)) c.as_slice.ensures.value c.add.ensures)))
