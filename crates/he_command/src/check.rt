@@ -333,19 +333,19 @@ fn line_of(alloc: Global, verdict: &Verdict) -> Result<Vec<u8>, Memory> {
 }
 
 // The host with its port, and how the race ended: `www.example.com:443 connected by IPv6 (2001:db8::1) in 12 ms`, in
-// the words of the first line of its story: `www.example.com:443, 2026-11-28 10:54:05Z (race 1, line 1): ..`.
+// the words of the first line of its story: `www.example.com:443, 2026-11-28 10:54:05Z: ..`.
 fn heading_of(
     alloc: Global,
     course: &Course<Global>,
     recorded: &Record<'_>,
 ) -> Result<String, Memory> {
     let mut story = Vec::new(alloc);
-    write_story(alloc, course, recorded, &mut story)?;
+    write_story(alloc, None, course, recorded, &mut story)?;
     let heading = before(from_utf8(&story).unwrap_or(""), "\n");
-    let Some((place, sentence)) = heading.split_once("): ") else {
+    let Some((names, sentence)) = heading.split_once(": ") else {
         return Ok(String::from_str(alloc, heading)?);
     };
-    let host = before(before(place, " ("), ", ");
+    let host = before(names, ", ");
     Ok(format!(in alloc; "{host} {sentence}")?)
 }
 

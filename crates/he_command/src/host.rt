@@ -14,7 +14,7 @@ use he_tasks::reports::report;
 use he_tasks::session::put_all;
 use std::io::Write;
 
-// Writes the lines of this machine, or those for the destinations, or their object, and the remarks on them.
+// Writes the source and route lines of all, or for the destinations, or their object, and the remarks on them.
 pub(crate) fn run_host<R: System, O: OutputStream, F: Write>(
     session: &mut Session<'_, '_, R, O, F>,
     host: &Host,
@@ -48,7 +48,7 @@ fn show_lines<R, O: OutputStream, F: Write>(
     }
 }
 
-// The lines of this machine, or those for the destinations, with remarks.
+// The source and route lines of all, or for the destinations, with remarks.
 fn write_lines<R: System>(
     rt: &R,
     destinations: &[Ip],

@@ -3,7 +3,7 @@
 //! [`run_words`] reads a line (`he_request`) and runs it with an input and a `Session` of `he_tasks`: the system, an
 //! output and a writer of faults; the program passes its words and its standard streams. `he connect` connects to a
 //! host and relays, `he proxy` does so for other programs, `he probe` connects to each address of a host
-//! (`he_probing`), `he names` finds a host's addresses, `he host` writes the lines of this machine, `he live` runs the
+//! (`he_probing`), `he names` finds a host's addresses, `he host` prints this machine's, `he live` runs the
 //! one race of a file or of the input on real sockets; all other commands are tasks of `he_tasks`.
 //!
 //! Proved (`run_line`): each command does with the input, the output and the files what its crate specifies, `he

@@ -261,6 +261,7 @@ fn end_round<R, O, F: Write>(
     if let Some(fault) = round.nameless {
         return report_of(alloc, fault, host, faults);
     }
+    let _ = faults.write_all(&round.told);
     let six = report_family(alloc, "AAAA", round.why.of(Family::V6), host, faults);
     let four = report_family(alloc, "A", round.why.of(Family::V4), host, faults);
     worse(worse(six, four), status_of_rows(&round.rows))

@@ -19,11 +19,8 @@ pub const FILES_HELP: &str = "\
 Files to read, in order; default is standard input (-).\n\
 Of a directory all files *.timeline in it are read";
 
-/// The help of files of which each has a line above what is written of it.
-pub const HEADED_FILES_HELP: &str = "\
-Files to read, in order; default is standard input (-).\n\
-Of a directory all files *.timeline in it are read.\n\
-Each of several has a line `==> NAME <==` above it";
+const LIST_HELP: &str = "Read the files named in FILE (- is standard input),\n\
+each name ended by a NUL byte, as by `find -print0`";
 
 const VERBOSE_HELP: &str =
     "Explain the fault of a file as `he check` does,\nand say why a file can't be read or written";
@@ -89,6 +86,15 @@ pub fn verbose<'a>(alloc: Global) -> Arg<'a> {
 /// The argument that names the files to read.
 pub fn files<'a>(alloc: Global, help: &'a str) -> Arg<'a> {
     word(alloc, "file", "FILE", help).action(ArgAction::Append)
+}
+
+/// The option that names a file with the names of the files to read, in place of these.
+///
+/// # Errors
+///
+/// `Memory` where memory was refused.
+pub fn list<'a>(alloc: Global) -> Result<Arg<'a>, Memory> {
+    value(alloc, "files0-from", "FILE", LIST_HELP).conflicts_with("file")
 }
 
 /// The files that the line names, in order.

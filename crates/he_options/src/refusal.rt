@@ -45,6 +45,8 @@ pub enum OptionFault {
     Record,
     #[error("invalid value for '--record <FILE>': standard output (`-`) has the answers")]
     Answers,
+    #[error("invalid value for '--record <FILE>': standard output (`-`) has the line of the check")]
+    Check,
     #[error("'--json' goes with `-z`, and not with `--record -`: nothing else may have standard output")]
     Json,
     #[error("invalid value for '--listen <ADDR:PORT>': expected an address and a port, as 127.0.0.1:1080 or [::1]:1080")]

@@ -86,6 +86,8 @@ pub struct Texts<'a> {
     pub labels: Vec<String>,
     /// The files that have them, one after the other, `-` for standard input; where there are none, it has one.
     pub files: Vec<&'a str>,
+    /// The file that has the names of these files, each ended by a byte 0, `-` for standard input.
+    pub list: Option<&'a str>,
     /// Whether the files after one that has a fault are read too.
     pub goes_on: bool,
     /// Whether a fault is explained: that of a file as a check does, and why it can't be read or nothing written.
@@ -139,6 +141,7 @@ pub fn texts_of<'a>(
         rows: Vec::new(alloc),
         labels: Vec::new(alloc),
         files: files_of(alloc, matches)?,
+        list: matches.get_str("files0-from"),
         goes_on: flag_of(matches, "keep-going") || task.tells_faults(),
         explains: flag_of(matches, "verbose") || matches!(task, Task::Check { .. }),
         page,

@@ -79,6 +79,7 @@ pub record AsksComparison (found : Found) (texts : Texts) : Type 0 where
   pub rows : AreRows (values_of found (codes "set")) texts.rows.items
   pub labels : map string_bytes texts.labels.items ≡ labels_of (values_of found (codes "set"))
   pub files : map (λ file. file.now) texts.files.items ≡ values_of found (codes "file")
+  pub list : option_map (λ path. path.now) texts.list ≡ first_value found (codes "files0-from")
   pub keeps : HasFlag found (codes "keep-going") texts.goes_on
 
 abbrev pub AsksCheck : Found → Task → Type 0

@@ -5,7 +5,7 @@ ghost use Rattle.he_request.specs.Requests.{AsksCheck};
 use clap::{ArgMatches, Command};
 use he_addr::Memory;
 use he_options::Task;
-use he_options::arguments::{FILES_HELP, files, flag, flag_of, plain};
+use he_options::arguments::{FILES_HELP, files, flag, flag_of, list, plain};
 use std::alloc::Global;
 
 const ABOUT: &str = "Check timelines, and explain their faults";
@@ -46,13 +46,14 @@ Standard error for it:
 pub(crate) fn command<'a>(alloc: Global) -> Result<Command<'a>, Memory> {
     let args = vec![in alloc;
         files(alloc, FILES_HELP),
+        list(alloc)?,
         flag(alloc, "all", ALL_HELP),
         flag(alloc, "json", JSON_HELP),
     ]?;
     plain(alloc, "check", ABOUT, EXAMPLE, args)
 }
 
-// What the line asks for.
+// The task that the line asks for.
 pub(crate) fn task_of(matches: &ArgMatches<'_>) -> Task
     ensures { AsksCheck (found_of matches.now) result }
 {

@@ -6,7 +6,9 @@ ghost use Rattle.he_options.specs.Texts.{IsTexts};
 
 use clap::{ArgAction, ArgMatches, Command};
 use he_addr::Memory;
-use he_options::arguments::{FILES_HELP, files, files_of, flag, flag_of, plain, value, verbose};
+use he_options::arguments::{
+    FILES_HELP, files, files_of, flag, flag_of, list, plain, value, verbose,
+};
 use he_options::rows::rows_of;
 use he_options::{Refusal, Task, Texts};
 use he_timeline::Changes;
@@ -16,7 +18,7 @@ const ABOUT: &str = "Show what other settings would have changed";
 
 const SET_HELP: &str = "Override a setting in every race; repeatable.\n\
 NAME is attempt, resolution, count, limit or floor;\n\
-one NAME may have a list, N,N,.., with a row for each";
+one NAME may have a list, N,N,..: a row for each";
 
 const JSON_HELP: &str = "Write the table as one JSON object, on one line";
 
@@ -50,6 +52,7 @@ pub(crate) fn command<'a>(alloc: Global) -> Result<Command<'a>, Memory> {
         .required(true);
     let args = vec![in alloc;
         files(alloc, FILES_HELP),
+        list(alloc)?,
         flag(alloc, "json", JSON_HELP),
         flag(alloc, "races", RACES_HELP),
         flag(alloc, "keep-going", KEEP_GOING_HELP),
@@ -59,7 +62,7 @@ pub(crate) fn command<'a>(alloc: Global) -> Result<Command<'a>, Memory> {
     plain(alloc, "compare", ABOUT, EXAMPLE, args)
 }
 
-// What the line asks for.
+// The task that the line asks for.
 pub(crate) fn comparison_of<'a>(
     alloc: Global,
     matches: &ArgMatches<'a>,
@@ -77,6 +80,7 @@ pub(crate) fn comparison_of<'a>(
         rows: rows.changes,
         labels: rows.labels,
         files: files_of(alloc, matches)?,
+        list: matches.get_str("files0-from"),
         goes_on: flag_of(matches, "keep-going"),
         explains: flag_of(matches, "verbose"),
         page: None,

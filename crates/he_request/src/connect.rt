@@ -48,12 +48,12 @@ as `he explain`";
 
 const EXAMPLE: &str = "\
 Looks up AAAA and A in parallel and tries the addresses as RFC 8305 describes,
-the next one 250 ms after the last, or once that has failed. The first to
-connect is used; the others are closed. Standard input is sent over it, and what
-the remote sends is written to standard output. The end of standard input ends
-sending only. `he connect` exits when the remote has closed the connection and
-no input has arrived for half a second (--wait), or when standard output is
-closed.
+the next one 250 ms after the last, or once all before have failed, 10 ms after
+the last at the earliest. The first to connect is used; the others are closed.
+Standard input is sent over it, and what the remote sends is written to standard
+output. At the end of standard input only the sending side is shut down. `he
+connect` exits when the remote has closed the connection and no input has
+arrived for half a second (--wait), or when standard output is closed.
 
 The defaults are attempt=250, resolution=50, count=1, limit=30000, floor=10.
 
@@ -123,7 +123,7 @@ pub struct Connection<'a> {
     /// A name or an address.
     pub host: &'a str,
     pub port: Port<'a>,
-    /// The family that is tried alone; both are where there is none.
+    /// The only family that is tried; both are if there is none.
     pub only: Option<Family>,
     /// The settings of the race.
     pub settings: Settings,
@@ -160,7 +160,7 @@ pub(crate) fn connection_of<'a>(
     let record = record_of(matches)?;
     let (only_tries, checks) = (flag_of(matches, "try"), flag_of(matches, "check"));
     if record == Some(STANDARD) && checks {
-        return Err(OptionFault::Answers);
+        return Err(OptionFault::Check);
     }
     if record == Some(STANDARD) && !only_tries {
         return Err(OptionFault::Record);
@@ -210,7 +210,7 @@ pub(crate) fn record_of<'a>(matches: &ArgMatches<'a>) -> Result<Option<&'a str>,
     Ok(record)
 }
 
-// The family that the line asks for alone.
+// The only family that the line asks for.
 pub(crate) fn family_of(matches: &ArgMatches<'_>) -> Option<Family>
     ensures { AsksFamily (found_of matches.now) result }
 {

@@ -7,7 +7,7 @@ ghost use Rattle.he_options.specs.Texts.{IsTexts};
 use clap::{Arg, ArgMatches, Command, value_parser};
 use he_addr::Memory;
 use he_options::arguments::{
-    HEADED_FILES_HELP, files, flag, flag_of, number_of, plain, value, verbose,
+    FILES_HELP, files, flag, flag_of, list, number_of, plain, value, verbose,
 };
 use he_options::limits::{LEAST_WIDTH, MOST_WIDTH};
 use he_options::settings::set;
@@ -47,7 +47,7 @@ Example input:
 
 Output of `he draw --ascii --width 72`:
 
-  race 1, line 1: connected by IPv4 (198.51.100.1) in 300 ms
+  race 1 (line 1): connected by IPv4 (198.51.100.1) in 300 ms
   AAAA answer   |  o                                | 20 ms, 1 usable
   A answer      |  o                                | 25 ms, 1 usable
   2001:db8:1::1 |  x                                | 20-21 ms failed
@@ -64,7 +64,8 @@ pub(crate) fn command<'a>(alloc: Global) -> Result<Command<'a>, Memory> {
     )?;
     let html = alone_of(value(alloc, "html", "FILE", HTML_HELP))?;
     let args = vec![in alloc;
-        files(alloc, HEADED_FILES_HELP),
+        files(alloc, FILES_HELP),
+        list(alloc)?,
         flag(alloc, "ascii", "Use ASCII characters only"),
         width,
         svg,
@@ -75,12 +76,12 @@ pub(crate) fn command<'a>(alloc: Global) -> Result<Command<'a>, Memory> {
     plain(alloc, "draw", ABOUT, EXAMPLE, args)
 }
 
-// An option that no option of pictures in lines stands beside.
+// An option that excludes the options of pictures in lines.
 fn alone_of(option: Arg<'_>) -> Result<Arg<'_>, Memory> {
     option.conflicts_with("ascii")?.conflicts_with("width")
 }
 
-// What the line asks for, where a terminal has so many columns.
+// The task that the line asks for, at this width of a terminal.
 pub(crate) fn drawing_of<'a>(
     alloc: Global,
     columns: u16,

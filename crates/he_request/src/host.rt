@@ -8,7 +8,7 @@ use std::alloc::Global;
 
 const ABOUT: &str = "Print this machine's addresses and routes";
 
-const FOR_HELP: &str = "Write the lines for these destinations alone, as the\n\
+const FOR_HELP: &str = "Write only the lines for these destinations, as the\n\
 kernel reaches them: IPv4 or IPv6 addresses";
 
 const JSON_HELP: &str = "Write one JSON object in place of the lines";
@@ -26,7 +26,7 @@ uses, which sends nothing. Standard error says what is a guess, which routing
 tables are not seen, and for which routes the kernel uses another source, by
 policy routing or a source of the route's own.
 
-With --for there are lines for these destinations alone, so that each is reached
+With --for there are lines for only these destinations, so that each is reached
 from the source that the kernel uses; standard error names those for which no
 lines can do that. A destination that cannot be reached has no route.
 
@@ -64,13 +64,13 @@ pub(crate) fn command<'a>(alloc: Global) -> Result<Command<'a>, Memory> {
 /// The addresses and routes of this machine, which are to be written.
 #[derive(Drop)]
 pub struct Host {
-    /// The destinations whose lines alone are written; those of the whole machine are where there are none.
+    /// The only destinations whose lines are written; those of the whole machine are if there are none.
     pub destinations: Vec<Ip>,
     /// Whether they are written as JSON.
     pub is_json: bool,
 }
 
-// What the line asks for.
+// The request that the line makes.
 pub(crate) fn host_of(alloc: Global, matches: &ArgMatches<'_>) -> Result<Host, Refusal> {
     Ok(Host {
         destinations: destinations_of(alloc, matches)?,

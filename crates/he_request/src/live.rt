@@ -28,11 +28,11 @@ const MUST_CONNECT_HELP: &str = "Exit with status 3 if no connection was made";
 const VERBOSE_HELP: &str = "Say why each attempt failed, after the race";
 
 const EXAMPLE: &str = "\
-Runs the one race of a timeline. FILE has the host's addresses and routes, and
-the addresses of a name, each known from the tick (millisecond) of its answer
-on; 0 means at once. Its outcomes and pauses are ignored. Each address is tried
-by TCP in its turn until one connection is made; all are then closed. A setting
-that is given (--set, --timeout) overrides the timeline's own.
+Runs the one race of a timeline. FILE has this machine's addresses and routes
+and the addresses of a name, each known from the tick (millisecond) of its
+answer on; 0 means at once. Its outcomes and pauses are ignored. The addresses
+are tried by TCP, one after another, until one connection is made; all are then
+closed. A setting that is given (--set, --timeout) overrides the timeline's own.
 
 Standard output has the transcript, then the record: the same race, with how
 each attempt ended and when this program itself was late. The record is a
@@ -96,7 +96,7 @@ pub struct Live<'a> {
     pub verbose: bool,
 }
 
-// What the line asks for. Standard output has the record in any case.
+// The request that the line makes. Standard output has the record in any case.
 pub(crate) fn live_of<'a>(matches: &ArgMatches<'a>) -> Result<Live<'a>, OptionFault>
     ensures port { IfOk result (λ live. IsPort live.port) }
     ensures asks { IfOk result (AsksLive (found_of matches.now)) }

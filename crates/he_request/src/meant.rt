@@ -1,4 +1,4 @@
-//! What a line of `he connect` means, where HOST and PORT are not two words of it.
+//! The meaning of a line of `he connect` in which HOST and PORT are not two words.
 
 use he_options::Refusal;
 use he_options::port::read_port;
@@ -61,12 +61,12 @@ fn is_port_option(word: &str) -> bool {
     word == "-p" || word == "--port"
 }
 
-// Whether a word stands on the line by its place, after this one.
+// Whether the word is an operand, where it comes after that one.
 fn is_place(before: &str, word: &str) -> bool {
     !word.starts_with('-') && !WITH_VALUE.iter().any(|option| *option == before)
 }
 
-// The host and the port of a URL, of HOST:PORT or of a host alone, with the port that the line has beside it.
+// The host and the port of a URL, of HOST:PORT, or of a host with the port that the line has beside it.
 fn split<'a>(word: &'a str, port: Option<&'a str>) -> Meant<'a> {
     let (scheme, rest) = match word.split_once("://") {
         Some((scheme, rest)) => (Some(scheme), until_path(rest)),

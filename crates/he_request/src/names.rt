@@ -73,7 +73,7 @@ pub struct Names<'a> {
     pub tells_steps: bool,
 }
 
-// What the line asks for.
+// The request that the line makes.
 pub(crate) fn names_of<'a>(
     alloc: Global,
     matches: &ArgMatches<'a>,

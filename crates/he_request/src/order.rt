@@ -4,7 +4,7 @@ ghost use Rattle.he_request.specs.Requests.{AsksOrder};
 
 use clap::{ArgMatches, Command};
 use he_addr::Memory;
-use he_options::arguments::{FILES_HELP, files, flag_of, json, plain, verbose};
+use he_options::arguments::{FILES_HELP, files, flag_of, json, list, plain, verbose};
 use he_options::texts::alone;
 use he_options::{Content, Task};
 use std::alloc::Global;
@@ -14,7 +14,7 @@ const ABOUT: &str = "Print the addresses of each race in the order of RFC 6724";
 const EXAMPLE: &str = "\
 Reads timelines, as `he replay` does. Standard output has for each race its
 usable addresses in order of preference (RFC 6724), each with the source address
-that the host uses for it, or none if it has no route or no source.
+that the machine uses for it, or none without a route or a source.
 
 Example input:
 
@@ -33,11 +33,16 @@ Its output:
   end";
 
 pub(crate) fn command<'a>(alloc: Global) -> Result<Command<'a>, Memory> {
-    let args = vec![in alloc; files(alloc, FILES_HELP), json(alloc), verbose(alloc)]?;
+    let args = vec![in alloc;
+        files(alloc, FILES_HELP),
+        list(alloc)?,
+        json(alloc),
+        verbose(alloc),
+    ]?;
     plain(alloc, "order", ABOUT, EXAMPLE, args)
 }
 
-// What the line asks for.
+// The task that the line asks for.
 pub(crate) fn task_of(matches: &ArgMatches<'_>) -> Task
     ensures { AsksOrder (found_of matches.now) result }
 {

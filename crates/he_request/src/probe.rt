@@ -21,7 +21,7 @@ use he_timeline::limits::DEFAULT_LIMIT;
 use he_timeline::{Changes, Settings};
 use std::alloc::Global;
 
-const ABOUT: &str = "Connect to each address of a host, and judge the results";
+const ABOUT: &str = "Connect to each address of a host, and say which are broken";
 
 const PORT_HELP: &str =
     "The TCP port: 1 to 65535, or the name of a service in\n/etc/services, as `https`";
@@ -46,14 +46,14 @@ const JSON_HELP: &str = "Write one JSON object for each round";
 
 const METRICS_HELP: &str = "Write metrics of each round as OpenMetrics";
 
-const QUIET_HELP: &str = "Write the verdict alone";
+const QUIET_HELP: &str = "Write only the verdict";
 
 const EXAMPLE: &str = "\
-Looks HOST up, both families to their end, and connects to each of its
-addresses, in the order of preference (RFC 6724), whatever becomes of the
-others. Each connection is closed once it is made. Standard output has a row for
-each address and a verdict: which family is broken, and what a client by RFC
-8305, as `he connect`, loses by it.
+Looks up AAAA and A, waits for both answers, and connects to each address, in
+the order of RFC 6724, whatever becomes of the others. Each connection is closed
+once it is made. Standard output has a row for each address and a verdict: which
+family is broken, and the time that a client of RFC 8305, such as `he connect`,
+loses by it.
 
 Example: `he probe www.example.com 443` may write
 
@@ -71,7 +71,8 @@ replay with other settings is the race that a client with these has:
   he probe --record - www.example.com 443 | he replay --set attempt=100
 
 Exit status: 0 if each address connects and no look-up failed; 3 if none
-connects; 4 if some don't; 1 after a fault, as of a look-up; 2 on a usage error.
+connects; 4 if some don't; 1 after a fault, as a failed look-up; 2 on a usage
+error.
 Of several rounds the worst counts: 1, then 3, then 4.";
 
 // Its arguments, in the order in which help has them.
@@ -111,7 +112,7 @@ pub(crate) fn command<'a>(alloc: Global) -> Result<Command<'a>, Memory> {
 pub enum ProbeForm {
     /// A row for each address, and the verdict.
     Table,
-    /// The verdict alone.
+    /// Only the verdict.
     Verdict,
     /// A JSON object.
     Json,
@@ -127,7 +128,7 @@ pub struct Probe<'a> {
     /// A name or an address.
     pub host: &'a str,
     pub port: Port<'a>,
-    /// The family that is tried alone; both are where there is none.
+    /// The only family that is tried; both are if there is none.
     pub only: Option<Family>,
     /// The milliseconds that an attempt has, and those between the starts of two.
     pub timeout: u64,

@@ -21,7 +21,7 @@ use std::alloc::Global;
 use std::net::SocketAddr;
 use std::str::FromStr;
 
-const ABOUT: &str = "Serve SOCKS 5 and HTTP CONNECT with Happy Eyeballs";
+const ABOUT: &str = "Serve SOCKS 5 and HTTP proxy clients with Happy Eyeballs";
 
 const LISTEN_HELP: &str = "Serve this address and port; repeatable;\n\
 default is 127.0.0.1:1080 and [::1]:1080";
@@ -39,19 +39,19 @@ default is /etc/resolv.conf";
 const RECORD_HELP: &str = "Write each race to a file of its own under DIR";
 
 const RECORD_MOST_HELP: &str =
-    "Keep N records; the oldest days are removed first;\ndefault is 10000";
+    "Keep at most N records, removing the oldest first;\ndefault is 10000";
 
 const HISTORY_HELP: &str = "Save connection times by address in FILE, for use\nafter a restart";
 
-const MOST_HELP: &str = "Serve N clients at once; default is 1000";
+const MOST_HELP: &str = "Serve at most N clients at once; default is 1000";
 
 const IDLE_HELP: &str = "Close a tunnel that is idle for SECONDS, or as 90s;\n\
 by default none is closed";
 
 const EXAMPLE: &str = "\
-Gives Happy Eyeballs (RFC 8305) to any program that supports a proxy. SOCKS 5
-and HTTP CONNECT share one port. Use socks5h:// so that the proxy looks up the
-name. A tunnel lasts until both sides have closed theirs.
+Gives Happy Eyeballs (RFC 8305) to any program that supports a proxy. SOCKS 5,
+HTTP CONNECT and requests for http:// URLs share one port. Use socks5h:// so
+that the proxy looks up the name. A tunnel lasts until both sides have closed.
 
 The defaults are attempt=250, resolution=50, count=1, limit=30000, floor=10.
 
@@ -59,23 +59,24 @@ Examples:
 
   he proxy --record day/
   ALL_PROXY=socks5h://127.0.0.1:1080 curl https://example.org/
+  http_proxy=http://127.0.0.1:1080 wget http://example.org/
   git -c http.proxy=socks5h://127.0.0.1:1080 clone https://example.org/it.git
   ssh -o ProxyCommand='nc -X 5 -x 127.0.0.1:1080 %h %p' example.org
 
 In a browser, set http://127.0.0.1:1080/proxy.pac as the automatic proxy
 configuration.
 
-With --record the race of each connection is a file of its own, which has its
-time (UTC) and target in its name, and which all commands read that take races:
+With --record each race is a file of its own, with the time (UTC) and the target
+in its name. All commands that read timelines take these files:
 
   day/2026-11-26/16-34-40.123-example.org-443.timeline
 
   he summary day/
   he draw --html day.html day/
 
-Of addresses that RFC 6724 leaves alike, one that was connected to in the last
+Of addresses that RFC 6724 ranks alike, one that was connected to in the last
 day from the same source comes first, the fastest before the others (RFC 8305
-section 4). With --history this is known after a restart too.
+section 4). With --history this holds after a restart too.
 
 Standard error has a line for each session: the time, the client, what it asked
 for, the address that won, the time to connect in milliseconds, the milliseconds
@@ -86,8 +87,8 @@ It listens on loopback only, unless --allow names other networks. Their clients
 cannot reach this machine or private networks through the proxy, unless
 --allow-private is given.
 
-Exit status: 1 after a fault, as where an address is taken; 2 on a usage error.
-It goes on until a signal ends it.";
+Exit status: 1 after a fault, such as an address in use; 2 on a usage error. It
+runs until a signal ends it.";
 
 // Its arguments, in the order in which help has them.
 pub(crate) fn command<'a>(alloc: Global) -> Result<Command<'a>, Memory> {
@@ -122,7 +123,7 @@ pub(crate) fn command<'a>(alloc: Global) -> Result<Command<'a>, Memory> {
     plain(alloc, "proxy", ABOUT, EXAMPLE, args)
 }
 
-/// What is written of each session.
+/// The form of the line of each session.
 #[derive(Clone, Copy, Debug, PartialEq, Eq)]
 pub enum SessionLog {
     Nothing,
@@ -139,7 +140,7 @@ pub struct Proxy<'a> {
     pub allow: Vec<Prefix>,
     /// Whether clients of other machines may reach private addresses.
     pub allows_private: bool,
-    /// The family that is tried alone; both are where there is none.
+    /// The only family that is tried; both are if there is none.
     pub only: Option<Family>,
     /// The settings of the races.
     pub settings: Settings,
@@ -197,7 +198,7 @@ fn idle_of(matches: &ArgMatches<'_>) -> Result<Option<u32>, OptionFault>
     }
 }
 
-// The seconds of so many milliseconds, the last one begun.
+// The milliseconds in seconds, rounded up.
 fn whole_seconds(time: u64) -> u32
     requires { time ≤ MOST_IDLE }
     ensures { result ≡ whole_seconds time }

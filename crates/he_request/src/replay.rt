@@ -5,7 +5,9 @@ ghost use Rattle.he_options.specs.Texts.{HasTaskWorkers};
 
 use clap::{ArgMatches, Command, value_parser};
 use he_addr::Memory;
-use he_options::arguments::{FILES_HELP, files, flag_of, json, number_of, plain, value, verbose};
+use he_options::arguments::{
+    FILES_HELP, files, flag_of, json, list, number_of, plain, value, verbose,
+};
 use he_options::limits::{DEFAULT_WORKERS, DEFAULT_WORKERS_TEXT, LEAST_WORKERS, MOST_WORKERS};
 use he_options::settings::set;
 use he_options::{Content, Task};
@@ -18,7 +20,7 @@ const WORKERS_HELP: &str = "Share the races between at most N workers, 1 to 64;\
 the output is the same for any N";
 
 const EXAMPLE: &str = "\
-A timeline has for each race the host's addresses and routes, the tick
+A timeline has for each race the machine's addresses and routes, the tick
 (millisecond) at which each DNS answer comes, and how long each connect takes.
 Standard output has for each race its attempts, with start, address and end,
 and the result. A race that begins with `race 2` may also say what is known of
@@ -47,6 +49,7 @@ pub(crate) fn command<'a>(alloc: Global) -> Result<Command<'a>, Memory> {
         .default_value(DEFAULT_WORKERS_TEXT);
     let args = vec![in alloc;
         files(alloc, FILES_HELP),
+        list(alloc)?,
         workers,
         set(alloc),
         json(alloc),
@@ -55,7 +58,7 @@ pub(crate) fn command<'a>(alloc: Global) -> Result<Command<'a>, Memory> {
     plain(alloc, "replay", ABOUT, EXAMPLE, args)
 }
 
-// What the line asks for.
+// The task that the line asks for.
 pub(crate) fn task_of(matches: &ArgMatches<'_>) -> Task
     ensures has { HasTaskWorkers result }
     ensures asks { AsksReplay ⟦<u16 as FromStr>⟧.from_str_gives (found_of matches.now) result }

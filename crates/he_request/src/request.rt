@@ -69,7 +69,7 @@ const COMMANDS: [&str; 13] = [
 ];
 
 // The commands that a line needs: the one that its first word names, none for the version, and else all, which help
-// and a refusal tell of.
+// and a refusal list.
 fn commands_for<'a>(alloc: Global, first: &str) -> Result<Vec<Command<'a>>, Memory> {
     let mut commands = Vec::new(alloc);
     if let "--version" | "-V" = first {
@@ -109,7 +109,7 @@ fn command_of<'a>(alloc: Global, name: &str) -> Result<Option<Command<'a>>, Memo
 }
 
 /// Reads the words of a command line, of which the first is the program's name; the version is what `--version`
-/// prints, and a terminal has so many columns.
+/// prints, and a terminal has this many columns.
 ///
 /// # Errors
 ///
@@ -140,7 +140,7 @@ fn refusal_of(alloc: Global, first: &str, words: &[&str], error: Error) -> Refus
     }
 }
 
-// What the line asks for. clap has tested that it names a command.
+// The task that the line asks for. clap has tested that it names a command.
 fn request_of<'a>(
     alloc: Global,
     matches: &ArgMatches<'a>,
@@ -176,7 +176,7 @@ fn request_of<'a>(
     }
 }
 
-// What is done with the texts that the line names.
+// The task with the texts that the line names.
 fn task_of(name: &str, matches: &ArgMatches<'_>) -> Task
     ensures { HasTaskWorkers result }
 {
@@ -192,7 +192,7 @@ fn task_of(name: &str, matches: &ArgMatches<'_>) -> Task
 /// Whether a line asks for something that takes a text from standard input.
 pub fn takes_text(line: &Result<Request<'_>, Refusal>) -> bool {
     match line {
-        Ok(Request::Texts(texts)) => texts.files.is_empty(),
+        Ok(Request::Texts(texts)) => texts.files.is_empty() && texts.list.is_none(),
         Ok(Request::Live(live)) => live.file.is_none(),
         _ => false,
     }

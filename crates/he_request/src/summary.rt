@@ -5,7 +5,9 @@ ghost use Rattle.he_request.specs.Requests.{AsksSummary, named_by};
 
 use clap::{ArgMatches, Command, value_parser};
 use he_addr::Memory;
-use he_options::arguments::{FILES_HELP, files, flag, flag_of, number_of, plain, value, verbose};
+use he_options::arguments::{
+    FILES_HELP, files, flag, flag_of, list, number_of, plain, value, verbose,
+};
 use he_options::settings::set;
 use he_options::{By, Task};
 use std::alloc::Global;
@@ -19,8 +21,8 @@ const METRICS_HELP: &str = "Write the counts and times as OpenMetrics text";
 
 const SLOWEST_HELP: &str = "Add the N slowest races that were won, each with its\nfile and line";
 
-const BY_HELP: &str = "Write a row for each file, hour, family or host; hours\n\
-are those in the names that `he proxy --record` gives,\n\
+const BY_HELP: &str = "Write a row for each file, hour, family or host;\n\
+hours are those in the names by `he proxy --record`,\n\
 the family is that of the address that won, the host\n\
 is that of the record lines";
 
@@ -64,6 +66,7 @@ pub(crate) fn command<'a>(alloc: Global) -> Result<Command<'a>, Memory> {
         .conflicts_with("slowest")?;
     let args = vec![in alloc;
         files(alloc, FILES_HELP),
+        list(alloc)?,
         flag(alloc, "json", JSON_HELP),
         metrics,
         value(alloc, "slowest", "N", SLOWEST_HELP).value_parser(value_parser!(u16).range(
@@ -77,7 +80,7 @@ pub(crate) fn command<'a>(alloc: Global) -> Result<Command<'a>, Memory> {
     plain(alloc, "summary", ABOUT, EXAMPLE, args)
 }
 
-// What the line asks for.
+// The task that the line asks for.
 pub(crate) fn task_of(matches: &ArgMatches<'_>) -> Task
     ensures { AsksSummary ⟦<u16 as FromStr>⟧.from_str_gives (found_of matches.now) result }
 {
@@ -95,7 +98,7 @@ pub(crate) fn task_of(matches: &ArgMatches<'_>) -> Task
     }
 }
 
-// The groups that a word names. clap takes these words alone.
+// The groups that a word names. clap takes only these words.
 fn named_by(word: &str) -> By
     ensures { result ≡ named_by word.now }
 {

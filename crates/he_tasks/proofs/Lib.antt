@@ -1,3 +1,4 @@
 mod FilesOf
 mod InTurn
+mod Lists
 mod PageParts

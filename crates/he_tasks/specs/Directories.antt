@@ -13,7 +13,7 @@ pub data AreFilesOf : List (List ℕ) → List (List ℕ) → Type 0 where
   MoreFiles : {names files : List (List ℕ)} (name : List ℕ) (own : List (List ℕ)) → AreFilesOf names files
       → IsInPlaceOf name own → AreFilesOf (names ++ name ∷ []) (files ++ own)
 
--- the texts with the files of their names
-pub record HasFilesOf (texts named : Texts) : Type 0 where
-  pub files : AreFilesOf (map (λ name. name.now) texts.files.items) (map (λ name. name.now) named.files.items)
+-- the texts with the files of these names
+pub record HasFilesOf (names : List (List ℕ)) (texts named : Texts) : Type 0 where
+  pub files : AreFilesOf names (map (λ name. name.now) named.files.items)
   pub others : named ≡ record texts { files = named.files }

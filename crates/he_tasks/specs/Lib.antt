@@ -1,4 +1,5 @@
 pub mod Directories
+pub mod Listed
 pub mod Pages
 pub mod Status
 pub mod Streams

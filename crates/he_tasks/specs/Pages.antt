@@ -1,5 +1,6 @@
 -- A page: the parts of its texts, and the totals that end it.
-use Rattle.std.specs.Prelude.{◌≡◌, ◌⊎◌, ◌-◌, ℕ, Bool, List, [], ◌∷◌, ◌++◌, max, Option, Some, None, option_map, Result, Ok, Err}
+use Rattle.std.specs.Prelude.{◌≡◌, ◌⊎◌, ◌-◌, ℕ, Bool, List, [], ◌∷◌, ◌++◌, map, Option, Some, None, option_map, Result, Ok, Err}
+use Rattle.std.specs.Option.{option_map_or}
 use Rattle.he_timeline.specs.Changes.{ChangeValues}
 use Rattle.he_draw.specs.Page.{totals_facts}
 use Rattle.he_draw.specs.declared.totals.Times.{Times}
@@ -18,8 +19,10 @@ use Rattle.he_streaming.specs.declared.race_texts.Printer.TheVariants as printer
 use Rattle.he_stream.specs.declared.stream.InputStream as inputs
 use Rattle.he_stream.specs.declared.stream.OutputStream as outputs
 use Rattle.he_inputs.specs.RaceStreams.{StreamState}
+use Rattle.he_summary.specs.Figures.{greatest_of}
 use Rattle.he_summary.specs.Steps.{HasRead}
 use Rattle.he_summary.specs.Summed.{HasAdded, Sums}
+use Rattle.he_summary.specs.Times.{IsSpread}
 use Rattle.he_summary.specs.Totals.{AreTotals}
 use Rattle.he_summary.specs.declared.kept.Ending.{Ending}
 use Rattle.he_summary.specs.declared.kept.Ending.TheVariants as endings
@@ -109,18 +112,19 @@ end_of (endings.Won ip tick) = tick
 end_of (endings.Exhausted tick) = tick
 end_of (endings.Limit tick) = tick
 
--- the greatest tick at which one of the races ends
-abbrev pub last_end : List Kept → ℕ
-last_end [] = 0
-last_end (race ∷ kept) = max (end_of race.ending) (last_end kept)
+-- the least number within which 99 of 100 lie; 0 if there are none
+abbrev pub p99_of : Option Spread → ℕ
+p99_of spread = option_map_or (λ s. s.p99) spread 0
 
 abbrev pub page_times : Option Spread → Option Times
 page_times times = option_map (λ t. record { median = t.median; p90 = t.p90; p99 = t.p99 }) times
 
--- the totals of these races on a page
+-- the totals of these races on a page, and of the ticks at which they end the one by which 99 of 100 have ended, and
+-- the last
 abbrev pub ArePageTotals : List Kept → PageTotals → Type 0
 ArePageTotals kept told =
-    (totals : Totals) × AreTotals kept totals
+    (totals : Totals) × (ends : Option Spread) × AreTotals kept totals
+    × IsSpread (map (λ race. end_of race.ending) kept) ends
     × (told
     ≡ record {
       races = totals.counts.races;
@@ -128,7 +132,8 @@ ArePageTotals kept told =
       by_v4 = totals.counts.by_v4;
       not_won = totals.counts.races - totals.counts.won;
       times = page_times totals.times;
-      end = last_end kept;
+      end = p99_of ends;
+      longest = greatest_of ends;
     })
 
 abbrev pub IsTail : List Kept → List ℕ → Type 0

@@ -52,6 +52,15 @@ naming name = option_map (λ n. record { path = n.path.now; shown = n.shown.now 
 abbrev pub file_of : Option Naming → Option (List ℕ)
 file_of name = option_map (λ n. n.path) name
 
+abbrev pub shown_of : Option Naming → Option (List ℕ)
+shown_of name = option_map (λ n. n.shown) name
+
+-- the name in content of this kind: as it is shown in stories and pictures, as it is in JSON
+abbrev pub named_for : Asked → Option Naming → Option (List ℕ)
+named_for asked.Story name = shown_of name
+named_for (asked.Picture ascii width) name = shown_of name
+named_for _ name = file_of name
+
 -- a text was checked, and the numbers of its races and lines were written, or the findings as JSON
 abbrev pub ChecksText : Bool → {I O : Type 0} → inputs.Ghosts I → outputs.Ghosts O → Bool → Option (List ℕ) → I → I → O
     → O → Result (Unit {0}) StreamFault → Type 0
@@ -65,38 +74,37 @@ ChecksText true input output is_all file first last before after =
 -- The result of a task on a text from a file of this name, if it has one, each of whose races has these changes of
 -- its settings: its input went from the first to the last state, and the output and the sums from before to after.
 -- The faults that a check reports other than as JSON are no part of it.
-abbrev pub RunsTask : {I O : Type 0} → inputs.Ghosts I → outputs.Ghosts O → Task → ChangeValues → Option (List ℕ) → I
+abbrev pub RunsTask : {I O : Type 0} → inputs.Ghosts I → outputs.Ghosts O → Task → ChangeValues → Option Naming → I
     → I → O × Option Sums → O × Option Sums → Result (Unit {0}) StreamFault → Type 0
-RunsTask input output (Write content workers) changes file first last before after =
+RunsTask input output (Write content workers) changes name first last before after =
     λ result. ((is_section content ≡ true) × PutsSections input output changes first last before after result)
-    ⊎ ((is_section content ≡ false) × (place : ℕ) × Replays (content_of place content) changes file (Gave input first last)
+    ⊎ ((is_section content ≡ false) × (place : ℕ) × Replays (content_of place content) changes (named_for content name) (Gave input first last)
     (GaveSoFar input first last) (TookToTheEnd output before.0 after.0) (TookRoundsPart output before.0 after.0)
     (TookRounds output before.0 after.0) result)
-RunsTask input output (Compare json races) changes file first last before after =
+RunsTask input output (Compare json races) changes name first last before after =
     λ result. (after.0 ≡ before.0) × AddsSums input first last before.1 after.1 result
-RunsTask input output (Check is_all json) changes file first last before after =
-    ChecksText json input output is_all file first last before.0 after.0
-RunsTask input output (Summarize json metrics slowest) changes file first last before after =
+RunsTask input output (Check is_all json) changes name first last before after =
+    ChecksText json input output is_all (file_of name) first last before.0 after.0
+RunsTask input output (Summarize json metrics slowest) changes name first last before after =
     λ result. (after.0 ≡ before.0) × AddsSums input first last before.1 after.1 result
-RunsTask input output (Group json by) changes file first last before after =
+RunsTask input output (Group json by) changes name first last before after =
     λ result. (after.0 ≡ before.0) × AddsSums input first last before.1 after.1 result
 
--- a heading as head(1) and tail(1) write it for each of several files
-abbrev pub name_line : List ℕ → List ℕ
-name_line name = codes "==> " ++ name ++ codes " <==\n"
+-- the line between the stories of two texts, or nothing before the first ones
+abbrev pub IsGap : List ℕ → Type 0
+IsGap text = (text ≡ []) ⊎ (text ≡ codes "\n")
 
--- the name of a text heads the output for its races, if the output has their places in the text, as `race 1, line 1`,
--- and is no document of its own
+-- the output for the races of a text begins with the text's name on a page, and with a gap for stories, whose first
+-- lines have the name; other output has no heading
 abbrev pub heading_of : List ℕ → Task → Option (List ℕ)
 heading_of name (Write asked.Story workers) = Some name
-heading_of name (Write (asked.Picture ascii width) workers) = Some name
 heading_of name (Write asked.Section workers) = Some name
 heading_of name _ = None
 
 -- the form of the heading
 abbrev pub IsHeading : Task → List ℕ → List ℕ → Type 0
 IsHeading (Write asked.Section workers) name text = text ≡ name_text name
-IsHeading task name text = text ≡ name_line name
+IsHeading task name text = IsGap text
 
 -- whether there are several texts, which then have headings
 abbrev pub has_headings : {N : Type 0} → List N → Bool
@@ -126,7 +134,7 @@ abbrev pub RunsHeaded : {I O : Type 0} → inputs.Ghosts I → outputs.Ghosts O 
     → Option Naming → I → I → O × Option Sums → O × Option Sums → Result (Unit {0}) StreamFault → Type 0
 RunsHeaded {I} {O} input output task changes headed name first last before after result =
     ((between : O) × HasHeading output task (heading task headed name) before.0 between
-    × RunsTask input output task changes (file_of name) first last (between, before.1) after result)
+    × RunsTask input output task changes name first last (between, before.1) after result)
     ⊎ ((fault : StreamFault) × (result ≡ Err fault) × (last ≡ first)
     × LacksHeading output task (heading task headed name) before.0 after.0)
 

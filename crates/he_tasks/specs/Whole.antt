@@ -1,5 +1,5 @@
 -- The output for all the texts that a line names, to the output or to a file.
-use Rattle.std.specs.Prelude.{◌≡◌, ◌⊎◌, ℕ, Bool, true, false, [], List, Option, Some, MatchOption}
+use Rattle.std.specs.Prelude.{◌≡◌, ◌⊎◌, ℕ, Bool, true, false, [], List, Option, Some, MatchOption, map}
 use Rattle.he_options.specs.declared.texts.Content.TheVariants.{Section}
 use Rattle.he_options.specs.declared.texts.Task.{Task}
 use Rattle.he_options.specs.declared.texts.Task.TheVariants.{Write}
@@ -8,6 +8,7 @@ use Rattle.he_stream.specs.declared.stream.InputStream as inputs
 use Rattle.he_stream.specs.declared.stream.OutputStream as outputs
 use Rattle.he_summary.specs.Summed.{HasSummed, Sums}
 use Rattle.he_tasks.specs.Directories.{HasFilesOf}
+use Rattle.he_tasks.specs.Listed.{IsList, WasListed}
 use Rattle.he_tasks.specs.Status.{first_fault}
 use Rattle.he_tasks.specs.Streams.{TookAll, TookPart}
 use Rattle.he_tasks.specs.Summaries.{EndsTexts, keeps, rows_of}
@@ -66,9 +67,34 @@ DoesTexts input file page output texts first last before after status =
     (WritesTexts input file output texts first last before after status)
     (λ _. (after ≡ before) × WritesFile input file page texts first last status)
 
--- so for the files of the line's names; or there was no memory for these, and nothing was read
+-- so for the files of these names; or there was no memory for them, and nothing was read
+abbrev pub DoesFiles : {I F P O : Type 0} → inputs.Ghosts I → inputs.Ghosts F → outputs.Ghosts P → outputs.Ghosts O
+    → Texts → List (List ℕ) → I → I → O → O → ℕ → Type 0
+DoesFiles input file page output texts names first last before after status =
+    ((named : Texts) × HasFilesOf names texts named
+    × DoesTexts input file page output named first last before after status)
+    ⊎ ((status ≡ FAULT) × (last ≡ first) × (after ≡ before))
+
+-- so for the names in this list; or it has a fault, and nothing was read
+abbrev pub RunsList : {I F P O : Type 0} → inputs.Ghosts I → inputs.Ghosts F → outputs.Ghosts P → outputs.Ghosts O
+    → Texts → List ℕ → I → I → O → O → ℕ → Type 0
+RunsList input file page output texts list first last before after status =
+    ((names : List (List ℕ)) × IsList list names
+    × DoesFiles input file page output texts names first last before after status)
+    ⊎ ((status ≡ FAULT) × (last ≡ first) × (after ≡ before))
+
+-- so for the names in the list at this path; or it could not be read
+abbrev pub DoesListed : {I F P O : Type 0} → inputs.Ghosts I → inputs.Ghosts F → outputs.Ghosts P → outputs.Ghosts O
+    → Texts → List ℕ → I → I → O → O → ℕ → Type 0
+DoesListed {I} input file page output texts path first last before after status =
+    ((list : List ℕ) × (next : I) × WasListed input file path first next list
+    × RunsList input file page output texts list next last before after status)
+    ⊎ ((status ≡ FAULT) × (after ≡ before))
+
+-- so for the files of the line, or for those that its list names
 abbrev pub DoesNamed : {I F P O : Type 0} → inputs.Ghosts I → inputs.Ghosts F → outputs.Ghosts P → outputs.Ghosts O
     → Texts → I → I → O → O → ℕ → Type 0
 DoesNamed input file page output texts first last before after status =
-    ((named : Texts) × HasFilesOf texts named × DoesTexts input file page output named first last before after status)
-    ⊎ ((status ≡ FAULT) × (last ≡ first) × (after ≡ before))
+    MatchOption texts.list
+    (DoesFiles input file page output texts (map (λ name. name.now) texts.files.items) first last before after status)
+    (λ path. DoesListed input file page output texts path.now first last before after status)

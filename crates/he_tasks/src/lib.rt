@@ -8,6 +8,7 @@
 //! - Each text is replayed, checked or summed up as its crate specifies, with the settings of the line, and the
 //!   status reports how it ended (`specs/Texts`, `specs/Status`).
 //! - The files of a line are read in its order, `-` for the input; a directory may have several (`specs/Directories`).
+//!   A list, of a file or of the input, may have their names (`specs/Listed`).
 //! - Files are read one after the other, with `-` for the input, up to the first that can't be opened or has a fault,
 //!   or all of them with --keep-going and `check --all`; the status is that of the first fault. If there are several,
 //!   the output of `explain` and `draw` for each follows its heading, whose name has no character that controls a
@@ -24,6 +25,7 @@
 mod content;
 mod directories;
 mod files;
+mod listed;
 pub mod name;
 mod page;
 pub mod reports;

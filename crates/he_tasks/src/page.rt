@@ -1,7 +1,7 @@
 //! A page: its head, the parts of its texts, and the totals that end it.
-ghost use Rattle.std.specs.Prelude.{ℕ, ◌≡◌, ◌⊎◌, IfOk, List, OnErr, OnOk};
+ghost use Rattle.std.specs.Prelude.{ℕ, ◌≡◌, ◌⊎◌, map, IfOk, List, OnErr, OnOk};
 ghost use Rattle.he_streaming.specs.Rounds.{IsAsked};
-ghost use Rattle.he_tasks.specs.Pages.{ArePageTotals, IsTail, PutsParts, PutsSections, PutsTail, end_of, last_end, page_times};
+ghost use Rattle.he_tasks.specs.Pages.{ArePageTotals, IsTail, PutsParts, PutsSections, PutsTail, end_of, p99_of, page_times};
 ghost use Rattle.he_tasks.specs.Streams.{TookAll, TookPart};
 
 use crate::reports::report;
@@ -12,6 +12,8 @@ use he_draw::{Times, Totals, write_head, write_tail};
 use he_inputs::{StreamFault, record_of};
 use he_stream::{InputStream, OutputStream};
 use he_streaming::{Content, Printer, RacePlace, TextRequest};
+use he_summary::figures::greatest_of;
+use he_summary::times::spread_of;
 use he_summary::{Ending, Kept, Place, Races, Spread};
 use he_timeline::Changes;
 use std::alloc::Global;
@@ -135,13 +137,15 @@ fn totals_of(alloc: Global, kept: &[Kept]) -> Result<Totals, Memory>
 {
     let counted = he_summary::Totals::of(alloc, kept)?;
     let counts = counted.counts;
+    let ends = spread_of(&mut ends_of(alloc, kept)?);
     Ok(Totals {
         races: counts.races,
         by_v6: counts.by_v6,
         by_v4: counts.by_v4,
         not_won: counts.races.saturating_sub(counts.won),
         times: times_of(counted.times),
-        end: last_end(kept),
+        end: p99_of(ends),
+        longest: greatest_of(ends),
     })
 }
 
@@ -158,15 +162,21 @@ fn times_of(times: Option<Spread>) -> Option<Times>
     }
 }
 
-// The greatest tick at which one of the races ends.
-fn last_end(kept: &[Kept]) -> u64
-    ensures { result ≡ last_end kept.now }
+// The ticks at which races end.
+fn ends_of(alloc: Global, kept: &[Kept]) -> Result<Vec<u64>, Memory>
+    ensures { IfOk result (λ ends. ends.items ≡ map (λ race. end_of race.ending) kept.now) }
 {
-    let mut last = 0;
-    for race in kept {
-        last = end_of(race.ending).max(last);
+    kept.iter().map(|race| end_of(race.ending)).collect(alloc)
+}
+
+// The least number within which 99 of 100 lie; 0 if there are none.
+fn p99_of(spread: Option<Spread>) -> u64
+    ensures { result ≡ p99_of spread }
+{
+    match spread {
+        Some(spread) => spread.p99,
+        None => 0,
     }
-    last
 }
 
 fn end_of(ending: Ending) -> u64

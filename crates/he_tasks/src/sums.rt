@@ -1,8 +1,9 @@
 //! The summary or the comparison of the races of all texts.
-ghost use Rattle.std.specs.Prelude.{◌≡◌, IfOk, List, map, OnOk, string_bytes};
+ghost use Rattle.std.specs.Prelude.{ℕ, ◌≡◌, IfOk, List, map, OnOk, string_bytes};
 ghost use Rattle.he_summary.specs.Kept.{Run};
 ghost use Rattle.he_summary.specs.Summed.{HasSummed};
-ghost use Rattle.he_tasks.specs.Summaries.{AreByHost, AreDivided, AreGrouped, AreLinesOf, AreWorst, AreWorstGroups, EndsTexts, IsSummary, IsTold, IsWorstHost, IsWorstHour, PutsSums};
+ghost use Rattle.he_tasks.specs.Summaries.{AreByHost, AreDivided, AreGrouped, AreLinesOf, AreWorst, AreWorstGroups, EndsTask, EndsTexts, IsSummary, IsTold, IsWorstHost, IsWorstHour, PutsSums};
+ghost use Rattle.he_options.specs.declared.texts.Task.TheVariants.{Write};
 ghost use Rattle.he_tasks.specs.Summaries.{form_of, name_in, names_in};
 
 use crate::page::put_tail;
@@ -26,27 +27,37 @@ pub(crate) fn end_texts<R, O: OutputStream, F: Write>(
 ) -> u8
     ensures { EndsTexts O.OutputStream texts.now sums session.old.output session.new.output result }
 {
-    match (texts.task, sums) {
-        (Task::Compare { .. } | Task::Summarize { .. } | Task::Group { .. }, Some(races)) =>
-            put_sums(session, texts, &races),
-        (
-            Task::Write {
-                content: Content::Section,
-                ..
-            },
-            Some(races),
-        ) => put_tail(session, texts.explains, &races),
-        (
-            Task::Compare { .. }
-            | Task::Summarize { .. }
-            | Task::Group { .. }
-            | Task::Write {
-                content: Content::Section,
-                ..
-            },
-            None,
-        ) => FAULT,
-        _ => DONE,
+    match texts.task {
+        Task::Compare { .. } | Task::Summarize { .. } | Task::Group { .. } => match sums {
+            Some(races) => put_sums(session, texts, &races),
+            None => FAULT,
+        },
+        Task::Write { content, .. } => end_written(session, texts, content, sums),
+        Task::Check { .. } => DONE,
+    }
+}
+
+// Ends the output of what is written of each race: a page with its totals.
+fn end_written<R, O: OutputStream, F: Write>(
+    session: &mut Session<'_, '_, R, O, F>,
+    texts: &Texts<'_>,
+    content: Content,
+    sums: Option<Races<Global>>,
+) -> u8
+    ensures { (workers : ℕ) → EndsTask O.OutputStream texts.now (Write content workers) sums session.old.output
+        session.new.output result }
+{
+    match content {
+        Content::Section => match sums {
+            Some(races) => put_tail(session, texts.explains, &races),
+            None => FAULT,
+        },
+        Content::Transcript { .. }
+        | Content::Order { .. }
+        | Content::ExplanationJson
+        | Content::Story
+        | Content::Picture { .. }
+        | Content::Image => DONE,
     }
 }
 

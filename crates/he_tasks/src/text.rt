@@ -6,7 +6,7 @@ ghost use Rattle.he_tasks.specs.Status.{status_of};
 ghost use Rattle.he_tasks.specs.Summaries.{AddsSums};
 ghost use Rattle.he_options.specs.Texts.{HasTaskWorkers};
 ghost use Rattle.he_tasks.specs.Texts.{HasHeading, LacksHeading, RunsHeaded, RunsOne, RunsTask, is_section};
-ghost use Rattle.he_tasks.specs.Texts.{file_of, has_headings, heading, name_line, naming};
+ghost use Rattle.he_tasks.specs.Texts.{IsGap, file_of, has_headings, heading, named_for, naming, shown_of};
 
 use crate::content::content_of;
 use crate::name::Name;
@@ -65,7 +65,7 @@ fn run_headed<R: TaskSystem, I: InputStream, O: OutputStream, F>(
         (session.old.output, sums.old) (session.new.output, sums.new) result }
 {
     if has_headings(text.texts) {
-        put_heading(session.alloc, text, &mut session.output)?;
+        put_heading(session.alloc, session.place, text, &mut session.output)?;
     }
     run_task(session, text, input, sums, told)
 }
@@ -77,9 +77,10 @@ fn has_headings(texts: &Texts<'_>) -> bool
     texts.files.len() > 1
 }
 
-// Puts the heading of a text, if the task has headings.
+// Puts the heading of the text of this place, if the task has headings.
 fn put_heading<O: OutputStream>(
     alloc: Global,
+    place: usize,
     text: Text<'_>,
     output: &mut O,
 ) -> Result<(), StreamFault>
@@ -93,9 +94,9 @@ fn put_heading<O: OutputStream>(
     };
     match text.texts.task {
         Task::Write {
-            content: Content::Story | Content::Picture { .. },
+            content: Content::Story,
             ..
-        } => put_text(&name_line(alloc, name.shown)?, output),
+        } => put_text(gap(place), output),
         Task::Write {
             content: Content::Section,
             ..
@@ -104,15 +105,11 @@ fn put_heading<O: OutputStream>(
     }
 }
 
-// The heading as head(1) and tail(1) write it for each of several files.
-fn name_line(alloc: Global, name: &str) -> Result<Vec<u8>, Memory>
-    ensures { IfOk result (λ line. line.items ≡ name_line name.now) }
+// The line between the stories of this text and those of the one before it.
+fn gap(place: usize) -> &'static [u8]
+    ensures { IsGap result.now }
 {
-    let mut line = Vec::new(alloc);
-    line.extend_from_slice(b"==> ")?;
-    line.extend_from_slice(name.as_bytes())?;
-    line.extend_from_slice(b" <==\n")?;
-    Ok(line)
+    if place == 0 { b"" } else { b"\n" }
 }
 
 fn name_in_page(alloc: Global, name: &str) -> Result<Vec<u8>, Memory>
@@ -133,7 +130,7 @@ fn run_task<R: TaskSystem, I: InputStream, O: OutputStream, F>(
 ) -> Result<(), StreamFault>
     requires { HasTaskWorkers text.texts.now.task }
     ensures { RunsTask I.InputStream O.OutputStream text.entry.texts.now.task text.entry.texts.now.changes
-        (file_of (naming text.entry.name)) input.old input.new (session.old.output, sums.old)
+        (naming text.entry.name) input.old input.new (session.old.output, sums.old)
         (session.new.output, sums.new) result }
 {
     let alloc = session.alloc;
@@ -145,7 +142,7 @@ fn run_task<R: TaskSystem, I: InputStream, O: OutputStream, F>(
             let asked = TextRequest {
                 content: content_of(session.place, content),
                 changes: text.texts.changes,
-                file: file_of(text.name),
+                file: named_for(content, text.name),
             };
             let output = &mut session.output;
             replay(session.system, alloc, &asked, workers, input, output)
@@ -171,6 +168,25 @@ fn is_section(content: Content) -> bool
     ensures { result ≡ is_section content }
 {
     matches!(content, Content::Section)
+}
+
+// The name of the file for content of this kind: as it is shown in stories and pictures, as it is in JSON.
+fn named_for<'n>(content: Content, name: Option<Name<'n>>) -> Option<&'n str>
+    ensures { name_of result ≡ named_for content (naming name.entry) }
+{
+    match content {
+        Content::Story | Content::Picture { .. } => shown_of(name),
+        _ => file_of(name),
+    }
+}
+
+fn shown_of<'n>(name: Option<Name<'n>>) -> Option<&'n str>
+    ensures { name_of result ≡ shown_of (naming name.entry) }
+{
+    match name {
+        Some(name) => Some(name.shown),
+        None => None,
+    }
 }
 
 // The name of the file, for JSON.

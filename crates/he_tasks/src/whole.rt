@@ -1,11 +1,12 @@
 //! The output for all the texts that a line names, to the output or to a file.
 ghost use Rattle.std.specs.Prelude.{◌≡◌, IfOk, OnErr, OnOk, map, string_bytes, true};
-ghost use Rattle.he_options.specs.Texts.{IsTexts};
+ghost use Rattle.he_options.specs.Texts.{HasTaskWorkers, IsTexts};
 ghost use Rattle.he_tasks.specs.Summaries.{keeps, rows_of};
-ghost use Rattle.he_tasks.specs.Whole.{DoesNamed, DoesTexts, FillsFile, HasHead, LacksStart, WritesFile, WritesTexts, is_page};
+ghost use Rattle.he_tasks.specs.Whole.{DoesFiles, DoesListed, DoesNamed, DoesTexts, FillsFile, HasHead, LacksStart, RunsList, WritesFile, WritesTexts, is_page};
 
 use crate::directories::files_of;
 use crate::files::run_all;
+use crate::listed::{names_in, read_list};
 use crate::name::Name;
 use crate::page::put_head;
 use crate::reports::{DONE, first_fault, report, report_path};
@@ -24,9 +25,9 @@ use std::alloc::Global;
 use std::io::Write;
 use std::mem::drop;
 
-/// Runs the task on the texts of the named files, or on the input's if none is named, into the output or into the
-/// file of a page, and returns the exit status. A directory has the files in it and in its directories whose names
-/// end in `.timeline`, in the order of their names.
+/// Runs the task on the texts of the named files, or of those that a list names, or on the input's if none is named,
+/// into the output or into the file of a page, and returns the exit status. A directory has the files in it and in its
+/// directories whose names end in `.timeline`, in the order of their names.
 pub fn run_texts<R: TaskSystem, I: InputStream, O: OutputStream, F: Write>(
     session: &mut Session<'_, '_, R, O, F>,
     texts: Texts<'_>,
@@ -35,6 +36,72 @@ pub fn run_texts<R: TaskSystem, I: InputStream, O: OutputStream, F: Write>(
     requires { IsTexts texts }
     ensures { DoesNamed I.InputStream ⟦<FromReader<R::File> as InputStream>⟧ ⟦<ToWriter<R::File> as OutputStream>⟧
         O.OutputStream texts.entry input.old input.new session.old.output session.new.output result }
+{
+    match texts.list {
+        Some(path) => run_listed(session, texts, path, input),
+        None => run_named(session, texts, input),
+    }
+}
+
+// Runs the task on the files that the list at this path names.
+fn run_listed<R: TaskSystem, I: InputStream, O: OutputStream, F: Write>(
+    session: &mut Session<'_, '_, R, O, F>,
+    texts: Texts<'_>,
+    path: &str,
+    input: &mut I,
+) -> u8
+    requires { HasTaskWorkers texts.task }
+    ensures { DoesListed I.InputStream ⟦<FromReader<R::File> as InputStream>⟧
+        ⟦<ToWriter<R::File> as OutputStream>⟧ O.OutputStream texts.entry path.now input.old input.new
+        session.old.output session.new.output result }
+{
+    let (rt, alloc) = (session.system, session.alloc);
+    match read_list(rt, alloc, path, input) {
+        Ok(list) => run_list(session, texts, path, &list, input),
+        Err(error) => {
+            drop(texts);
+            report_path(alloc, path, error, &mut session.faults)
+        }
+    }
+}
+
+// Runs the task on the files that a list names, which is that at this path.
+fn run_list<R: TaskSystem, I: InputStream, O: OutputStream, F: Write>(
+    session: &mut Session<'_, '_, R, O, F>,
+    texts: Texts<'_>,
+    path: &str,
+    list: &[u8],
+    input: &mut I,
+) -> u8
+    requires { HasTaskWorkers texts.task }
+    ensures { RunsList I.InputStream ⟦<FromReader<R::File> as InputStream>⟧ ⟦<ToWriter<R::File> as OutputStream>⟧
+        O.OutputStream texts.entry list.now input.old input.new session.old.output session.new.output result }
+{
+    match names_in(session.alloc, list) {
+        Ok(names) => {
+            let texts = Texts {
+                files: names,
+                ..texts
+            };
+            run_named(session, texts, input)
+        }
+        Err(fault) => {
+            drop(texts);
+            report_path(session.alloc, path, fault.words(), &mut session.faults)
+        }
+    }
+}
+
+// Runs the task on the texts of these files, or on the input's if there are none.
+fn run_named<R: TaskSystem, I: InputStream, O: OutputStream, F: Write>(
+    session: &mut Session<'_, '_, R, O, F>,
+    texts: Texts<'_>,
+    input: &mut I,
+) -> u8
+    requires { HasTaskWorkers texts.task }
+    ensures { DoesFiles I.InputStream ⟦<FromReader<R::File> as InputStream>⟧ ⟦<ToWriter<R::File> as OutputStream>⟧
+        O.OutputStream texts.entry (map (λ name. name.now) texts.entry.files.items) input.old input.new
+        session.old.output session.new.output result }
 {
     let (rt, alloc) = (session.system, session.alloc);
     let Ok(files) = files_of(rt, alloc, texts.files.as_slice()) else {

@@ -1,7 +1,7 @@
 use Rattle.std.proofs.Common.{◌∙◌, ap, inl, map, refl, subst, sym}
 use Rattle.std.specs.Prelude.{string_bytes}
 use Rattle.he_tasks.specs.Directories.{AreFilesOf}
-use Rattle.he_tasks.proofs.whole.run_texts.Goals as goal
+use Rattle.he_tasks.proofs.whole.run_named.Goals as goal
 
 pub returns : goal.returns
 returns g c =
