@@ -1,4 +1,4 @@
-race 1, line 1: connected by IPv6 (2001:db8:1::1) in 60 ms; nothing lost
+race 1 (line 1): connected by IPv6 (2001:db8:1::1) in 60 ms; nothing lost
 where the time went: names 20 ms, lost 0 ms, connecting 40 ms
 preferred, once every answer is known:
   1. 2001:db8:1::1 from 2001:db8:5::2
@@ -6,13 +6,13 @@ preferred, once every answer is known:
   3. 198.51.100.1 from 192.168.1.23; its source is deprecated (RFC 6724 rule 3)
   4. fe80::9 from 2001:db8:5::2; scope 2, its source 14 (RFC 6724 rule 2)
 course:
-  20 ms  AAAA answer: 3 addresses to try; the A answer is not there yet
-  20 ms  attempt 1 to 2001:db8:1::1: the AAAA answer is there; number 1 of 3 known, IPv6 first
+  20 ms  AAAA answer: 3 addresses to try; still waiting for the A answer
+  20 ms  attempt 1 to 2001:db8:1::1: AAAA answer received; number 1 of 3 known addresses, IPv6 first
   25 ms  A answer: 1 address to try
   60 ms  attempt 1 connected after 40 ms
 no address of the A answer was tried
 
-race 2, line 12: connected by IPv4 (198.51.100.1) in 50 ms; nothing lost
+race 2 (line 12): connected by IPv4 (198.51.100.1) in 50 ms; nothing lost
 where the time went: names 20 ms, lost 0 ms, connecting 30 ms
 preferred, once every answer is known:
   1. 198.51.100.1 from 192.168.1.23
@@ -21,6 +21,6 @@ preferred, once every answer is known:
 course:
   20 ms  AAAA answer: 2 addresses to try
   20 ms  A answer: 1 address to try
-  20 ms  attempt 1 to 198.51.100.1: the AAAA answer is there; number 1 of 3 known, IPv4 first
+  20 ms  attempt 1 to 198.51.100.1: AAAA answer received; number 1 of 3 known addresses, IPv4 first
   50 ms  attempt 1 connected after 30 ms
 no address of the AAAA answer was tried

@@ -84,9 +84,9 @@ fn stories_know_their_place(rt: HostRuntime) -> Result<(), Fail> {
     Ok(())
 }
 
-const FIRST: &[u8] = b"race 1, line 1: ";
+const FIRST: &[u8] = b"race 1 (line 1): ";
 
-const SECOND: &[u8] = b"race 2, line 10: ";
+const SECOND: &[u8] = b"race 2 (line 10): ";
 
 fn has_line(text: &[u8], beginning: &[u8]) -> bool {
     text.split(|byte| *byte == b'\n')
