@@ -1,9 +1,9 @@
 #!/usr/bin/env python3
 """Draws races and texts of them, also with something broken.
 
-needs: python3, its standard library alone
+needs: python3 and its standard library
 usage: scripts/drawn.py RACES [--most BYTES | --largest] [--seed N] [--records]
-           writes a text of so many sound races, each of at most so many bytes or as large as may be; with record lines
+           writes a text of RACES races without a fault, each of at most BYTES or as large as may be; with record lines
            before most of them, which are drawn apart, so that the races stay the same
 """
 import argparse
@@ -125,7 +125,7 @@ class Drawer(random.Random):
         return [f"set {name} {values[name]}" for name in names]
 
     def changes(self, least):
-        """At least so many settings that stand in place of each race's own, as words of a command line."""
+        """At least this many settings in place of each race's own, as words of a command line."""
         names = self.sample(list(plain.SETTINGS), self.choice([least, 1, 1, 2, 3]))
         values = {name: self.setting(name) for name in names}
         if "floor" in values:
@@ -186,7 +186,7 @@ class Drawer(random.Random):
         return [f"{word} {self.ticks(0, plain.MOST_TICK)} {told}"], addresses
 
     def known(self, addresses):
-        """What is known of some addresses: round trip times, of few values so that some are equal, and earlier use."""
+        """The history of some addresses: round trip times, of few values so that some are equal, and earlier use."""
         if self.version == 1:
             return []
         self.shuffle(addresses)
@@ -253,7 +253,7 @@ class Drawer(random.Random):
 
     def large_race(self):
         """A race with as many addresses and pauses as it may have, the addresses in their longest spelling; half of
-        those of version 2 tell of each address what is known."""
+        those of version 2 have the history of each address."""
         kept = [line for line in self.race() if line.split()[0] in ("race", "set", "policy", "source", "route")]
         answers, rtts, used, outcomes, pauses, last = [], [], [], [], [], 0
         is_known = kept[0] == "race 2" and self.is_one_in(2)
@@ -352,7 +352,7 @@ class Drawer(random.Random):
         return as_text(self.race())
 
     def sound_text(self, races, most=None):
-        """So many races, each of at most so many bytes."""
+        """This many races, each of at most `most` bytes."""
         texts = iter(self.race_text, None)
         return b"".join(itertools.islice((text for text in texts if most is None or len(text) <= most), races))
 

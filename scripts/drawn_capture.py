@@ -241,7 +241,7 @@ class Drawn(random.Random):
         self.races.append((start, records, [*lines, "end"], done, said, self.result(attempts, stop, last)))
 
     def result(self, attempts, stop, last):
-        """What the client did, and the tick after which this is known: it stops where the next SYN was due, two
+        """The client's own end, and the tick after which this is known: it stops where the next SYN was due, two
         seconds after the second one, and another second later."""
         if stop is not None:
             return f"connected {stop}", 0

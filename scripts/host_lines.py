@@ -83,7 +83,7 @@ def lines_of(interfaces, routes4, routes6):
 
 
 def recorded_lines(folder):
-    """Of a host that was recorded: what the commands printed stands in three files."""
+    """Of a host that was recorded: the output of the commands is in three files."""
     return "".join(lines_of(*(json.loads((folder / name).read_text() or "[]")
                               for name in ("address.json", "route4.json", "route6.json"))))
 

@@ -1,10 +1,10 @@
-"""A plain reading of the rules in docs/DEFINITIONS.md, RFC 8305 and RFC 6724, apart from the program.
+"""A second reading of the rules in docs/DEFINITIONS.md, RFC 8305 and RFC 6724, apart from the program.
 
 It says what `he replay` and `he order` write for a text: the output, and the line of a fault; what other commands write
-stands in the files plain_*.py beside it, of which plain_wanted.py is their command line. It is as slow and plain as it
+is in the files plain_*.py beside it, of which plain_wanted.py is their command line. It is as slow and plain as it
 can be, and shares nothing with the program: who compares both (scripts/parts/fuzz.py) finds where they differ.
 
-needs: python3, its standard library alone
+needs: python3 and its standard library
 """
 import calendar
 import copy
@@ -18,7 +18,7 @@ from collections import Counter, namedtuple
 from functools import cached_property, lru_cache
 
 ROOT = pathlib.Path(__file__).resolve().parent.parent
-# The limits of a text stand in docs/FORMAT.md: what there is at most, and how many.
+# The limits of a text, as in docs/FORMAT.md.
 LIMITS = re.findall(r"^\| ([^|]+) \| ([0-9,]+) \|$", (ROOT / "docs/FORMAT.md").read_text(), re.MULTILINE)
 MOST_RACES, MOST_LINE_BYTES, MOST_LISTED, MOST_ADDRESSES, MOST_PAUSES, MOST_PREFIXES, MOST_SERVERS, MOST_TRIED = [
     next(int(most.replace(",", "")) for what, most in LIMITS if what.startswith(begin))
@@ -31,7 +31,7 @@ MAPPED = 0xFFFF << 32
 # A race with a limit up to this one is followed tick by tick.
 PLAIN_LIMIT = 3_000
 
-# Keeps the latest answers of a function, since a plain reading asks the same again and again.
+# Keeps the latest answers of a function, since a second reading asks the same again and again.
 kept = lru_cache(maxsize=1 << 16)
 
 Address = namedtuple("Address", "family number")
@@ -45,7 +45,7 @@ Answer = namedtuple("Answer", "tick addresses")
 Line = namedtuple("Line", "place start address fate tick")
 # How a race ends: `won` by the attempt of this place, `exhausted` or `limit`.
 Result = namedtuple("Result", "kind place tick")
-# What is wrong with a text: the line, counted from 1, the kind, and the line after which the next part is sought.
+# The fault of a text: the line, counted from 1, the kind, and the line after which the next part is sought.
 Found = namedtuple("Found", "line kind after")
 MAPPED_BLOCK = Prefix(MAPPED, 96)
 ALL = Prefix(0, 0)
@@ -81,7 +81,7 @@ class Report(namedtuple("Report", "lines result")):
 
 
 class Fault(Exception):
-    """What is wrong with a line."""
+    """The fault of a line."""
 
 
 # Addresses and their texts: RFC 4291 section 2.2, RFC 5952 section 4, as Python's library has them
@@ -211,7 +211,7 @@ class Host:
             return own >= scope(destination) if own < other else other < scope(destination)
 
         def merits(source):
-            """What the other rules ask of a source, in order: of the first that differs, the greater goes first."""
+            """The keys of a source by the other rules, in order: of the first that differs, the greater goes first."""
             is_out = source.interface == self.route(destination).interface
             has_label = self.row(source.address).label == self.row(destination).label
             return (source.address == destination, not source.deprecated, is_out, has_label, source.temporary,
@@ -225,7 +225,7 @@ class Host:
             self.is_better_source(other, source, destination) for other in candidates)), None)
 
     def facts(self, address):
-        """What the destination rules ask of an address."""
+        """The keys of an address by the destination rules."""
         source, route, row = self.source(address), self.route(address), self.row(address)
         return {
             "address": address, "source": source, "scope": scope(address), "label": row.label,
@@ -293,7 +293,7 @@ def interlace(addresses, count):
 
 
 class Record:
-    """What a race's record lines say: texts as they stand, addresses and numbers as such."""
+    """The facts of a race's record lines: texts as they are, addresses and numbers as such."""
 
     def __init__(self):
         self.time = self.target = self.client = self.end = None
@@ -398,7 +398,7 @@ class Race:
 
     @cached_property
     def report(self):
-        """What its transcript tells."""
+        """Its transcript."""
         limit, attempts = self.setting("limit"), self.attempts()
         finishes = [end if end and end[1] <= limit else None for end in (self.finish(*attempt) for attempt in attempts)]
         successes = [(end[1], place) for place, end in enumerate(finishes) if end and end[0] == "ok"]
@@ -433,7 +433,7 @@ class Race:
         return self.host.ranked(tuple(self.usable("aaaa") + self.usable("a")))
 
 
-# What is written of a race
+# The texts that are written of a race
 
 
 def transcript(race):
@@ -577,7 +577,7 @@ class Reader:
         self.race.answers[word] = Answer(tick, addresses)
 
     def answered(self, text):
-        """An address that stands in one of the race's answers."""
+        """An address in one of the race's answers."""
         address = read_address(text)
         if address is None or not any(address in answer.addresses for answer in self.race.answers.values()):
             raise Fault("address")
@@ -741,7 +741,7 @@ def begins_part(line, is_whole):
 
 
 def fault_line(line, kind):
-    """What the program prints of a fault."""
+    """The program's words for a fault."""
     return f"he: line {line}: {kind}\n".encode()
 
 
@@ -751,10 +751,10 @@ def changes_of(words):
 
 
 def replayed(races, changes):
-    """What `he replay` writes for these races, with these settings in place of their own."""
+    """The output of `he replay` for these races, with these settings in place of their own."""
     return "".join(transcript(race.changed(changes)) for race in races).encode()
 
 
 def ordered(races, changes):
-    """What `he order` writes, which no setting changes."""
+    """The output of `he order`, which no setting changes."""
     return "".join(order(race.changed(changes)) for race in races).encode()

@@ -1,7 +1,7 @@
 """A plain account of a race, apart from the program, as plain.py is of the rules: who owns each of its ticks, by "Account"
 in docs/DEFINITIONS.md, from its transcript.
 
-needs: python3, its standard library alone
+needs: python3 and its standard library
 """
 from collections import Counter
 

@@ -1,7 +1,7 @@
-"""A plain reading of what `he compare` writes, apart from the program, as plain.py is of the rules: by
+"""A second reading of what `he compare` writes, apart from the program, as plain.py is of the rules: by
 docs/DEFINITIONS.md and crates/he_compare/specs.
 
-needs: python3, its standard library alone
+needs: python3 and its standard library
 """
 from collections import Counter
 
@@ -13,8 +13,8 @@ VERDICTS = ("sooner", "later", "same", "only_with", "only_without", "unknown")
 # What the lines and the objects of races say.
 LINE_WORDS = {"sooner": "sooner", "later": "later", "same": "the same", "only_with": "connected only with",
               "only_without": "connected only without", "neither": "connected in neither case", "unknown": "unknown"}
-ENDINGS = {"won": "connected by IPv{2} ({1}) in {0} ms", "exhausted": "not connected: nothing is left to try after {0} ms",
-           "limit": "not connected: timed out after {0} ms"}
+ENDINGS = {"won": "connected by IPv{2} ({1}) in {0} ms", "exhausted": "not connected: all addresses failed in {0} ms",
+           "no address": "not connected: no address to try in {0} ms", "limit": "not connected: timed out after {0} ms"}
 HEADING = ("  p50 ms  p90 ms  p99 ms  attempts       IPv6  sooner   later    same  only with  only without  unknown"
            "  settings\n")
 
@@ -78,7 +78,7 @@ def line_of(number, race, changes, label, is_json):
         return one_line({"file": "-", "race": number, "line": race.line, "ended": kind, **address, "ms": tick,
                          "verdict": verdict.replace("_", " "), "settings": label})
     family = [report.winner.address.family] if report.winner else []
-    ending = ENDINGS[kind].format(tick, *address.values(), *family)
+    ending = ENDINGS[kind if report.lines or kind != "exhausted" else "no address"].format(tick, *address.values(), *family)
     return f"-:{race.line} race {number}: {ending}, {LINE_WORDS[verdict]} ({label})\n"
 
 

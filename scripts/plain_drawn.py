@@ -1,7 +1,7 @@
-"""A plain reading of what `he draw` draws, apart from the program, as plain.py is of the rules: the picture of each
+"""A second reading of what `he draw` draws, apart from the program, as plain.py is of the rules: the picture of each
 race, by docs/DEFINITIONS.md and crates/he_draw/specs, under the words of a story for how it ended.
 
-needs: python3, its standard library alone
+needs: python3 and its standard library
 """
 from collections import namedtuple
 
@@ -9,7 +9,7 @@ from plain import print_address
 from plain_story import attempt_end, heading, result
 
 LEAST_COLUMNS = 10
-# What a line has beside its label, its columns and its words: an edge at both sides, and a space outside each.
+# The columns of a line beside its label, its columns and its words: an edge at both sides, and a space outside each.
 EDGES = 4
 NAMES = {"aaaa": "AAAA answer", "a": "A answer"}
 # The signs of both looks.
@@ -72,7 +72,7 @@ def picture(number, race, width, signs):
 
 
 def written(races, changes, width=80, signs=UNICODE):
-    """What `he draw` writes for these races, with these settings in place of their own."""
+    """The output of `he draw` for these races, with these settings in place of their own."""
     return "".join(picture(number, race.changed(changes), width, signs)
                    for number, race in enumerate(races, 1)).encode()
 

@@ -1,7 +1,7 @@
-"""A plain reading of what `he replay --json`, `he order --json` and `he explain --json` write of a text without a name,
-apart from the program, as plain.py is of the rules: by docs/DEFINITIONS.md, the manual page and crates/he_json/specs.
+"""A second reading of what `he replay --json`, `he order --json` and `he explain --json` write of a text without a
+name, apart from the program, as plain.py is of the rules: by docs/DEFINITIONS.md, the manual page and crates/he_json/specs.
 
-needs: python3, its standard library alone
+needs: python3 and its standard library
 """
 import plain
 import plain_accounts
@@ -15,7 +15,7 @@ RULES = {
     "8": "prefer smaller scope", "8a": "prefer lower round trip time", "8b": "prefer an address used before",
     "9": "use longest matching prefix", "10": "otherwise leave the order unchanged",
 }
-# What a rule compares: of an address with the one before it, or with its own source.
+# The values that a rule compares: of an address with the one before it, or with its own source.
 COMPARED = {"6": "precedence", "8": "scope", "8a": "rtt", "9": "common"}
 OF_SOURCE = {"2": ("scope", "source scope"), "5": ("label", "source label")}
 

@@ -1,7 +1,7 @@
-"""A plain reading of what `he explain` writes, apart from the program, as plain.py is of the rules: the story of each
+"""A second reading of what `he explain` writes, apart from the program, as plain.py is of the rules: the story of each
 race, by docs/DEFINITIONS.md and crates/he_story/specs.
 
-needs: python3, its standard library alone
+needs: python3 and its standard library
 """
 from collections import namedtuple
 
@@ -13,8 +13,12 @@ NAMES = {"aaaa": "AAAA", "a": "A"}
 WORDS = {6: "aaaa", 4: "a"}
 OTHER = {"aaaa": "a", "a": "aaaa"}
 LEAST_FLOOR = plain.SETTINGS["floor"][0]
-# Blocks whose addresses stand for something else: RFC 6052, RFC 3056, RFC 4380.
-KINDS = {"64:ff9b::/96": " (NAT64)", "2002::/16": " (6to4)", "2001::/32": " (Teredo)"}
+# Blocks whose addresses stand for something else: RFC 3056, RFC 4380; and the NAT64 prefix of RFC 6052.
+KINDS = {"2002::/16": " (6to4)", "2001::/32": " (Teredo)"}
+WELL_KNOWN = "64:ff9b::/96"
+# RFC 6052 section 2.2: the octets of the IPv4 address after a NAT64 prefix of so many bits. Octet 8 is kept zero.
+OCTETS = {32: (4, 5, 6, 7), 40: (5, 6, 7, 9), 48: (6, 7, 9, 10), 56: (7, 9, 10, 11), 64: (9, 10, 11, 12),
+          96: (12, 13, 14, 15)}
 
 # A pause of fewer milliseconds has no line. No more attempts are named on which time was lost.
 LEAST_PAUSE, MAX_NAMED = 5, 3
@@ -39,8 +43,9 @@ SERVERS = {"silent": "no answer in", "refused": "refused after", "failed": "fail
 CLIENTS = {"connected": "connected", "gave-up": "gave up", "failed": "failed"}
 
 
-def heading(number, race):
-    """The host and port, the client and the time, where the record has them; the race; and what its client did."""
+def heading(number, race, file=None):
+    """The host and port, the client and the time, where the record has them; the race's file, number and line, but for
+    a race that has such names and no file; and what its client did."""
     record, named = race.record, ""
     if record.target:
         host, port = record.target
@@ -49,8 +54,11 @@ def heading(number, race):
         named += f"{' ' if named else ''}for {print_address(record.client)}"
     if record.time:
         named += f"{', ' if named else ''}{record.time[:10]} {record.time[11:19]}Z"
-    place = f"race {number}, line {race.line}"
-    told = f"{named} ({place}): " if named else f"{place}: "
+    in_file = f"{file}, " if file else ""
+    if named:
+        told = f"{named} ({in_file}race {number}, line {race.line}): " if file else f"{named}: "
+    else:
+        told = f"{in_file}race {number} (line {race.line}): "
     if not record.end:
         return told
     word, ticks = record.end
@@ -64,7 +72,7 @@ def why(race, name):
 
 def notes(race):
     """The network's NAT64 prefixes, the name servers that were given up, and the addresses that no client tried."""
-    prefixes = [f"the network's NAT64 has the IPv4 addresses by {print_prefix(prefix)}"
+    prefixes = [f"the network's NAT64 prefix is {print_prefix(prefix)}"
                 for prefix in race.record.prefixes]
     servers = [f"name server {print_address(address)}: {SERVERS[word]} {ticks} ms"
                for address, word, ticks in race.record.servers]
@@ -92,14 +100,22 @@ EACH_FAILED = {"refused": "refused", "unreachable": "unreachable", "timed-out": 
                "reset the connection", "forbidden": "forbidden", "no-source": "without a source address"}
 
 
+# Which of two reasons says more, the first of these.
+RANKS = ["no-answer", "refused", "failed", "malformed", "nat64", "no-such-name", "no-address", "not-asked"]
+
+
+def reason_of_both(lookups):
+    """Why a name has no address, where the record has a reason for each family."""
+    return min(lookups["aaaa"], lookups["a"], key=RANKS.index) if {"aaaa", "a"} <= lookups.keys() else None
+
+
 def why_not(race, report):
     """Why a race did not connect, by its attempts and its record."""
     (kind, _, tick), lines, lookups = report.result, report.lines, race.record.lookups
     if not lines:
         if not {"aaaa", "a"} <= lookups.keys():
             return f"no address to try in {tick} ms"
-        word = lookups["a"] if lookups["aaaa"] == "not-asked" else lookups["aaaa"]
-        return NOT_LOOKED_UP[word].format(tick) + servers(race)
+        return NOT_LOOKED_UP[reason_of_both(lookups)].format(tick) + servers(race)
     number, failed = len(lines), sum(line.fate == "failed" for line in lines)
     if kind == "exhausted":
         words = {race.record.attempts.get(line.address) for line in lines}
@@ -121,8 +137,10 @@ def ending(report):
     kind, _, tick = report.result
     if report.winner:
         return f"connected by IPv{report.winner.address.family} ({print_address(report.winner.address)}) in {tick} ms"
-    why = {"exhausted": f": nothing is left to try after {tick} ms and", "limit": f": timed out after {tick} ms and"}
-    return f"not connected{why[kind]} {counted(len(report.lines), 'attempt')}"
+    attempts = counted(len(report.lines), "attempt")
+    if kind == "exhausted":
+        return f"not connected: no address left to try after {tick} ms ({attempts})"
+    return f"not connected: timed out after {tick} ms and {attempts}"
 
 
 def attempt_end(race, line):
@@ -154,23 +172,64 @@ def lost(race, report):
     return f"{total} ms lost: {', '.join(named)}{more}{', ' + rest if ticks['nobody'] else ''}"
 
 
+def to_check(race, report):
+    """The line that names what to look at, where one thing alone took the time: the name server that was given up, if
+    names took most of it or no name was found; or the only attempt that owns time."""
+    times, ticks, lookups = plain_accounts.times(race), plain_accounts.account(race), race.record.lookups
+    if report.lines:
+        is_by_names = are_names_slow(times) and times["lost_ms"] == 0
+    else:
+        is_by_names = reason_of_both(lookups) in RANKS[:RANKS.index("nat64")]
+    if is_by_names:
+        given_up = [print_address(address) for address, _, _ in race.record.servers]
+        return f"\ncheck: the name server {given_up[0]} (/etc/resolv.conf)" if len(given_up) == 1 else ""
+    owners = [line for line in report.lines if ticks[line.place]]
+    is_alone = len(owners) == 1 and (ticks["nobody"] == 0 or len(report.lines) == 1)
+    if not is_alone or are_names_slow(times) or max(times["machine_ms"], times["unknown_ms"]) >= times["lost_ms"]:
+        return ""
+    address, end = print_address(owners[0].address), attempt_end(race, owners[0])
+    failed = race.record.attempts.get(owners[0].address) if end == "failed" else None
+    if end == "no answer" or failed == "timed-out":
+        return f"\ncheck: the path and firewalls to {address}"
+    if failed in ("refused", "reset"):
+        port = f" port {race.record.target[1]}" if race.record.target else ""
+        return f"\ncheck: whether a server listens at {address}{port}"
+    return f"\ncheck: the route to {address}" if failed == "unreachable" else ""
+
+
 def verdict(race, report):
-    """How the race ended, what it lost, and where all of its time went."""
+    """How the race ended, what it lost, what to check, and where all of its time went."""
     times = plain_accounts.times(race)
     said = [f"; {lost(race, report)}"] if times["lost_ms"] else []
     if are_names_slow(times) and report.lines:
         said.append(f"; {times['names_ms']} of {times['ms']} ms waiting for DNS{servers(race)}")
     nothing = "; nothing lost" if report.lines else ""
-    others = [f", {words} {times[name]} ms" for words, name in (("this machine", "machine_ms"), ("unknown", "unknown_ms"))
-              if times[name]]
-    return (f"{result(race, report)}{''.join(said) or nothing}\nwhere the time went: names {times['names_ms']} ms,"
-            f" lost {times['lost_ms']} ms, connecting {times['connecting_ms']} ms{''.join(others)}")
+    owners = (("this machine", "machine_ms"), ("unknown", "unknown_ms"))
+    others = [f", {words} {times[name]} ms" for words, name in owners if times[name]]
+    return (f"{result(race, report)}{''.join(said) or nothing}{to_check(race, report)}\n"
+            f"where the time went: names {times['names_ms']} ms, lost {times['lost_ms']} ms, connecting {times['connecting_ms']} ms{''.join(others)}")
 
 
 # The addresses in order of preference: RFC 6724 section 6, RFC 8305 section 4
 
 
-def kind(address):
+def translated(prefix, address):
+    """The IPv4 host that the address is by a NAT64 prefix, if it is one: RFC 6052 section 2.2."""
+    bits = int(prefix.rpartition("/")[2])
+    octets = address.number.to_bytes(16, "big")
+    if not plain.is_in(prefix, address) or bits < 96 and octets[8] != 0:
+        return None
+    return ".".join(str(octets[place]) for place in OCTETS[bits])
+
+
+def kind(race, address):
+    """What the address is: an IPv4 host, by a NAT64 prefix of its network or the well-known one, or one of a block."""
+    if address.family == 4:
+        return ""
+    for prefix in [*map(print_prefix, race.record.prefixes), WELL_KNOWN]:
+        host = translated(prefix, address)
+        if host:
+            return f" is {host} (NAT64)"
     return next((told for block, told in KINDS.items() if plain.is_in(block, address)), "")
 
 
@@ -192,7 +251,7 @@ def reason(earlier, later):
         "2": f"scope {later['scope']}, its source {later['source scope']}",
         "3": "its source is deprecated",
         "5": f"label {later['label']}, its source {later['source label']}",
-        "6": f"precedence {later['precedence']}, the one before {earlier['precedence']}",
+        "6": f"lower precedence: {later['precedence']}, the one before {earlier['precedence']}",
         "7": "its route is a tunnel",
         "8": f"scope {later['scope']}, the one before {earlier['scope']}",
         "8a": f"round trip time {rtt}, the one before {earlier['rtt']} ms",
@@ -207,7 +266,8 @@ def reason(earlier, later):
 def preferred(race):
     facts = race.ranked()
     width, whys = len(str(len(facts))) + 2, ["", *map(reason, facts, facts[1:])]
-    lines = [f"{number:>{width}}. {print_address(fact['address'])}{kind(fact['address'])}{reached(race, fact)}{why}"
+    lines = [f"{number:>{width}}. {print_address(fact['address'])}{kind(race, fact['address'])}"
+             f"{reached(race, fact)}{why}"
              for number, (fact, why) in enumerate(zip(facts, whys), 1)]
     return ["preferred, once every answer is known:", *lines] if facts else ["no address to try"]
 
@@ -224,8 +284,8 @@ def first_cause(race, tick):
         over = tick_of(race, "a") + race.setting("resolution")
         return Cause("the wait for the AAAA answer is over", over, "resolution delay")
     if race.usable("aaaa"):
-        return Cause("the AAAA answer is there", tick_of(race, "aaaa"), "aaaa answer")
-    return Cause("both answers are there", max(tick_of(race, "aaaa"), tick_of(race, "a")), "both answers")
+        return Cause("AAAA answer received", tick_of(race, "aaaa"), "aaaa answer")
+    return Cause("both answers received", max(tick_of(race, "aaaa"), tick_of(race, "a")), "both answers")
 
 
 def failure(race, line):
@@ -250,8 +310,8 @@ def later_cause(race, before, line):
         words = f"{delay} ms after the start of attempt {last.place + 1}"
         return Cause(words, last.start + delay, "attempt delay", delay, last.place)
     if max(failures) > last.start + floor:
-        return Cause("all before have failed", max(failures), "last failure")
-    words = f"all before have failed, and the floor of {floor} ms after attempt {last.place + 1} is over"
+        return Cause("all earlier attempts failed", max(failures), "last failure")
+    words = f"all earlier attempts failed; {floor} ms after attempt {last.place + 1} (set floor)"
     return Cause(words, last.start + floor, "floor", floor, last.place)
 
 
@@ -268,10 +328,10 @@ def place_in_list(race, line):
 def listed(family, place, count, turn):
     """The same in words."""
     if count == 1:
-        return "; the only address known"
-    words = {"leads": f"IPv{family} first", "in turn": "IPv6 and IPv4 in turn",
-             "other run out": f"IPv{family} alone is left"}
-    return f"; number {place + 1} of {count} known, {words[turn]}"
+        return "; no other address known"
+    words = {"leads": f"IPv{family} first", "in turn": "families alternate",
+             "other run out": f"only IPv{family} is left"}
+    return f"; number {place + 1} of {count} known addresses, {words[turn]}"
 
 
 def late(race, tick):
@@ -288,7 +348,7 @@ def started(race, before, line):
     delay = {} if cause.delay is None else {"delay": cause.delay, "after": cause.after}
     place, count, turn = place_in_list(race, line)
     is_held, address = cause.due < line.start, print_address(line.address)
-    held = (late(race, line.start) or ", late because of a pause") if is_held else ""
+    held = (late(race, line.start) or ", late because this machine was busy") if is_held else ""
     where = listed(line.address.family, place, count, turn)
     told = f"attempt {line.place + 1} to {address}: {cause.words}{held}{where}"
     return line.start, {"event": "attempt", "attempt": line.place, "address": address, "cause": cause.name, **delay,
@@ -299,7 +359,7 @@ def answers(race):
     for name, other in OTHER.items():
         if name in race.answers:
             tick, usable = race.seen(tick_of(race, name)), len(race.usable(name))
-            missing = "" if race.is_seen(other, tick) else f"; the {NAMES[other]} answer is not there yet"
+            missing = "" if race.is_seen(other, tick) else f"; still waiting for the {NAMES[other]} answer"
             to_try = f": {counted(usable, 'address', 'addresses')} to try"
             failed = why(race, name)
             told = (f"{NAMES[name]}{failed}{late(race, tick)}{to_try if usable else ''}{missing}" if failed
@@ -340,9 +400,10 @@ def of_client(race, line):
 
 def events(race, report):
     """All up to the race's end by tick, those of one tick in this order."""
-    over = {"exhausted": "nothing is left to try", "limit": "the limit: the race is given up"}
+    over = {"exhausted": "no address left to try", "limit": "the limit: the race is given up"}
     kind, _, tick = report.result
-    told = [(start, {"event": "pause", "until": end}, f"pause: the client sees and starts nothing until {end} ms")
+    busy = "this machine was busy until {} ms: it saw and started nothing"
+    told = [(start, {"event": "pause", "until": end}, busy.format(end))
             for start, end in race.pauses if start < tick]
     told += [*answers(race)] + waits(race) + ends(race, report, "failed")
     told += [started(race, report.lines[:line.place], line) for line in report.lines]
@@ -374,8 +435,8 @@ def waited(race, report, name):
     if not starts:
         return [f"no address of the {NAMES[name]} answer was tried"]
     passed = starts[0] - seen
-    between = f"between the {NAMES[name]} answer and the first attempt at one of its addresses"
-    return [f"{passed} ms passed {between}"] if passed > 0 else []
+    version = {"aaaa": "IPv6", "a": "IPv4"}[name]
+    return [f"an {version} address was known {passed} ms before one was tried"] if passed > 0 else []
 
 
 def floored(race, report):
@@ -384,13 +445,14 @@ def floored(race, report):
         return []
     other = race.changed({"floor": LEAST_FLOOR}).report
     is_earlier = other.result.tick < report.result.tick
-    return [f"with `set floor {LEAST_FLOOR}`: {ending(other)}"] if is_earlier else []
+    words = f"if the next attempt followed a failure at once (--set floor={LEAST_FLOOR})"
+    return [f"{words}: {ending(other)}"] if is_earlier else []
 
 
-def story(number, race):
-    """The story of the race of this number in its text, counted from 1."""
+def story(number, race, file=None):
+    """The story of the race of this number in its text, counted from 1; the text is that of a file, if it is named."""
     report = race.report
-    lines = [f"{heading(number, race)}{verdict(race, report)}", *preferred(race), *happened(race, report)]
+    lines = [f"{heading(number, race, file)}{verdict(race, report)}", *preferred(race), *happened(race, report)]
     lines += [*waited(race, report, "aaaa"), *waited(race, report, "a"), *notes(race), *floored(race, report)]
     return ("\n" if number > 1 else "") + "".join(line + "\n" for line in lines)
 

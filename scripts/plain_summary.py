@@ -1,7 +1,7 @@
-"""A plain reading of what `he summary` writes, also by groups, apart from the program, as plain.py is of the rules: by
+"""A second reading of what `he summary` writes, also by groups, apart from the program, as plain.py is of the rules: by
 docs/DEFINITIONS.md and the specs of he_summary and he_compare.
 
-needs: python3, its standard library alone
+needs: python3 and its standard library
 """
 import re
 from collections import Counter, namedtuple
@@ -26,11 +26,14 @@ REASONS = {"timed_out": "timed out", "all_failed": "all addresses failed", "no_a
 SHARES = {"names_ms": "names", "lost_ms": "lost", "connecting_ms": "connecting", "machine_ms": "this machine",
           "unknown_ms": "unknown"}
 
+# How many hosts of an address a text names.
+MOST_HOSTS = 3
+
 # `times` has the objects of the races' times (plain_accounts), those of the won ones apart; `charges` the time that each
-# address owns.
+# address owns; `hosts` the hosts whose races tried it.
 Summary = namedtuple(
-    "Summary", "races won not_won reasons times won_times attempts most waited failed unanswered tried charges slowest"
-    " ends lookups servers")
+    "Summary", "races won not_won reasons times won_times attempts most waited failed unanswered tried charges hosts"
+    " slowest ends lookups servers")
 
 
 def percentile(times, percent):
@@ -88,6 +91,15 @@ def charged(races):
     return charges
 
 
+def tried_hosts(races):
+    """Of each address the hosts whose races tried it, each once, in the order in which they first come."""
+    hosts = {}
+    for race, report in races:
+        for line in report.lines if race.record.target else ():
+            hosts.setdefault(line.address, {})[host_of(race)] = None
+    return hosts
+
+
 def summed(races, changes):
     made = [(race, race.report) for race in (race.changed(changes) for race in races)]
     won = [(number, race, report) for number, (race, report) in enumerate(made, 1) if report.winner]
@@ -99,7 +111,7 @@ def summed(races, changes):
         [plain_accounts.times(race) for race, _ in made], [plain_accounts.times(race) for _, race, _ in won], len(lines),
         max((len(report.lines) for _, report in made), default=0), sum(has_waited(*one) for one in made),
         *(Counter(line.address for race, line in lines if test(race, line)) for test in (is_failed, is_unanswered)),
-        Counter(line.address for _, line in lines), charged(made),
+        Counter(line.address for _, line in lines), charged(made), tried_hosts(made),
         sorted(won, key=lambda one: (-one[2].result.tick, one[0])),
         [(*race.record.end, report.result.tick if report.winner else None) for race, report in made if race.record.end],
         Counter(item for race in races for item in race.record.lookups.items()),
@@ -217,17 +229,36 @@ def families(summary):
     return [f"connected by {', '.join(parts)}"] if parts else []
 
 
+def some_hosts(hosts):
+    names = list(hosts)
+    more = f" and {len(names) - MOST_HOSTS} more" if len(names) > MOST_HOSTS else ""
+    return ", ".join(names[:MOST_HOSTS]) + more
+
+
+def address_rows(summary):
+    """The rows of the addresses, with a column for their hosts if any of them has one."""
+    addresses = worst(summary)
+    width = max([len("address"), *(len(print_address(address)) for address in addresses)])
+    has_hosts = any(summary.hosts.get(address) for address in addresses)
+    heading = "  attempts    failed no answer   lost ms  " + (f"{'address':<{width}}  hosts" if has_hosts else "address")
+    rows = [heading] * bool(addresses)
+    for address in addresses:
+        hosts = summary.hosts.get(address, ())
+        shown = f"{print_address(address):<{width}}  {some_hosts(hosts)}" if hosts else print_address(address)
+        rows.append(f"{summary.tried[address]:>10}{summary.failed[address]:>10}{summary.unanswered[address]:>10}"
+                    f"{summary.charges[address]:>10}  {shown}")
+    return rows
+
+
 def as_text(summary, slowest):
-    addresses, servers, slow = worst(summary), dead_servers(summary), summary.slowest[:slowest]
+    servers, slow = dead_servers(summary), summary.slowest[:slowest]
     lines = [
         first_line(summary), *families(summary), *rows(summary), *went(summary),
         *[f"attempts: {summary.attempts}, at most {summary.most} in a race"] * bool(summary.attempts),
-        *[f"races that waited out the Resolution Delay: {summary.waited}{share(summary.waited, summary.races)}"]
-        * bool(summary.waited),
+        *[f"slow AAAA: in {counted(summary.waited, 'race')}{share(summary.waited, summary.races)} the IPv4 attempt started"
+          " without it, after the Resolution Delay"] * bool(summary.waited),
         *record_lines(summary),
-        *["  attempts    failed no answer   lost ms  address"] * bool(addresses),
-        *(f"{summary.tried[address]:>10}{summary.failed[address]:>10}{summary.unanswered[address]:>10}"
-          f"{summary.charges[address]:>10}  {print_address(address)}" for address in addresses),
+        *address_rows(summary),
         *["  given up    failed no answer  name server"] * bool(servers),
         *(f"{failed + unanswered:>10}{failed:>10}{unanswered:>10}  {print_address(address)}"
           for address, failed, unanswered in servers),
@@ -257,7 +288,8 @@ def totals_object(summary):
 def as_object(summary, slowest):
     addresses = [{"address": print_address(address), "attempts": summary.tried[address],
                   "failed": summary.failed[address], "no_answer": summary.unanswered[address],
-                  "lost_ms": summary.charges[address]} for address in worst(summary)]
+                  "lost_ms": summary.charges[address], "hosts": list(summary.hosts.get(address, ()))}
+                 for address in worst(summary)]
     slow = [{"file": "-", "race": number, "line": race.line, "ms": report.result.tick,
              "address": print_address(report.winner.address),
              **{name: plain_accounts.times(race)[name] for name in ("names_ms", "lost_ms")}}

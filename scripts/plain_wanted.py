@@ -1,7 +1,7 @@
 #!/usr/bin/env python3
-"""What a run of `he` must write for a text, by the plain readings beside this file.
+"""The output that a run of `he` must have for a text, by the second readings beside this file.
 
-needs: python3, its standard library alone
+needs: python3 and its standard library
 usage: scripts/plain_wanted.py COMMAND [--json] [--ascii] [--openmetrics] [--races] [--slowest N] [NAME=N ..] < TEXT
            with these settings in place of each race's own, as with --set; of `compare` one name may have a list
        scripts/plain_wanted.py summary --by GROUP [--json] [NAME=N ..] -- FILE ..
@@ -16,7 +16,7 @@ import plain_json
 import plain_story
 import plain_summary
 
-# What a command writes, with this option if there is one.
+# The output of a command, with this option if there is one.
 WRITTEN = {
     "order": plain.ordered, "replay": plain.replayed, "order --json": plain_json.ordered,
     "replay --json": plain_json.replayed, "explain": plain_story.written, "compare": plain_compared.written,
@@ -29,7 +29,7 @@ WORDS = ("--json", "--ascii", "--openmetrics", "--by", *plain_summary.GROUPINGS)
 
 
 class Wanted:
-    """What a run must write for a text: its output, its standard error and its status."""
+    """The answer that a run must give for a text: its output, its standard error and its status."""
 
     def __init__(self, text):
         self.text = text.decode("latin-1")

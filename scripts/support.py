@@ -1,7 +1,7 @@
-"""What the harnesses share: how they run their parts and what they count, runs and namespaces of their own, addresses
+"""The base of the harnesses: how they run their parts and what they count, runs and namespaces of their own, addresses
 that answer, refuse or are silent, servers, and a name server.
 
-needs: Linux, python3, its standard library alone
+needs: Linux, python3 and its standard library
 """
 import argparse
 import collections
@@ -56,7 +56,7 @@ WRONG = "FAILED: "  # how the line of a check begins that failed
 
 
 def tell(is_right, *told):
-    """Counts a check, and tells what is wrong."""
+    """Counts a check, and prints what is wrong."""
     COUNTS[bool(is_right)] += 1
     if not is_right:
         TOLD.append(" ".join(map(str, told)))
@@ -68,11 +68,11 @@ def end():
 
 
 class NotTried(Exception):
-    """What a check needs isn't there on this machine."""
+    """This machine lacks something that a check needs."""
 
 
 def must(is_right, *told):
-    """Ends a check where something is wrong, which is told."""
+    """Ends a check if something is wrong, and prints that."""
     if not is_right:
         raise ValueError(" ".join(map(str, told)))
 
@@ -281,12 +281,12 @@ def run(*words, **more):
 
 
 def limit(kind, most):
-    """What a run is to do before it begins to have so much of a resource at most (as NOFILE); None for no limit."""
+    """A function that limits a resource of a run before it begins (as NOFILE); None for no limit."""
     return most and (lambda: resource.setrlimit(getattr(resource, f"RLIMIT_{kind}"), (most, most)))
 
 
 def first_of_all():
-    """What a run is to do before it begins that no other program is let before, where that may be."""
+    """Gives a run that begins the processor before all other programs, if that is allowed."""
     with contextlib.suppress(PermissionError):
         os.sched_setscheduler(0, os.SCHED_FIFO, os.sched_param(30))
 
@@ -304,7 +304,7 @@ def attempts_of(transcript):
 
 
 def replayed(record, command="replay"):
-    """What a command writes of a record, which is a sound one."""
+    """The output of a command for a record without a fault."""
     done = run(OPTIONS.program, *command.split(), input=record)
     must(done.returncode == 0, f"he {command} of the record: {done.stderr!r}: {record!r}")
     return done.stdout
@@ -317,7 +317,7 @@ MEMORY = "mmap,munmap,mremap,mprotect,madvise,brk"  # the calls that get memory
 
 
 class Run:
-    """A run of the program that raced: its status, what it told, its transcript with the attempts and the winner, and
+    """A run of the program that raced: its status, its messages, its transcript with the attempts and the winner, and
     its record."""
 
     def __init__(self, done, transcript, record):
@@ -372,7 +372,7 @@ def has_six():
 
 @contextlib.contextmanager
 def silent(address, port=0):
-    """A listener that takes no connection, since one stands in its queue, which has no room for another: whoever
+    """A listener that takes no connection, since one is in its queue, which has no room for another: whoever
     connects then waits. Gives the listener, and a stack for what is held as long."""
     with contextlib.ExitStack() as held:
         listener = held.enter_context(listener_at(address, port, backlog=0))
@@ -593,7 +593,7 @@ def labels_of(query):
 
 def message(query, records=(), code=NOERROR, truncated=False, count=None, question=None, ident=None, flags=0x8180,
             more=()):
-    """A response to the query: its header, its question, so many records as it says, or as there are, and more in the
+    """A response to the query: its header, its question, as many records as it says, or as there are, and more in the
     additional section, where a code above 15 has its upper bits."""
     question = question_of(query) if question is None else question
     more = [*more, *([opt(code)] if code > 15 else [])]
@@ -674,7 +674,7 @@ class NameServer:
 
 
 class Zone(NameServer):
-    """A name server at which each name has these addresses, for so many seconds, and for none under the label `none`;
+    """A name server at which each name has these addresses, for this many seconds, and for none under the label `none`;
     `lacks` is no name. The answer for AAAA may be late, and be refused by a code."""
 
     def __init__(self, *ips, port=0, ttl=60, late=0, six_code=NOERROR):
@@ -693,7 +693,7 @@ class Zone(NameServer):
         return sum(labels_of(query)[0] == label for _, query, _ in self.seen)
 
     def kinds(self):
-        """What it was asked for."""
+        """The questions that it got."""
         return {kind_of(query) for _, query, _ in self.seen}
 
 

@@ -1,4 +1,4 @@
-"""What a built program's help says of its commands, and what is written from it: the completions of three shells, and
+"""The commands in a built program's help, and the files that are written from it: the completions of three shells, and
 the synopsis of the manual page. scripts/manual writes the files, scripts/parts/manual.py compares them."""
 import re
 import subprocess
@@ -34,7 +34,7 @@ class Option:
     is_many: bool  # whether it takes several values
 
     def kind(self):
-        """What its value is: a list of numbers is completed as one."""
+        """The kind of its value: a list of numbers is completed as one."""
         return "NAME=N" if self.value.startswith("NAME=N") else self.value
 
     def names(self):
@@ -48,7 +48,7 @@ class Command:
     options: list
     words: list  # the names of its words, as FILE
     is_optional: bool  # whether they may be left out
-    is_many: bool  # whether the last word may stand more than once
+    is_many: bool  # whether the last word may be repeated
 
 
 def output(*words):
@@ -66,7 +66,7 @@ def options_of(text):
     usage = re.search(r"^Usage: .*$", text, re.MULTILINE)[0]
     options = []
     for line in part(text, "Options").splitlines():
-        head = re.match(r"  (?:(-\w)|  )(?:(?:, |  )(--[a-z-]+))?(?: <([^>]+)>(\.\.\.)?)?  +(.*)$", line)
+        head = re.match(r"  (?:(-\w)|  )(?:(?:, |  )(--[a-z0-9-]+))?(?: <([^>]+)>(\.\.\.)?)?  +(.*)$", line)
         if head and (head[1] or head[2]):
             names = {name for name in head.groups()[:2] if name}
             is_required = any(re.search(rf"(?<!\[){re.escape(name)} <", usage) for name in names)

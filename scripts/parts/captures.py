@@ -20,7 +20,7 @@ INCIDENTS = ROOT / "examples/incidents"
 CLIENTS = {"curl": "curl", "wget": "wget", "ssh": "ssh", "go": "Go", "node": "node", "asyncio": "asyncio"}
 DRAWN = 1000
 MOST_SECONDS = 60
-SHORT = [  # what the table says of the first place where a client and the rules part
+SHORT = [  # the words of the table for the first difference from the rules
     ("as the rules have it", "same"), ("no Resolution Delay: it waits", "waits for AAAA"),
     ("it waits for the A answer", "waits for A"), ("a failure starts the next attempt", "next after failure"),
     (r"an? (?:earlier|later) start: attempt \d+ starts (\d+) after", r"delay \1"),
@@ -58,7 +58,7 @@ def is_refused(name, words, said):
 
 
 def check_clients():
-    """What is made of each capture is beside it."""
+    """Each capture makes the files beside it."""
     for client in CLIENTS:
         ran = from_capture(CAPTURES / f"{client}.pcap", "--host", HOST)
         compared = from_capture(CAPTURES / f"{client}.pcap", "--host", HOST, "--compare", "--he", HE)
@@ -95,7 +95,7 @@ def check_table():
 
 
 def transcript_of(course):
-    """What a client did, in the form of a transcript."""
+    """The course of a client, in the form of a transcript."""
     lines = [f"attempt {place} {start} {ip} {mark} {tick}\n"
              for place, (start, ip, mark, tick) in enumerate(course.attempts)]
     place = next((f"{place} " for place, attempt in enumerate(course.attempts) if attempt.mark == "won"), "")
@@ -174,7 +174,7 @@ def check_faults():
 
 
 def check_damaged():
-    """Captures in which bytes are changed at random: what is left is told, and the program takes it."""
+    """Captures in which bytes are changed at random: the rest is reported, and the program takes it."""
     needs("editcap")
     for number in range(8):
         file = OPTIONS.folder / "damaged.pcap"
@@ -185,7 +185,7 @@ def check_damaged():
 
 
 def check_parts():
-    """Captures of which a part is missing: what is left is told, and what is missing is said."""
+    """Captures of which a part is missing: the rest is reported, and what is missing is noted."""
     work, kept = OPTIONS.folder, CAPTURES / "curl.pcap"
     wanted = from_capture(kept, "--host", HOST).stdout.partition("end\n")[0] + "end\n"
     for name, filter, said in (

@@ -20,7 +20,7 @@ MEGABYTES = 1_000_000
 
 
 def from_capture(capture, *words):
-    """What is written of a capture, which the program takes, and what is noted."""
+    """The text that is written of a capture, which the program takes, and what is noted."""
     needs("tshark")
     file = capture.write(OPTIONS.folder / "written.pcap") if isinstance(capture, Capture) else capture
     ran = run(ROOT / "tools/from-capture", file, *words)
@@ -293,7 +293,7 @@ def check_given_up():
 
 
 def check_results():
-    """What the client did: connected, failed, gave up, or is still at it when the capture ends."""
+    """The client's own end: connected, failed, gave up, or is still at it when the capture ends."""
     capture = looked_up()
     for start, to, port in ((2, SIX, 2000), (10, FOUR, 2001)):
         capture.syn(start, to, port)
@@ -456,7 +456,7 @@ def check_streams():
 
 
 def write_many(file, size, names, idle=0):
-    """A capture of so many bytes: SYNs and DNS messages of races at one address, whose names come again after some;
+    """A capture of this size: SYNs and DNS messages of races at one address, whose names come again after some;
     first names that are only looked up."""
     def packets(number):
         capture = Capture()
@@ -519,7 +519,7 @@ def tunnelled(packet):
 
 
 def check_layers():
-    """The same packets over Ethernet, with one VLAN tag and with two, with an extension header, and in a tunnel."""
+    """These packets over Ethernet, with one VLAN tag and with two, with an extension header, and in a tunnel."""
     for name, link, tags, change in (
             ("raw", written.RAW, b"", bytes), ("Ethernet", ETHERNET, b"", bytes),
             ("VLAN", ETHERNET, b"\x81\0\0\x0a", bytes), ("two tags", ETHERNET, b"\x88\xa8\0\x14\x81\0\0\x0a", bytes),

@@ -70,7 +70,7 @@ class Run(support.Run):
              self.told)
 
     def must(self, is_right=True, status=0, told=None, **more):
-        """Tells the run where something is wrong: what was looked at, its status, what it told (a pattern), or more of
+        """Reports the run if something is wrong: the subject, its status, what it printed (a pattern), or more of
         it, as its output or the address that won."""
         is_right = is_right and self.status == status and (told is None or re.fullmatch(told, self.told, re.S))
         is_right = is_right and all(getattr(self, what) == wanted for what, wanted in more.items())
@@ -140,7 +140,7 @@ def check_told():
              start.format("both.test") + rf"2 addresses tried: {SIX} refused after \d+ ms, {FOUR} refused .* ms\n"),
             (["--timeout", 600, "dead.test", dead], 3,
              dead_start + rf"2 addresses tried: {DEAD_SIX} no answer in \d+ ms, {DEAD_FOUR} no answer in \d+ ms\n"),
-            (["-4", SIX, port], 3, start.format(SIX) + "no usable address\n"),
+            (["-4", SIX, port], 3, f"he: {SIX} is an IPv6 address, but -4 was given\n"),
             (["--resolver", "system", "no.such.name.test", port], 1, "he: [^\n]*\n"),
             (["--machine", "/no/such/file", FOUR, port], 1, "he: [^\n]*--machine file: /no/such/file\n"),
         ]:
@@ -150,9 +150,9 @@ def check_told():
 
 
 def check_link_local():
-    """A link-local address is connected to over the interface that stands with it, by its name or its number, and from
+    """A link-local address is connected to over the interface beside it, by its name or its number, and from
     the source that the kernel takes there; the race has the address alone and replays. An interface that does not
-    lead to it, one that is not there, and none are told."""
+    lead to it, one that is not there, and none are reported."""
     add = "".join(f"ip address add {ip}/64 dev {link} nodad\n" for ip, link in ((NEAR, "here"), (ON_LINK, "there")))
     remove = add.replace(" add ", " del ").replace(" nodad", "")
     with made(add, remove), serving(greet, ON_LINK, socket.if_nametoindex("there")) as port:
@@ -206,7 +206,7 @@ def used_by(*words):
 
 
 def least_of(*words, ends, status):
-    """What a run takes at least of three with these ends of its attempts: the time and the processor time in seconds,
+    """The least of three runs with these ends of its attempts: the time and the processor time in seconds,
     and the ticks from its first attempt to the failure of that and to the last attempt."""
     found = []
     for _ in range(3):
@@ -262,7 +262,7 @@ ip route add prohibit 203.0.113.0/24
 
 
 def check_reasons():
-    """Why an attempt failed is told in a word: what a router prohibits or cannot reach is no fault of this host."""
+    """A word says why an attempt failed: what a router prohibits or cannot reach is no fault of this machine."""
     with made(ROUTER, "ip netns del router; ip route del prohibit 203.0.113.0/24"):
         for host, word, said in [
             (FOUR, "refused", "refused"), ("198.51.100.7", "unreachable", "unreachable"),
@@ -332,7 +332,7 @@ def check_policy_routing():
             two = Run("--timeout", 400, "-z", "--resolver", names.at, "two.zone", 9)
             two.must("source 192.168.77.23/24 2" in two.lines(), two.status)
         told = support.run(HE, "host").stderr
-        must("he: not seen: the IPv4 routes of table 51820, " in told, f"he host: {told!r}")
+        must("he: not included: the IPv4 routes of table 51820, " in told, f"he host: {told!r}")
 
 
 WAN = "ip link add wan type veth peer name provider; ip address add 192.168.77.23/24 dev wan; ip link set wan up"
@@ -369,9 +369,9 @@ def check_late():
 
 
 def check_unused_family():
-    """A family of which this machine has no address beyond its links is not asked for, and that is told; a name of the
-    file of hosts has both all the same."""
-    line = "he: 0 ms: A not asked: this machine has no IPv4 address or route beyond its links\n"
+    """A family of which this machine has no address beyond the local link is not asked for, and that is reported; a
+    name of the file of hosts has both all the same."""
+    line = "he: 0 ms: A not asked: this machine has no IPv4 address or route beyond the local link\n"
     with Zone() as names, serving(greet) as port:
         both = Run("--resolver", names.at, "both.zone", port)
         asked = names.kinds()
@@ -390,7 +390,7 @@ def check_unused_family():
 
 def check_no_network():
     """Where the network of an address isn't reached, and this machine has no way for its family, a line says so."""
-    line = "he: this machine has no IPv4 address or route beyond its links\n"
+    line = "he: this machine has no IPv4 address or route beyond the local link\n"
     with made(f"ip address del {WIDE_FOUR}/24 dev here", f"ip address add {WIDE_FOUR}/24 dev here"):
         lost, refused = Run("198.51.100.7", 9), Run(FOUR, unused_port())
     lost.must(re.search(rf" network unreachable after \d+ ms\n{line}$", lost.told), 3)
@@ -406,7 +406,7 @@ def check_no_time():
 
 
 def traced(*words, only="", inject=""):
-    """The calls that strace tells of a run of `he connect` that has this fault, the run's status, and what it told."""
+    """The calls of a run of `he connect` with this fault, by strace, its status, and what it printed."""
     needs("strace")
     with tempfile.NamedTemporaryFile("r") as calls:
         trace = ["strace", "-f", "-qq", "-o", calls.name, *only.split(), *(["-e", f"inject={inject}"] if inject else [])]
@@ -440,8 +440,8 @@ def check_few_instructions():
 
 
 def check_unread():
-    """A file of this machine that is there and can't be read is told, and so is a fault of the sockets; nothing is told
-    of a file that isn't there."""
+    """A file of this machine that is there and can't be read is reported, and so is a fault of the sockets; nothing is
+    reported of a file that isn't there."""
     line = r"he: cannot read /proc/net/if_inet6: {}[^\n]*\n"
     file = "-P /proc/net/if_inet6"
     with serving(greet, SIX) as port:
@@ -542,7 +542,7 @@ def race_of(record):
 
 
 def check_explained():
-    """What --explain tells is the look-up, and what `he explain` says of the record; -v tells each attempt, and with -z
+    """--explain prints the look-up, and what `he explain` says of the record; -v prints each attempt, and with -z
     how it ended."""
     with serving(greet) as port:
         run, steps = Run("-z", "--explain", "both.test", port), Run("-z", "-v", "both.test", port)
@@ -615,7 +615,7 @@ def check_monitored():
         run = Run("--check", "dead6.test", port)
         told = re.fullmatch("CONNECT WARNING - (\\S+) (.*) \\| .*\n", run.output.decode())
         story = replayed(run.record, "explain").splitlines()[0]
-        run.must(told and story.startswith(f"{told[1]}, ") and story.endswith(f" (race 1, line 1): {told[2]}"), 1, "")
+        run.must(told and story.startswith(f"{told[1]}, ") and story.endswith(f"Z: {told[2]}"), 1, "")
         told = Run("--check", "-v", "--explain", "both.test", port)
         told.must(told.output.startswith(b"CONNECT OK - ") and replayed(told.record, "explain") in told.told)
         checked(["both.test", port], 0, "OK - .*", preexec_fn=lambda: os.close(0))
@@ -661,7 +661,7 @@ def check_monitored_faults():
 
 
 def check_lines():
-    """The lines of a file take the place of this machine's; a wrong line is told by its number."""
+    """The lines of a file take the place of this machine's; a wrong line is reported by its number."""
     with tempfile.NamedTemporaryFile("w", suffix=".lines") as file, serving(greet) as port:
         file.write(f"source {FOUR}/8 1\nroute 127.0.0.0/8 1")
         file.flush()
@@ -700,7 +700,7 @@ def check_record_file():
 
 
 def check_full_disk():
-    """A disk that is full leaves the old record, and is told with the file's name."""
+    """A disk that is full leaves the old record, and is reported with the file's name."""
     with tempfile.TemporaryDirectory() as folder, serving(greet) as port:
         with made(f"mount -t tmpfs -o size=8k tmpfs {folder}", f"umount {folder}"):
             record = pathlib.Path(folder, "record")
@@ -728,7 +728,7 @@ def check_quick():
 
 
 def check_many():
-    """Many connections under faults: each record replays, and each transfer is whole or told as a fault."""
+    """Many connections under faults: each record replays, and each transfer is whole or reported as a fault."""
     rows = random.Random(3)
     with serving(answer_digest) as port:
         for _ in range(1000 if IS_FULL else 60):

@@ -52,7 +52,7 @@ def check_first_end():
 
 
 def end_of(running):
-    """The status, and what was told."""
+    """The status, and what was printed."""
     return running.wait(TIMEOUT), running.stderr.read()
 
 
@@ -72,7 +72,7 @@ def check_remote_ends():
 
 @timed
 def check_pause():
-    """What comes after a pause, once the remote has ended its way, is waited for as long as --wait says."""
+    """Input that comes after a pause, once the remote has ended its way, is waited for as long as --wait says."""
     got = queue.SimpleQueue()
     for words, pause, is_sent in [([], 0.2, True), ([], 1.0, False), (["--wait", 2000], 1.0, True),
                                   (["--wait", 50], 0.3, False)]:
@@ -90,7 +90,7 @@ def check_pause():
 
 @timed
 def check_late_input():
-    """What comes after the end, while standard output still takes what the remote sent, is a fault; that nothing comes,
+    """Input after the end, while standard output still takes what the remote sent, is a fault; that nothing comes,
     or the end, is none."""
     given = random.Random(7).randbytes(220_000)  # (more than a pipe and one read of the connection)
     for late, wanted in [(b"late\n", (1, LEFT)), (b"", (0, b""))]:
@@ -108,7 +108,7 @@ def check_late_input():
 
 @timed
 def check_times():
-    """A time with its unit, and without one; a bare --timeout below 100 is told to be milliseconds."""
+    """A time with its unit, and without one; a bare --timeout below 100 is said to be milliseconds."""
     slip = "he: --timeout 50 is 50 milliseconds; --timeout 50s is 50 seconds\n"
     for word, seconds, told in [("50", 0.05, slip), ("50ms", 0.05, ""), ("500", 0.5, ""), ("1s", 1.0, "")]:
         with serving(greet) as port:
@@ -121,7 +121,7 @@ def check_times():
 
 @timed
 def check_unsent():
-    """Where the remote has closed while more is there, that is told, and how much was not sent."""
+    """If the remote has closed while more is there, that is reported, and how much was not sent."""
     reading, writing = os.pipe()
     fcntl.fcntl(writing, fcntl.F_SETPIPE_SZ, 1 << 20)
     with serving(lambda connection: None) as port, started(FOUR, port, stdin=reading) as running:
@@ -184,7 +184,7 @@ def check_reset():
 
 def check_reader_stops():
     """Where standard output is closed, a write to it ends the relay, though standard input stays open: without a word,
-    with status 1. An output that is full is told."""
+    with status 1. An output that is full is reported."""
 
     def serve(connection):
         while True:

@@ -6,9 +6,11 @@ one or the block's end, are what standard output and standard error must hold. A
 yet makes the file. An image `docs/NAME.svg` must be what `he draw --svg NAME.timeline` draws then. Where `he live`
 runs, a server listens at port 8080 of 127.0.0.1, and ticks may differ by 100, at a second try at the latest (a busy
 machine is late); where that port is taken, these lines are not tried, nor those with `tools/from-capture` where tshark
-isn't there. Of the other lines of the shell blocks of README, INCIDENT and LIBRARY those that begin with `he` must end
-with status 0, and those that begin with `make` must name a target; of those that look for a host on the network, or
-never end, only the words are tried. (Blocks of `console` are tried in a network, by session.py.)
+isn't there. Of the other lines of the shell blocks those that begin with `he` or `sed`, or are about the capture
+`mine.pcap`, must end with status 0, and those that begin with `make` must name a target; of those that look for a host
+on the network, or never end, only the words are tried. Each option of a command `he ..`, wherever a page has one, must
+be one of that command. (Blocks of `console`, rules of a firewall and filters of a capture are tried in a network, by
+session.py, lines of `parallel` by documents_parallel.py, those of a client of the proxy by proxy_programs.py.)
 """
 import contextlib
 import os
@@ -17,14 +19,18 @@ import shutil
 import subprocess
 
 import support
+import words
+from parts.manual import OPTION
 from support import DATA, OPTIONS, ROOT, settled, tell
 
 PORT = 8080
 MOST_TICKS_APART = 100
+PAGES = [*sorted((ROOT / "docs").glob("*.md")), ROOT / "docs/he.1", ROOT / "README.md"]
+GIVEN = {"mine.pcap": "curl.pcap", "mine.host": "host-lines", "curl.timeline": "curl.timeline"}  # of examples/captures
 
 
 def blocks_of_markdown(text, kind="text"):
-    return re.findall(rf"^```{kind}\n(.*?)^```$", text, re.MULTILINE | re.DOTALL)
+    return re.findall(rf"^ *```{kind}\n(.*?)^ *```$", text, re.MULTILINE | re.DOTALL)
 
 
 def blocks_of_page(text):
@@ -60,7 +66,7 @@ def are_near(x, y):
 
 
 def run(command, folder):
-    """What the command prints in the folder, where `he` is the program, and its status."""
+    """The output of the command in the folder, where `he` is the program, and its status."""
     done = support.run("sh", "-c", command, cwd=folder, capture_output=False, stdout=subprocess.PIPE,
                        stderr=subprocess.STDOUT)
     return done.stdout, done.returncode
@@ -73,11 +79,36 @@ def tried(line):
 
 def run_shell_lines(text, folder):
     """Runs the lines of the shell blocks, `make` without doing anything; of each what is wrong, or None."""
+    for name, file in GIVEN.items():
+        shutil.copy(ROOT / "examples/captures" / file, folder / name)
     for line in shell_lines(text):
         word = line.split(" ")[0]
-        if word in ("he", "make"):
-            printed, status = run(tried(line), folder) if word == "he" else run(f"make -n{line[4:]}", ROOT)
-            yield f"{line}\nends with status {status}\n{printed}" if status else None
+        if word == "make":
+            printed, status = run(f"make -n{line[4:]}", ROOT)
+        elif word in ("he", "sed") or line.startswith("tools/from-capture mine") and shutil.which("tshark"):
+            printed, status = run(tried(line), folder)
+        else:
+            continue
+        yield f"{line}\nends with status {status}\n{printed}" if status else None
+
+
+def code_of(page):
+    """The code in a page: its blocks and what is in backquotes, or all of a manual page."""
+    text = page.read_text()
+    if page.suffix == ".1":
+        return [text.replace("\\-", "-")]
+    return re.findall(r"^ *```\w*\n(.*?)^ *```$|`([^`]+)`", text, re.MULTILINE | re.DOTALL)
+
+
+def check_options():
+    """Each option that a page writes after `he COMMAND` is one of that command."""
+    options = {each.name: {name for option in each.options for name in option.names()}
+               for each in words.described(OPTIONS.program) if each.name}
+    command = re.compile(rf"\bhe ({'|'.join(options)})\b([^|&;<>#'\"\n]*)")
+    for page in [*PAGES, ROOT / "CONTRIBUTING.md", ROOT / "CHANGELOG.md"]:
+        for name, rest in command.findall("\n".join(map("".join, code_of(page)))):
+            wrong = set(re.findall(OPTION, rest)) - options[name] - {"--help"}
+            tell(not wrong, f"{page.relative_to(ROOT)}: he {name} has no {' '.join(wrong)}")
 
 
 def try_block(block, folder, is_live):
@@ -120,7 +151,7 @@ def check_pages():
     os.environ["PATH"] = f"{folder}/bin:{os.environ['PATH']}"
     for name in ("examples", "tools"):
         (folder / name).symlink_to(ROOT / name)
-    # What `he proxy --record day/` leaves.
+    # A record of `he proxy --record day/`.
     record = folder / "day/2026-01-02/12-00-00.000-example.org-443.timeline"
     record.parent.mkdir(parents=True)
     record.write_bytes((DATA / "ipv6-late-but-within-delay-leads.timeline").read_bytes())
@@ -128,12 +159,11 @@ def check_pages():
         is_live = False
         with contextlib.suppress(OSError):
             is_live = held.enter_context(support.listener_at("127.0.0.1", PORT)) is not None
-        for page in [*sorted((ROOT / "docs").glob("*.md")), ROOT / "docs/he.1", ROOT / "README.md"]:
+        for page in PAGES:
             text = page.read_text()
             blocks = blocks_of_page(text) if page.suffix == ".1" else blocks_of_markdown(text)
             ends = [end for block in blocks for end in try_block(block, folder, is_live)]
-            if page.name in ("README.md", "INCIDENT.md", "LIBRARY.md"):
-                ends += run_shell_lines(text, folder)
+            ends += run_shell_lines(text, folder)
             for end in ends:
                 tell(end is None, f"{page.relative_to(ROOT)}: {end}")
     for image in sorted((ROOT / "docs").glob("*.svg")):

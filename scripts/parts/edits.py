@@ -1,4 +1,4 @@
-"""Looks whether each wrong edit, crates/NAME/must-fail/*.edit and crates/NAME/more-edits/*.edit, fits the code: its file
+"""Looks whether each mutation, crates/NAME/must-fail/*.edit and crates/NAME/more-edits/*.edit, fits the code: its file
 is there, and has each text that is replaced once, after the replacements before it. Whether the prover refuses it, the
 gate and `make edits` say.
 """

@@ -1,7 +1,7 @@
-"""Runs a built program over the examples in crates/cases/data, and tells where it writes something else than stands
+"""Runs a built program over the examples in crates/cases/data, and reports where it writes something else than is
 there: what `he replay`, `he order`, `he explain` and `he draw` write, what `--json` makes of it, and what `he check`
 and `he check --all` say of faults or warn of, also as objects. Transcripts, orders, stories and objects of all of
-them are compared with the plain reading of the rules (plain_wanted.py) too: so all four tell the same races, faults
+them are compared with the second reading of the rules (plain_wanted.py) too: so all four tell the same races, faults
 included. Some are summed up under the names of a proxy's records, by file, hour, family and host (plain_summary.py).
 """
 import multiprocessing
@@ -36,7 +36,7 @@ def compare(path):
             checks.append((is_right and ran.returncode == bool(fault), told))
         if words in READ:
             is_same = (ran.stdout, ran.stderr, ran.returncode) == wanted.of(words.split())
-            checks.append((is_same, f"{told}, by the plain reading"))
+            checks.append((is_same, f"{told}, by the second reading"))
     return [*checks, (WRITTEN.keys() & files.keys(), f"{path.stem}: no output stands beside it")]
 
 

@@ -1,11 +1,11 @@
-"""Runs a built program over texts that are drawn (drawn.py), and tells where it says something else than a plain
+"""Runs a built program over texts that are drawn (drawn.py), and tells where it says something else than a second
 reading of the rules (plain.py and the files plain_*.py beside it).
 
 A round is one text: some races, half of them with record lines, at times with one thing broken. `he order` and `he replay` with 1, 2, 7 and 64 workers
 get it in one piece, then one of the other commands with drawn settings, also as JSON, or `he check --all`, and last one
 of all these in random pieces through a pipe. Output, faults and status are compared. Where they differ, the text is
 made smaller by lines, and kept with what both said. A seed gives the same texts each time; each round's
-seed is told, and `--seed N --seconds 0` repeats it.
+seed is printed, and `--seed N --seconds 0` repeats it.
 """
 import collections
 import contextlib
@@ -39,7 +39,7 @@ def new_run(drawer):
 
 
 def run(words, text, pieces=None):
-    """What the program writes: its output, its standard error and its status."""
+    """The program's answer: its output, its standard error and its status."""
     with contextlib.ExitStack() as held:
         given = {"input": text}
         if pieces:
@@ -68,7 +68,7 @@ def differences(text, chance, runs):
     for words, in_pieces in runs:
         came = run(words, text, chance if in_pieces else None)
         if words[0] == "check":
-            # (what it says of each, and its warnings, no plain reading tells)
+            # (no second reading has its sentences and its warnings)
             came = came[0], b"".join(FAULT_LINE.findall(came[1])), came[2]
         if came != want.of(words):
             found.append((words, in_pieces, want.of(words), came))
@@ -110,7 +110,7 @@ def keep(seed, text, found, chance):
 
 
 def with_records(text, drawer):
-    """Half of the texts with record lines, of which one may be wrong. Where nothing is, the plain reading is to find
+    """Half of the texts with record lines, of which one may be wrong. Where nothing is, the second reading is to find
     the same races, line numbers aside."""
     if drawer.is_one_in(2):
         return text
@@ -128,7 +128,7 @@ def wanted_fault(text):
 
 
 def check_texts():
-    """One round after another, for so many seconds."""
+    """One round after another, for these seconds."""
     rounds, runs_made, races, faults = 0, 0, 0, collections.Counter()
     end = time.monotonic() + (SECONDS if OPTIONS.seconds is None else OPTIONS.seconds)
     while rounds == 0 or time.monotonic() < end:

@@ -1,4 +1,4 @@
-"""Runs a built program where what it stands on fails: streams that are closed, full, gone or no stream, and too little
+"""Runs a built program where the system fails: streams that are closed, full, gone or no stream, and too little
 memory; and over pipes that stay open, whose races are answered as they come. Bounds what it takes for texts of some
 megabytes: processor time that grows with the text and not with its square, of `explain`, `draw`, `compare` and
 `summary` not many times that of `replay`; and little memory. The bounds are wide: they are for a program that looks at
@@ -18,7 +18,7 @@ import threading
 
 import support
 from plain import MOST_LINE_BYTES
-from plain_wanted import WRITTEN
+from plain_wanted import WRITTEN, Wanted
 from support import DATA, OPTIONS, NotTried, tell
 
 HE = OPTIONS.program
@@ -30,11 +30,11 @@ CLOSED, FULL, IS_FOLDER, NO_FILE = ("Bad file descriptor (os error 9)", "No spac
 FOLDER = os.open("/", os.O_RDONLY)
 COMMANDS = ("replay", "order", "explain", "draw", "replay --json", "compare --set floor=10", "summary", "check",
             "check --all", "replay -v", "draw -v", "summary -v")
-# What is written where there is no race; by the other commands nothing.
+# The output where there is no race; by the other commands nothing.
 OF_NO_RACE = {"compare": WRITTEN["compare"]([], {"floor": 10}), "summary": WRITTEN["summary"]([], {})}
 HEADER = "a race begins with the line `race 1` or `race 2`"
 NO_WORD = "no such word: lines begin with set, policy, source, route, aaaa, a, connect, pause or end"
-FAULTS, MOST_TOLD = 100_000, 1_000  # of a check of all, and how many of them are told
+FAULTS, MOST_TOLD = 100_000, 1_000  # of a check of all, and how many of them are explained
 LEAST_MEMORY, MOST_MEMORY, MEMORY_STEP = 2_048, 1_048_576, 256  # KiB
 # The example that is repeated, a race of 58 kB, and how often; and how much of the shorter text's time the longer one
 # may take: four times as much is in proportion, sixteen times is the square. Less time (in seconds) is not compared.
@@ -83,7 +83,7 @@ def ends(name, ran, status=0, fault="", output=b"", files=(), is_first=False):
 
 
 def check_streams():
-    """Each command on streams that fail: with a check and with -v the system's reason is told too."""
+    """Each command on streams that fail: with a check and with -v the system's reason is printed too."""
     for command in COMMANDS:
         nothing = OF_NO_RACE.get(command.split()[0], b"")
         is_told = command.startswith("check") or command.endswith("-v")
@@ -95,7 +95,7 @@ def check_streams():
                 ("standard output closed", {"stdin": FILE, "stdout": None, **closing(1)}, UNWRITTEN + of_closed,
                  b""),
                 ("full device", {"stdin": FILE, "stdout": full}, UNWRITTEN + of_full, b""),
-                # (nobody is left to be told, and no file is named for it)
+                # (there is nobody to report to, and no file is named for it)
                 ("pipe without reader", {"stdin": FILE, "stdout": pipe}, "", b""),
                 ("standard input a directory", {"stdin": FOLDER}, UNREAD + of_folder, nothing),
                 ("standard input closed", closing(0), UNREAD + of_closed, nothing),
@@ -192,7 +192,7 @@ def check_full_disk():
 
 
 def check_names():
-    """Files: as many names as a line takes; a fault of a pipe, which gives its bytes once, is told at once with -v
+    """Files: as many names as a line takes; a fault of a pipe, which gives its bytes once, is reported at once with -v
     too; names and words that would control a terminal are shown."""
     most = resource.getrlimit(resource.RLIMIT_STACK)[1]
     ran = he("replay", *["-"] * 130_000, timeout=600, **limited("STACK", most))
@@ -207,8 +207,9 @@ def check_names():
     empty = OPTIONS.folder / "empty"
     empty.touch()
     shown = f"{OPTIONS.folder}/a\\x1b[31mb"
+    first, *_ = Wanted(RACE).of(["explain"])[0].splitlines(True)
     ends("explain, a name that controls a terminal", he("explain", control, empty),
-         output=f"==> {shown} <==\n".encode(), is_first=True)
+         output=f"{shown}, ".encode() + first, is_first=True)
     ran = he("replay", f"{control}.no")
     ends("replay, such a name without a file", ran, 1, f"he: {shown}.no: {NO_FILE}")
     ends("replay, a word that controls a terminal", he("replay", "--\033[2J"), 2,
@@ -307,7 +308,7 @@ def replayed_by(workers, file):
 
 def check_memory():
     """From the first limit with which the program starts, in steps, until the whole output comes, of races of which
-    a check has nothing to say: an answer is whole, or a first part of its lines, and the fault is told."""
+    a check has nothing to say: an answer is whole, or a first part of its lines, and the fault is reported."""
     file = OPTIONS.folder / "many.timeline"
     lines = "source 2001:db8::2/64 1\nsource 192.0.2.2/24 1\nroute ::/0 1\nroute 0.0.0.0/0 1"
     text = (DATA / "jobs-enough-for-two-workers.timeline").read_text()

@@ -69,7 +69,7 @@ def ip(words):
 
 
 class Host:
-    """What `he host` writes, in the namespace or on this machine, whether the program takes it in a race, and what is
+    """The output of `he host`, in the namespace or on this machine, whether the program takes it in a race, and what is
     said beside it."""
 
     def __init__(self, name, inside=()):
@@ -98,7 +98,7 @@ class Host:
         return self.is_sound and (own, self.own) == (other, objects)
 
     def same(self):
-        """The same, at the second try at the latest: an address may come to be in use in between."""
+        """So, at the second try at the latest: an address may come to be in use in between."""
         if not (is_same := self.is_same()):
             print(f"{self.name}: tried again: machine busy")
             time.sleep(3)
@@ -106,12 +106,12 @@ class Host:
         self.passes(is_same)
 
     def told(self, count, words):
-        """So many lines of what is said beside the lines have these words."""
+        """This number of remarks have these words."""
         found = sum(bool(re.search(words, line)) for line in self.left.splitlines())
         self.passes(found == count, f", told: {words}")
 
     def has_lines(self, sources, routes):
-        """Lines that the program takes, with so many sources and routes."""
+        """Lines that the program takes, with this number of sources and of routes."""
         counts = [len(re.findall(f"(?m)^{kind} ", self.own)) for kind in ("source", "route")]
         self.passes(self.is_sound and counts == [sources, routes], ": lines")
 
@@ -157,10 +157,10 @@ def check_recorded():
 
 
 def check_this_machine():
-    """What is a guess, or more than a race holds, cannot be compared."""
+    """Guesses, and more than a race holds, cannot be compared."""
     needs("ip")
     host = Host("this machine")
-    if "a guess: " in host.left or "is more than a race holds" in host.left:
+    if "guess: " in host.left or "is more than a race holds" in host.left:
         raise NotTried("its addresses are guessed, or too many")
     host.same()
 
@@ -202,8 +202,8 @@ def check_one_four():
 def check_policy_routing():
     with space("policy routing", *POLICY_ROUTING) as host:
         host.passes(host.is_sound)
-        host.told(1, "not seen: the IPv4 routes of table 51820, ")
-        host.told(1, "a guess: the address 10.8.0.2 ")
+        host.told(1, "not included: the IPv4 routes of table 51820, ")
+        host.told(1, "guess: the address 10.8.0.2 ")
         host.told(1, "the kernel reaches 0.0.0.0/0 from 10.8.0.2, and not from 192.168.77.23 ")
         host.takes("198.51.100.9", "192.168.77.9", "203.0.113.9", "2001:db8:6::1", "2001:db8:7::1", "2001:db8:5::9",
                    "2001:db8:9::9")
@@ -225,7 +225,7 @@ def check_unreachable():
 def check_without_link():
     with space("an address without a link", *WITHOUT_LINK) as host:
         host.same()
-        host.told(1, "a guess: the address 10.9.0.2 ")
+        host.told(1, "guess: the address 10.9.0.2 ")
         host.takes("10.99.0.1", "192.0.2.7", "10.9.0.2")
 
 
@@ -258,7 +258,7 @@ def check_one_network():
     with space("one network on two interfaces", *lines) as host:
         host.passes(host.is_sound and len(re.findall("(?m)^source 192.0.2.[23]/24 ", host.own)) == 2)
         for guess in ("", "the address 192.0.2.3 "):
-            host.told(1, f"a guess: {guess}")
+            host.told(1, f"guess: {guess}")
 
 
 def check_many():

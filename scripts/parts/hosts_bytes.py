@@ -5,7 +5,7 @@ The program must end by itself, within a time and with little memory: with statu
 a host's, or with one line that says why there are none. Each file is drawn by itself, from the recordings of
 crates/edge_cases/data.
 
-Each file is drawn for so many --seconds, up to the first that is wrong, which is kept.
+Each file is drawn for --seconds, up to the first that is wrong, which is kept.
 
 needs: root and `unshare`, for /proc and /sys of its own
 """
@@ -26,13 +26,13 @@ SECONDS = 2
 DATA = support.ROOT / "crates/edge_cases/data"
 NET = ("if_inet6", "ipv6_route", "fib_trie", "route", "dev")
 LINK = ("ifindex", "flags", "carrier", "type")
-NEEDED = {"fib_trie", "route", "dev"}  # where one of these isn't there, nothing can be told
+NEEDED = {"fib_trie", "route", "dev"}  # without one of these nothing can be compared
 MOST_SECONDS = 5  # processor time of a run
 LONGEST = 600  # seconds of a run by the clock, on a machine with other work
 MOST_MEMORY = 64 * 1024  # KiB, of its addresses
 MOST_BYTES = 400_000  # of a file
 FAULT = b"he: cannot read /proc/net\n"
-REMARK = re.compile(rb"he: (?:left out|a guess|cannot read /sys/class/net/[^\n]*): [^\n]*\n")
+REMARK = re.compile(rb"he: (?:left out|guess|cannot read /sys/class/net/[^\n]*): [^\n]*\n")
 ODD = [b"", b"0", b"f", b"ffffffff", b"100000000", b"00000000", b"80200001", b"00200200", b"g", b"-1", b"0x1003", b"*",
        b"lo", b"eth0", b"f" * 32, b"0" * 33, b"81", b"80", b"ff", b"65536", b"18446744073709551615",
        b"18446744073709551616", b"Local:", b"Main:", b"Id", b"|--", b"/32", b"host", b"LOCAL", b"192.0.2.300",
@@ -56,7 +56,7 @@ def recordings():
 
 
 def mutated(chance, text):
-    """The text changed in one way to four; most of it stands as it was."""
+    """The text changed in one way to four; most of it stays as it was."""
     for _ in range(chance.choice([1, 1, 2, 4])):
         text = changed(chance, text)[:MOST_BYTES]
     return text

@@ -15,9 +15,9 @@ from support import DATA, OPTIONS, ROOT, NotTried, data_of, must, needs, run, te
 
 # The functions, with the words by which the program writes the same.
 CALLS = {"replay": ["replay"], "order": ["order"], "explain": ["explain", "--json"]}
-# What the library may call, beside the loader's own weak names.
+# The calls that the library may make, beside the loader's own weak names.
 NEEDED = {"malloc", "realloc", "free", "memcpy", "memmove", "memset", "memcmp", "bcmp"}
-# What he_host_lines calls beside it, to ask Linux.
+# The further calls of he_host_lines, to ask Linux.
 ASKED = {"socket", "connect", "getsockname", "close", "getifaddrs", "freeifaddrs", "inet_pton", "fopen", "fclose",
          "fscanf", "__isoc99_fscanf", "__isoc23_fscanf", "snprintf", "strcmp", "strchr", "strlen", "memchr",
          "_GLOBAL_OFFSET_TABLE_"}
@@ -27,7 +27,7 @@ NUMBERS = {name: int(number) for name, number in re.findall(r"HE_(\w+) = (\d+)",
 DONE, FAULT, TOO_SMALL = (NUMBERS[name] for name in ("DONE", "FAULT", "BUFFER_TOO_SMALL"))
 START, WAIT, WON, EXHAUSTED, LIMIT = (
     NUMBERS[f"ACTION_{name}"] for name in ("START", "WAIT", "WON", "EXHAUSTED", "LIMIT"))
-# What the program says of a fault, by the kind's number: the words of he_kind_text, with the rows of a policy table.
+# The program's words for a fault, by the kind's number: the words of he_kind_text, with the rows of a policy table.
 KINDS = {NUMBERS[f"KIND_{word.upper().replace(' ', '_')}"]: word for word in (
     "header", "word", "number", "address", "prefix", "repeated", "range", "too many", "unfinished")}
 KINDS |= {NUMBERS["KIND_NONE"]: "", NUMBERS["KIND_NO_DEFAULT_ROW"]: "policy has no ::/0",
@@ -63,7 +63,7 @@ class Library:
         return getattr(self.he, f"he_{name}")
 
     def text(self, name, text, size=1 << 21):
-        """The answer, what is told, and the whole room."""
+        """The answer, what is reported, and the whole buffer."""
         room = ctypes.create_string_buffer(FILLER * size, size)
         told = self.example.Result()
         answer = self.call_of(name)(text, len(text), room, size, ctypes.byref(told))
@@ -85,8 +85,8 @@ def header_names():
 
 
 def check_symbols():
-    """What is exported are the functions of he.h; what is called is malloc, beside what every compiler takes as given;
-    the loader is told that names are bound at once, and that their table is then read alone."""
+    """Only the functions of he.h are exported; it calls only malloc, beside what every compiler takes as given;
+    the loader is to bind names at once, and make their table read-only then."""
     shared = prefix() / "lib/libhe.so"
     for file, words in ((shared, ["-D"]), (prefix() / "lib/libhe.a", ["-g"])):
         lines = run("nm", *words, file).stdout.splitlines()
@@ -187,7 +187,7 @@ def compare_check(timeline, text, fault):
 
 
 def check_examples():
-    """What the program writes; room that is one byte too small is told, and stays as it was."""
+    """The program's output; a buffer that is one byte too small is reported, and stays as it was."""
     for timeline in sorted(DATA.glob("*.timeline")):
         text = timeline.read_bytes()
         for name, words in CALLS.items():
@@ -244,7 +244,7 @@ class Driver:
         return start + duration, word
 
     def happen(self, now):
-        """What has happened by the tick is written down."""
+        """Writes the events up to the tick."""
         for word, (tick, line) in self.script.answers.items():
             if tick <= now and word not in self.answers:
                 self.answers[word] = line

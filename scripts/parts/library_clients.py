@@ -57,7 +57,7 @@ def judge(what, race, transcript, record):
 
 
 def paths():
-    """What a program needs that is built and run with the shared library."""
+    """The environment for a program that is built and run with the shared library."""
     own = f"{prefix()}/lib"
     return {**os.environ, "PKG_CONFIG_PATH": f"{own}/pkgconfig", "LD_LIBRARY_PATH": own, "HE_LIB_DIR": own}
 

@@ -85,7 +85,7 @@ def check_ways():
 
 
 def check_records():
-    """Each record line of the examples is written as it stands; what is none is refused."""
+    """Each record line of the examples is written as it is; any other line is refused."""
     sound = [file for file in DATA.glob("*.timeline") if not file.with_suffix(".fault").exists()]
     lines = {line for file in sound for line in file.read_text().splitlines() if line.startswith("record ")}
     lines |= {"record to example.org 443", "record attempt 192.0.2.1 refused", "record untried ::1"}

@@ -38,7 +38,7 @@ def race_text(lines, version=1):
 
 
 class Run(support.Run):
-    """A race of the program, which may have so many descriptors, with its processor time in seconds."""
+    """A race of the program, which may have this many descriptors, with its processor time in seconds."""
 
     def __init__(self, text, port, *words, descriptors=None):
         before = support.seconds_of_children()
@@ -115,7 +115,7 @@ def check_sixteen():
 @timed
 def check_most():
     """As many attempts as a race may have: those at a listener that takes no more wait to the limit; where descriptors
-    are few, of which a waiting attempt has two, the attempts that get none fail, and the first of them is told."""
+    are few, of which a waiting attempt has two, the attempts that get none fail, and the first of them is reported."""
     v4 = [f"127.0.1.{last}" for last in range(256)]
     v6 = [f"{PREFIX}{last:x}" for last in range(1, 257)] if has_six() else []
     answers = f"aaaa 0 {' '.join(v6) or 'none'}\na 0 {' '.join(v4)}\n"
@@ -142,7 +142,7 @@ def check_floor():
 
 
 def check_known():
-    """What is known of addresses decides which one is dialled, and stands in the record."""
+    """The history of addresses decides which one is dialled, and is in the record."""
     addresses = [f"127.0.0.{last}" for last in range(1, 4)]
     with listening(addresses) as (listeners, port):
         known = "rtt 127.0.0.2 80\nrtt 127.0.0.3 30\nused 127.0.0.1\n"
@@ -152,7 +152,7 @@ def check_known():
     run.must(came == [0, 0, 1] and run.won == "127.0.0.3" and known in run.record, came, run.record)
 
 
-# A run with descriptors from 10 up to so many alone.
+# A run with descriptors from 10 up to this number only.
 FEW = 'exec 3<&0 4<&0 5<&0 6<&0 7<&0 8<&0 9<&0; ulimit -n "$0"; exec "$@"'
 
 
@@ -190,7 +190,7 @@ def check_statuses():
 
 
 def check_told():
-    """With -v each attempt that failed is told with its reason; without it, none but one that the host could not begin,
+    """With -v each attempt that failed is reported with its reason; without it, only one that could not begin,
     and that once."""
     addresses = [f"127.0.0.{last}" for last in range(1, 4)]
     text = race_text(f"set attempt 10\n{LOOPBACK}aaaa 0 none\na 0 {' '.join(addresses)}\n")
@@ -259,7 +259,7 @@ def racing_full(lines, address):
 
 @timed
 def check_seen():
-    """A connection that comes to stand while nothing is due is seen then: the listener takes it a second after the
+    """A connection that is made while nothing is due is seen then: the listener takes it a second after the
     start, and the race would end two seconds later."""
     with racing_full(f"set limit 3000\n{LOOPBACK}aaaa 0 none\na 0 127.0.0.1\n", "127.0.0.1") as (_, output, accept):
         accept(1.5)
@@ -269,7 +269,7 @@ def check_seen():
 
 @timed
 def check_stopped():
-    """A program that is stopped over a due start (900 ms later), while its first connection comes to stand, makes no
+    """A program that is stopped over a due start (900 ms later), while its first connection is made, makes no
     second attempt."""
     lines = f"set attempt 900\n{LOOPBACK}aaaa 0 none\na 0 127.0.0.1 127.0.0.2\n"
     with racing_full(lines, "0.0.0.0") as (running, output, accept):
@@ -281,7 +281,7 @@ def check_stopped():
 
 
 def syns(sniffer, port, count):
-    """The times at which a SYN to the port was seen, by its address, up to so many addresses, or for five seconds."""
+    """The times at which a SYN to the port was seen, by its address, up to this many addresses, or for five seconds."""
     found, end = {}, time.monotonic() + 5
     with suppress(TimeoutError):
         while len(found) < count and (left := end - time.monotonic()) > 0:

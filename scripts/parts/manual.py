@@ -1,9 +1,9 @@
 """Holds the help of a built program, the manual page and the completions together: what is written from the help (the
-completions, the synopsis of the page) must stand in their files, the page must have each option at its command, no line
+completions, the synopsis of the page) must be in their files, the page must have each option at its command, no line
 of help may pass 80 columns, and each shell must complete lines that are typed in a terminal.
 
-needs: bash. Where groff stands, the page is formatted too, and must give no warning; where fish and zsh stand, their
-completions are tried too.
+needs: bash. Where groff is installed, the page is formatted too, and must give no warning; where fish and zsh are,
+their completions are tried too.
 """
 import functools
 import os
@@ -17,14 +17,14 @@ from support import OPTIONS, ROOT, must, needs, run, tell
 from words import PAGE
 
 HE = OPTIONS.program
-OPTION = r"(?<![\w-])(?:--[a-z]+(?:-[a-z]+)*|-[A-Za-z0-9])(?![\w-])"
+OPTION = r"(?<![\w-])(?:--[a-z0-9]+(?:-[a-z0-9]+)*|-[A-Za-z0-9])(?![\w-])"
 MOST_COLUMNS = 80
 
 # A command `he` that writes its words.
 SHOWS = "he() { printf '<%s>' \"$@\"; echo; }"
 SHOWS_FISH = "function he; printf '<%s>' $argv; echo; end"
 
-# What is typed, and what a tab must add to it. A space stands last where the word is whole.
+# The typed words, and those that a tab must add. A space is last where the word is whole.
 TYPED = (
     ("he expl", "ain "), ("he explain ", "day.timeline "), ("he explain --js", "on "),
     ("he draw --html ", "day.timeline "), ("he live --port 80 ", "day.timeline "), ("he replay --set att", "empt="),
@@ -33,8 +33,8 @@ TYPED = (
 
 
 def of_page():
-    """From each command to its options: OPTIONS has those of all commands, and a command's section its own and the names
-    of those in COMMON OPTIONS."""
+    """From each command to its options: OPTIONS has those of all commands, and a command's section its own and the
+    names of those in COMMON OPTIONS."""
     text = PAGE.read_text().replace("\\-", "-")
     sections = dict(re.findall(r"^\.SH ([A-Z ]+)\n(.*?)(?=^\.SH |\Z)", text, re.MULTILINE | re.DOTALL))
     every, common = options_of_tags(sections["OPTIONS"]), tags(sections["COMMON OPTIONS"])
@@ -87,7 +87,7 @@ def check_groff():
 
 
 def read_quiet(terminal, quiet, most):
-    """What a terminal writes until it is quiet for so long."""
+    """The output of a terminal until it is quiet for this time."""
     text, end = b"", time.monotonic() + most
     while time.monotonic() < end and select.select([terminal], [], [], quiet)[0]:
         try:
@@ -98,8 +98,8 @@ def read_quiet(terminal, quiet, most):
 
 
 def complete(start, setup, home, line, quiet):
-    """What a line has become in a shell in a terminal, once a tab was typed after it and another word: the shell is
-    asked to write the line as it stands. It is waited for until it is quiet for so many seconds."""
+    """A line as a shell in a terminal completes it, once a tab was typed after it and another word: the shell is
+    asked to write the line as it is. It is waited for until it is quiet for these seconds."""
     environment = {"HOME": home, "PATH": os.environ["PATH"], "TERM": "dumb", "HISTFILE": "/dev/null", "LANG": "C.UTF-8"}
     pid, terminal = pty.fork()
     if pid == 0:

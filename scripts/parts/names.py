@@ -35,7 +35,7 @@ DENIED = [("denies", [], [V4]), ("denies-early", [], [V4]), ("denies-four", [V6]
 
 
 def replies(what, query, stream):
-    """What a server sends for a query where it answers so: messages, each after a wait in seconds."""
+    """The reply of a server that answers so: messages, each after a wait in seconds."""
     kind = kind_of(query)
     ip, room = data_of(V6 if kind == AAAA else V4), 65_535 - len(message(query)) - 12
     found = addresses(kind, V6, V4)
@@ -127,8 +127,8 @@ def look_up(*words):
 
 
 def finds(host, v6, v4, *words, ticks=lambda v6, v4: max(v6, v4) < NOISE, what="", told="", begin=lambda: None):
-    """The host has these addresses, in this order, and the ticks are right, each try after this beginning; told is why
-    the look-up of a family failed."""
+    """The host has these addresses, in this order, and the ticks are right, each try after this beginning; printed is
+    why the look-up of a family failed."""
     def attempt():
         begin()
         done = look_up(host, *words)
@@ -142,7 +142,7 @@ def finds(host, v6, v4, *words, ticks=lambda v6, v4: max(v6, v4) < NOISE, what="
 
 
 def lacks(host, fault, *words, status=1, millis=0, what=""):
-    """The host has no address, for this reason, which is told with the host's name, after so many milliseconds."""
+    """The host has no address, for this reason, which is printed with the host's name, after this many milliseconds."""
     def attempt():
         before = time.monotonic()
         done = look_up(host, *words)
@@ -295,8 +295,8 @@ def mutated(draw, whole):
 
 
 def code_of(told, low, counts):
-    """The code of a response whose sections, of so many records each, come next, by the lower bits in its header and
-    the upper ones in an OPT record; None where there is no telling."""
+    """The code of a response whose sections, of these numbers of records, come next, by the lower bits in its header
+    and the upper ones in an OPT record; None where there is no telling."""
     opts = []
     try:
         for section, count in enumerate(counts):
@@ -314,7 +314,7 @@ def code_of(told, low, counts):
 
 
 def read_plainly(parser, data, query):
-    """What a message says to the query, read without the program: a word, and the addresses. (The parser is that of
+    """The answer of a message to the query, read without the program: a word, and the addresses. (The parser is that of
     dnspython.)"""
     if len(data) < 12:
         return "passed over", []
@@ -424,7 +424,7 @@ def drawn_zone():
 
 
 def check_dnsmasq():
-    """The same names as dig finds."""
+    """Names as dig finds them."""
     support.needs("dig")
     records = ["--host-record=both.test,192.0.2.1,2001:db8::1", "--host-record=four.test,192.0.2.4",
                "--cname=alias.test,both.test", "--cname=other.test,alias.test", "--local=/test/"]

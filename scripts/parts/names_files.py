@@ -32,7 +32,7 @@ LOOKUPS, LONGEST = (20_000, 50) if OPTIONS.full else (500, ALONE - 50)
 SEARCH = "domain no.example\nsearch other.x test\n"
 MOST_SECONDS = 0.12  # for a look-up in a file of hosts of 150,000 lines: what getent takes
 
-# What people write for a host: the addresses that are found or the line that is told, and the names of which a name
+# Texts for a host: the addresses that are found or the line that is printed, and the names of which a name
 # server is asked, with `search a.test`. The names are worked out by hand, of the RFCs that forbid to ask.
 HOSTS = (
     (["both.test.", "BOTH.test."], ([V6], [V4]), ["both.test"]),
@@ -49,7 +49,7 @@ HOSTS = (
     (["127.1", "2130706433", "0x7f.1", "0177.0.0.1"],
      "not a host name: a number; if the address 127.0.0.1 is meant, write that", []),
     (["192.0.2.256"], "not a host name: it ends in a number", []),
-    (["x.onion"], "names in .onion are reached through Tor alone", []),
+    (["x.onion"], "names in .onion can only be reached through Tor", []),
     (["x.invalid"], "no name in .invalid exists", []),
     (["both.corp.local", "both.CORP.Local."], ([V6], [V4]), ["both.corp.local"]),
     (["x.local"], "names in .local are not asked of name servers: try --resolver system", []),
@@ -71,7 +71,7 @@ SERVERS = {
     (AGAIN, AGAIN): ["loses", "loses dead", "deaf"],
 }
 
-# Name servers of which none tells anything, what is told of them, AT being the address of the first, and the
+# Name servers of which none helps, what is printed of them, AT being the address of the first, and the
 # milliseconds that it takes, with `timeout:1 attempts:1`.
 FAILURES = (
     ("servfail", "name server AT: SERVFAIL", 0), ("refused servfail", "name server AT: REFUSED", 0),
@@ -222,7 +222,7 @@ def check_environment():
 
 
 def check_words():
-    """What is told of look-ups counts what is kept, and says who answered."""
+    """The lines on look-ups count what is kept, and say who answered."""
     server_at("127.0.0.1")
     SETTINGS.write_text("nameserver 127.0.0.1\n")
     for host, words, wanted in (("hundreds.test", (), "A answer: 256 addresses from 127.0.0.1\n"),

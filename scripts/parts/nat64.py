@@ -15,7 +15,7 @@ import tempfile
 import threading
 
 import support
-from support import (A, AAAA, NXDOMAIN, OPTIONS, TIMEOUT, NameServer, NotTried, addresses, greet, in_thread, kind_of,
+from support import (A, AAAA, NXDOMAIN, OPTIONS, REFUSED, TIMEOUT, NameServer, NotTried, addresses, greet, in_thread, kind_of,
                      labels_of, message, must, replayed, timed)
 
 HE = OPTIONS.program
@@ -140,15 +140,21 @@ class Discovering(NameServer):
     """A name server without DNS64, except that ipv4only.arpa. has its addresses by these prefixes. Each other name has
     those of its label."""
 
-    NAMES = {"four": [SERVER], "both": [HOME, SERVER], "none": [], "own": ["127.0.0.1"], "private": [PRIVATE]}
+    NAMES = {"four": [SERVER], "both": [HOME, SERVER], "none": [], "own": ["127.0.0.1"], "private": [PRIVATE],
+             "shy": [], "mute": [SERVER]}
 
     def __init__(self, *prefixes):
         self.names = self.NAMES | {"ipv4only": [embedded(prefix, host) for prefix in prefixes
                                                 for host in ("192.0.0.170", "192.0.0.171")]}
+        self.mute = set()  # what is not answered, each as its label and its type
         super().__init__("::1")
 
     def replies(self, query, _):
         label = labels_of(query)[0]
+        if (label, kind_of(query)) in self.mute:
+            return []
+        if (label, kind_of(query)) == ("shy", A):
+            return [(0, message(query, code=REFUSED))]
         if label not in self.names:
             return [(0, message(query, code=NXDOMAIN))]
         return [(0, message(query, addresses(kind_of(query), *self.names[label])))]
@@ -238,11 +244,31 @@ def check_no_name():
     """A name that has no address at all, one that is no name, and one whose only address is this machine's own are as
     without a NAT64, and the prefix is not asked for."""
     with Discovering(WELL_KNOWN) as server:
-        for name, asked, status in [("none", [AAAA, A], 3), ("lacks", [AAAA, A], 1), ("own", [AAAA, A], 3)]:
+        for name, asked, status in [("none", [AAAA, A], 1), ("lacks", [AAAA, A], 1), ("own", [AAAA, A], 3)]:
             server.seen.clear()
             run = Run("--resolver", server.at, f"{name}.test", 4430)
             run.must(run.status == status and not run.attempts and "NAT64" not in run.told)
             run.must(server.asked() == [(name, kind) for kind in asked], server.asked())
+
+
+def check_refused():
+    """A name server that refuses A: the reason of each family is its own look-up's, and the prefix is not asked for."""
+    with Discovering(WELL_KNOWN) as server:
+        run = Run("-v", "--resolver", server.at, "shy.test", 4430)
+        run.must(run.status == 1 and not run.attempts)
+        run.must(re.search("(?m)^record lookup aaaa no-address\nrecord lookup a refused\n(?!record nat64)", run.record))
+        run.must({query for query in server.asked()} == {("shy", AAAA), ("shy", A)}, server.asked())
+        run.must(run.told.startswith("he: 0 ms: A not asked yet: this machine has no IPv4 address or route "))
+
+
+def check_silent():
+    """A name server that does not answer for A, or for the prefix, before the limit."""
+    for name in ("mute", "four"):
+        with Discovering(WELL_KNOWN) as server:
+            server.mute = {("mute", A), ("ipv4only", AAAA)}
+            run = Run("--set", "limit=600", "--resolver", server.at, f"{name}.test", 4430)
+            run.must(run.status == 3 and not run.attempts and "\nrecord lookup a nat64\n" in run.record)
+            run.must(run.told == f"he: no connection to {name}.test port 4430: no DNS answer in 600 ms\n")
 
 
 @timed
@@ -307,9 +333,12 @@ def check_none():
     told = "he: this machine has no IPv4, and its network no NAT64\n"
     with Discovering() as server:
         run = Run("--resolver", server.at, SERVER, 4430)
-        run.must(run.status == 3 and run.told == told and "nat64" not in run.record)
+        run.must(run.status == 3 and run.told == told)
+        run.must("\nrecord lookup a nat64\n" in run.record and "record nat64" not in run.record)
         run = Run("--resolver", server.at, "four.test", 4430)
         run.must(run.status == 3 and run.told.endswith(f"he: four.test has no IPv6 address\n{told}"))
+        run.must("\nrecord lookup aaaa no-address\nrecord lookup a nat64\n" in run.record)
+        run.must("record nat64" not in run.record)
     run = Run("--resolver", DOWN, SERVER, 4430)
     told = (r"he: this machine has no IPv4, and its network's NAT64 is unknown: "
             r"AAAA of ipv4only\.arpa: name server .*\n")

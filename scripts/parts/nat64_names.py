@@ -262,7 +262,7 @@ def check_none():
                 run.must(run.status == 3 and not run.attempts and run.told == lack + why)
                 must(server.asked() == queries, host)
                 probe = Probe(host)
-                probe.must(probe.status == 3 and not probe.outcomes)
+                probe.must(probe.status == 3 and not probe.outcomes and probe.done.stderr == lack + why)
                 must(server.asked() == queries, host)
 
 
@@ -292,6 +292,7 @@ def check_probe():
                     probe, asked = Probe(host), server.asked()
                     probe.must(probe.status == 0 and probe.outcomes == {at: "connected"}, host)
                     must(asked == wanted, host, asked)
+                    probe.must((f"\n{at} is {SERVER}\n" in probe.done.stdout) == (KNOWN in wanted), host)
                     is_embedded = f"\nrecord lookup a nat64\nrecord nat64 {prefix}\n" in probe.record
                     probe.must(is_embedded == (KNOWN in wanted), host)
 

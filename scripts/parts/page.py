@@ -1,6 +1,6 @@
 """Writes a page of races by `he draw --html`, and reads it as a browser would: every tag is ended where it must be, no
-name stands twice, each link leads to one, nothing is taken from elsewhere and no script runs. What it shows is
-compared with the plain reading (plain.py and others): of each race its section, with its end, its heading, its rows,
+name occurs twice, each link leads to one, nothing is taken from elsewhere and no script runs. What it shows is
+compared with the second reading (plain.py and others): of each race its section, with its end, its heading, its rows,
 the ticks of their bars and its story; and of all races the totals and the end of the scale. Tried on the texts of
 crates/cases/data that have stories, on all that have transcripts as one page, and on settings in place of the races'
 own.
@@ -23,18 +23,18 @@ NO_TEXT = {"style", "script", "title"}
 PERCENTS = (50, 90, 99)
 COUNTED = ("races", "median ms", "p90 ms", "p99 ms", "connected by IPv6", "connected by IPv4", "not connected")
 
-# What a section shows: its anchor, the end by which it is sorted, its heading, its rows and its story. A row: its
+# The contents of a section: its anchor, the end by which it is sorted, its heading, its rows and its story. A row: its
 # label, its words and its bars, each with its kind, the tick where it begins and its length; a dot has no length.
 Section = namedtuple("Section", "anchor end heading rows story")
 
 
 class Page(html.parser.HTMLParser):
-    """What a page shows, and what is wrong with it."""
+    """The contents of a page, and what is wrong with it."""
 
     def __init__(self, text):
         super().__init__(convert_charrefs=True)
         self.open, self.faults, self.names, self.links = [], [], [], []
-        self.sections, self.totals, self.files = [], [], []
+        self.sections, self.totals, self.files, self.scale = [], [], [], ""
         self.feed(text)
         self.close()
         if self.open != ["html", "body"]:
@@ -73,6 +73,8 @@ class Page(html.parser.HTMLParser):
         within = self.open[-1] if self.open else None
         if "header" in self.open and within in ("b", "span"):
             self.totals.append(data.strip())
+        elif "header" in self.open and within == "p":
+            self.scale += data
         elif within == "h2":
             self.files.append(data)
         elif "section" in self.open and within not in NO_TEXT:
@@ -118,13 +120,21 @@ def totals(races):
             for it in (str(number), words)]
 
 
+def scale(ends):
+    """The end of the scale that all races share, by which 99 of 100 have ended, and its words."""
+    end, longest = (percentile(ends, percent) if ends else 0 for percent in (99, 100))
+    cut = (f", by which 99 of 100 have ended; longer bars are cut and end in dots; the longest race took {longest} ms"
+           if longest != end else "")
+    return end, f"one scale for all races: 0 to {end} ms{cut}"
+
+
 def read(text, changes):
     races, _ = plain.read_text(pathlib.Path(text).read_bytes().decode("latin-1"))
     return [race.changed(changes) for race in races]
 
 
 def faults_of(words, texts):
-    """What is wrong with the page of these texts."""
+    """The faults of the page of these texts."""
     page = OPTIONS.folder / "page.html"
     end = run(HE, "draw", "--html", page, *words, *texts, timeout=600)
     if end.returncode or end.stdout:
@@ -139,8 +149,9 @@ def faults_of(words, texts):
         at = [place for place, (one, other) in enumerate(zip(shown.sections, wanted)) if one != other]
         told = f"{shown.sections[at[0]]}, not {wanted[at[0]]}" if at else "none differs"
         faults.append(f"{len(shown.sections)} sections of {len(wanted)} races: {told}")
-    end = max((race.report.result.tick for race in races), default=0)
+    end, words = scale([race.report.result.tick for race in races])
     for what, own, right in (("totals", shown.totals, totals(races)), ("the end of the scale", shown.end, end),
+                             ("the scale", shown.scale, words),
                              ("files", shown.files, list(texts) if len(texts) > 1 else [])):
         faults += [] if own == right else [f"{what}: {own}, not {right}"]
     return faults
@@ -156,7 +167,8 @@ def check_pages():
 
 
 def check_names():
-    """Whatever a file is called, its name on a page is the text of its heading, and no tag or attribute has any of it."""
+    """Whatever a file is called, its name on a page is the text of its heading, and no tag or attribute has any of
+    it."""
     folder = OPTIONS.folder / "names"
     folder.mkdir()
     names = ["<b>&amp;", "' onclick='x' id='y", '" id="z', "</h2><script>"]

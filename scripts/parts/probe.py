@@ -1,5 +1,5 @@
-"""Probes hosts by a built program's `he probe`, in a network of its own, and looks at the rows, the verdicts, the records
-and the statuses; and replays a record with other settings beside real connections with the same.
+"""Probes hosts by a built program's `he probe`, in a network of its own, and looks at the rows, the verdicts, the
+records and the statuses; and replays a record with other settings beside real connections with the same.
 
 needs: ip, for the networks
 """
@@ -27,7 +27,7 @@ HEADINGS = ["address", "family", "source", "outcome", "ms"]
 
 
 class Probe:
-    """A run of `he probe`: its status, its output, what it told, and its record."""
+    """A run of `he probe`: its status, its output, its messages, and its record."""
 
     def __init__(self, *words, record=True):
         with tempfile.TemporaryDirectory() as folder:
@@ -128,7 +128,8 @@ def check_literals():
 
 
 def check_lookup():
-    """A look-up that failed is told, and is a fault, although each address connects; a name that is not there is one."""
+    """A look-up that failed is reported, and is a fault, although each address connects; a name that is not there is
+    one."""
     with serving(greet) as port, Zone(FOUR, six_code=REFUSED) as names:
         probe = Probe("--resolver", names.at, "half.zone", port)
         probe.must(probe.status == 1 and re.search("(?m)^he: AAAA: .*: half.zone$", probe.told))
@@ -212,7 +213,7 @@ def check_forms():
 
 
 def check_closed():
-    """Where standard output is closed, a run ends with status 1, and nothing is told; a signal ends rounds."""
+    """Where standard output is closed, a run ends with status 1, and nothing is printed; a signal ends rounds."""
     with serving(greet) as port:
         read, write = os.pipe()
         os.close(read)

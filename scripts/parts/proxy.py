@@ -33,7 +33,7 @@ LINE = re.compile(rf"time={INSTANT} client=\S+ host=\S* port=\d+ .*end=.+")
 
 
 class Proxy:
-    """A proxy that runs: its port, the folder of its records if it keeps any, and what it told."""
+    """A proxy that runs: its port, the folder of its records if it keeps any, and what it printed."""
 
     def __init__(self, *words, at=FOUR, limits=None, earlier=(), keeps=True):
         self.words, self.at, self.port, self.limits, self.earlier = words, at, unused_port(at), limits, earlier
@@ -64,7 +64,7 @@ class Proxy:
         return self.told.read_text()
 
     def lines(self):
-        """The lines of sessions that it told."""
+        """The lines of its sessions."""
         return [line for line in self.said().splitlines() if LINE.fullmatch(line)]
 
     def files(self):
@@ -92,7 +92,7 @@ class Proxy:
         return client
 
     def ask(self, host, port, count=0, seconds=TIMEOUT):
-        """The code of the reply to a SOCKS request, and so many bytes, or all, of what comes after it."""
+        """The code of the reply to a SOCKS request, and a number of bytes, or all, of what comes after it."""
         with self.connect(seconds) as client:
             return socks(client, host, port), get(client, count)
 
@@ -106,7 +106,7 @@ class Proxy:
                 return repr(error).encode()
 
 
-# What a client sends
+# A client's octets
 
 
 def destination(host, port):
@@ -118,7 +118,7 @@ def destination(host, port):
 
 
 def get(client, count):
-    """So many bytes; fewer where the other side closes."""
+    """This number of bytes; fewer if the other side closes."""
     got = b""
     while len(got) < count and (piece := client.recv(count - len(got))):
         got += piece
@@ -158,7 +158,7 @@ def all_of(client):
 
 
 def end_of(client):
-    """What comes next, and after how many seconds."""
+    """The next bytes, and after how many seconds."""
     began = time.monotonic()
     return client.recv(10), time.monotonic() - began
 
@@ -199,7 +199,7 @@ def check_takes():
 
 def check_lines_once():
     """A file of lines is read once, at the start: each race has these lines, whatever becomes of the file. One that is
-    missing, or that has a wrong line, is told then."""
+    missing, or that has a wrong line, is reported then."""
     path, lines = OPTIONS.folder / "lines", f"source {FOUR}/8 7\nroute 127.0.0.0/8 7"
     path.write_text(lines)
     with Proxy("--machine", path) as proxy, serving(greet) as port:
@@ -256,7 +256,7 @@ def check_pieces():
 
 
 def check_early():
-    """What a client sends with its request goes to the server first, however much it is."""
+    """Whatever a client sends with its request goes to the server first, however much it is."""
     for seed, ask in enumerate((socks, tunnel), 1):
         early = random.Random(seed).randbytes(9_000)
         with Proxy() as proxy, serving(echo) as port, proxy.connect() as client:
@@ -266,7 +266,7 @@ def check_early():
 
 
 def check_refusals():
-    """What isn't served is refused by its protocol's reply."""
+    """Other requests are refused by their protocol's reply."""
     with Proxy() as proxy:
         for given, wanted in [
             (b"\4\1\0\x50\x7f\0\0\1user\0", rb"\x00\x5b.{6}"),
@@ -303,7 +303,7 @@ def check_failures():
 
 @timed
 def check_half_closed():
-    """What a client sends before it ends its sending is delivered, though no connection is made yet, and the answer
+    """Whatever a client sends before it ends its sending is delivered, though no connection is made yet, and the answer
     comes to it."""
     with Proxy() as proxy, serving(echo) as port:
         for given in (b"\5\1\0" + destination("dead6.test", port), b"CONNECT dead6.test:%d HTTP/1.1\r\n\r\n" % port):
@@ -399,7 +399,7 @@ def check_early_answers():
             must(code in (0, 200) and got == ANSWER, ask.__name__, code, f"{len(got)} bytes, {proxy.said()!r}")
 
 
-# What is asked for, what is sent, and what the line of the session has after both.
+# The request, the octets that are sent, and what the line of the session has after both.
 RACED = rf"start={INSTANT} record={RECORD.pattern} names=\d+ "
 LOGGED = [("four.test", b"five5", RACED + rf"winner={re.escape(FOUR)} ms=\d+ lost=\d+ sent=5 received=5 end=closed"),
           ("no.such.name.test", b"",
@@ -574,7 +574,8 @@ def check_signals():
 
 
 def check_record_most():
-    """Of the records so many are kept, and the oldest days go first; those that somebody removed are not counted."""
+    """At most this number of records is kept, and the oldest days go first; those that somebody removed are not
+    counted."""
     earlier = [f"{day}/00-00-0{n}.000-a-1.timeline" for day in ("2001-01-01", "2001-01-02") for n in range(4)]
     with Proxy("--max-records", 10, earlier=earlier) as proxy, serving(greet) as port:
         for _ in range(8):

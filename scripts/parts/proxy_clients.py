@@ -167,7 +167,7 @@ def check_most_said():
         must(proxy.said().count("sessions run") == 2, proxy.said())
 
 
-# What becomes of those that vanish
+# Clients that vanish
 
 
 def timers_of(port, column):
@@ -270,10 +270,12 @@ def check_requests():
     """HEAD is answered as GET without a body, two fields Host are refused, and nothing keeps the page."""
     with Proxy() as proxy:
         own = f"Host: {FOUR}:{proxy.port}"
-        for path in ("/", "/proxy.pac"):
+        for path in ("/", "/proxy.pac", "/wpad.dat"):
             whole, head = (request(proxy, f"{method} {path} HTTP/1.1", own) for method in ("GET", "HEAD"))
             must(whole.startswith(b"HTTP/1.1 200 ") and whole.split(b"\r\n\r\n")[0] + b"\r\n\r\n" == head, path, head)
-            must(b"\r\nCache-Control: no-store\r\n" in head, head)
+            for field in (b"Cache-Control: no-store", b"X-Frame-Options: DENY",
+                          b"Cross-Origin-Resource-Policy: same-origin"):
+                must(b"\r\n" + field + b"\r\n" in head, head)
         for method in ("GET / HTTP/1.1", "HEAD / HTTP/1.1", f"CONNECT {FOUR}:9 HTTP/1.1", "POST / HTTP/1.1"):
             got = request(proxy, method, own, own.lower())
             must(got.startswith(b"HTTP/1.1 400 "), method, got)

@@ -34,7 +34,7 @@ TOKEN = rb"[!#$%&'*+\-.^_`|~0-9A-Za-z]+"
 TEXT = rb"[\t\x20-\x7e\x80-\xff]*"
 
 
-# What a server reads, strictly
+# A request as a server reads it, strictly
 
 
 class Wrong(Exception):
@@ -112,7 +112,7 @@ def request_in(octets):
 
 
 def without_data(octets):
-    """What a server got of one request, without the data of its body."""
+    """The server's view of one request, without the data of its body."""
     head = head_in(octets)
     return octets.partition(b"\r\n\r\n")[0] + body_in(*head[1:])[1] if head else octets
 
@@ -263,7 +263,7 @@ def check_bodies():
 
 @timed
 def check_not_ended():
-    """The server is not told that its client ended, neither at the body's end nor when more is dropped, until the
+    """The server does not learn that its client ended, neither at the body's end nor when more is dropped, until the
     client ends."""
     for after in (b"", SECOND):
         origin = Origin(wait=QUIET)
@@ -354,8 +354,8 @@ def check_early_answers():
 
 @timed
 def check_cut():
-    """What is cut does not look whole: a server that resets has its client's connection reset, a client that resets has
-    the server's, and a body that is malformed later on as well."""
+    """A cut transfer does not look whole: a server that resets has its client's connection reset, a client that resets
+    has the server's, and a body that is malformed later on as well."""
     def serve(connection):
         get_head(connection)
         connection.sendall(b"HTTP/1.1 200 OK\r\n\r\n" + bytes(5_000))
@@ -532,7 +532,7 @@ def smuggled(at):
 
 
 def wrong_with(got, at):
-    """What is wrong with what a server got, which is to be one request at most, for it."""
+    """The faults of what a server got, which is to be one request at most, for it."""
     if not got:
         return None
     try:

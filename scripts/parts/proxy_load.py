@@ -39,7 +39,7 @@ def answer_transfer(connection):
 
 
 def answer_to(given):
-    """What that server answers."""
+    """The answer of that server."""
     return digest_of(given) + bytes(len(given))
 
 
@@ -98,7 +98,7 @@ while True:
 
 @timed
 def check_busy():
-    """The same beside many streams, which curl fetches and the system sends, the proxy on a processor of its own."""
+    """So also beside many streams, which curl fetches and the system sends, the proxy on a processor of its own."""
     needs("curl")
     first, *others = processors = os.sched_getaffinity(0)
     if len(others) < 3:

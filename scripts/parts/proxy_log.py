@@ -1,5 +1,5 @@
-"""Connects through a built program's `he proxy`, and looks at what it keeps and says of the races: the log's lines, also
-as a parser of JSON reads them, the records with their names and their removal, the page and the history.
+"""Connects through a built program's `he proxy`, and looks at what it keeps and says of the races: the log's lines,
+also as a parser of JSON reads them, the records with their names and their removal, the page and the history.
 """
 import contextlib
 import json
@@ -25,7 +25,7 @@ MOST_REMOVED = 4  # records that one connection removes at most
 
 
 def facts(line):
-    """What a line of text says, of whose values none has a space."""
+    """The facts of a line of text, of whose values none has a space."""
     return dict(word.split("=", 1) for word in line.split(" "))
 
 
@@ -169,8 +169,8 @@ NAMES = [b'quote".test', b"back\\slash.test", b"line\nfeed.test", b"sp ace.test"
 
 
 def check_strange_names():
-    """Whatever a client asks for, a session is one line, which a parser of JSON reads; in text a value that has a space,
-    a quotation mark or a control character is a string."""
+    """Whatever a client asks for, a session is one line, which a parser of JSON reads; in text a value that has a
+    space, a quotation mark or a control character is a string."""
     for words in ((), ("--log-json",)):
         with Proxy(*words) as proxy:
             for name in NAMES:
@@ -303,8 +303,8 @@ def check_page():
 
 @timed
 def check_silent_address():
-    """An address that was known and is silent is forgotten, as one that fails is, and one that was not tried for as long
-    as a connection to it took is not."""
+    """An address that was known and is silent is forgotten, as one that fails is, and one that was not tried for as
+    long as a connection to it took is not."""
     known, other = "127.0.0.3", "127.0.0.2"
     with tempfile.TemporaryDirectory() as folder, Zone(other, known, ttl=0) as zone:
         path, port, now = pathlib.Path(folder, "known"), unused_port(), int(time.time())

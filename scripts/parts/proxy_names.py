@@ -48,7 +48,7 @@ def check_ttl():
 
 
 def check_shared_label():
-    """What is kept of a host is no other host's, though their first labels are the same."""
+    """No host gets what is kept of another one, though their first labels are the same."""
     with Zone() as zone, Proxy("--resolver", zone.at) as proxy, serving(greet) as port:
         for so_far, name in enumerate(("same.one.test.", "same.two.test.", "same.test."), 1):
             for _ in range(2):
@@ -68,7 +68,7 @@ def check_ids():
 
 
 class Slow(Zone):
-    """A zone that is told after 300 ms; `half` has no answer for IPv4."""
+    """A zone that answers after 300 ms; `half` has no answer for IPv4."""
 
     def replies(self, query, stream):
         is_told = support.labels_of(query)[0] != "half" or support.kind_of(query) == support.AAAA
@@ -78,7 +78,7 @@ class Slow(Zone):
 @timed
 def check_shared_look_ups():
     """Races that begin while another one asks for their host wait for its answers: name servers see two queries. Where
-    that one goes away, or is told what isn't kept, the others ask themselves, all at once."""
+    that one goes away, or gets what isn't kept, the others ask themselves, all at once."""
     with Slow() as zone, Proxy("--resolver", zone.at) as proxy, serving(greet) as port, serving(greet, SIX) as six:
         def reach(name, port=port):
             began = time.monotonic()

@@ -1,6 +1,6 @@
 """Connects through a built program's `he proxy` by the programs that people use.
 
-needs: curl, wget, apt, Chromium, git, nc, ssh, sshd, openssl: what isn't there is told
+needs: curl, wget, apt, Chromium, git, nc, ssh, sshd, openssl: a missing one is reported
 """
 import pathlib
 import re

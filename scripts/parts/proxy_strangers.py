@@ -137,6 +137,19 @@ def check_near():
             must(page(client, proxy) == b"501", "another machine has the page")
 
 
+def check_configuration():
+    """A client of another machine gets the configuration for browsers under the address at which it came, and under no
+    other name."""
+    with Stranger() as stranger, Proxy("--allow", "11.0.0.0/24", at="0.0.0.0") as proxy:
+        for path in ("/proxy.pac", "/wpad.dat"):
+            for host, status in ((f"{NEAR}:{proxy.port}", b"200"), (f"evil.example:{proxy.port}", b"501")):
+                with stranger.made(lambda: socket.create_connection((NEAR, proxy.port), TIMEOUT)) as client:
+                    client.sendall(f"GET {path} HTTP/1.1\r\nHost: {host}\r\n\r\n".encode())
+                    got = all_of(client)
+                must(got.split(b" ", 2)[1] == status, path, host, got)
+                must((f"SOCKS5 {NEAR}:{proxy.port};".encode() in got) == (status == b"200"), path, host, got)
+
+
 def check_served():
     """A client whose network isn't allowed is not served; with --allow-private one that is reaches this machine too."""
     with Stranger() as stranger, serving_everywhere() as port:

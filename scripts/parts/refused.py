@@ -46,14 +46,14 @@ void *malloc(size_t size) {
 }
 """
 MEMORY = b"he: out of memory\n"
-RUNTIME = b"he: cannot run the sockets\n"
-# What stands in the line with which the program of the crate `cases` ends for want of memory.
+RUNTIME = b"he: the event loop or the clock failed\n"
+# A part of the line with which the program of the crate `cases` ends for want of memory.
 CASES_MEMORY = b"OutOfMemory"
 # The first words of the line with which the text of a race ends, of a transcript and an order, of an object, a picture
-# and an image, and what stands before a story that is not the first.
+# and an image, and what precedes a story that is not the first.
 LAST_LINES = (b"won ", b"exhausted ", b"limit ", b"end\n", b"{", b"\n", b"</svg>\n", b"<main>", b"</pre>")
 BEFORE_STORY = b"\nrace "
-# What stands in a page between its races and its totals.
+# The text of a page between its races and its totals.
 PAGE_END = b"</article></main>"
 # An address that refuses, and one that is connected to.
 RACE = b"""race 2
@@ -73,7 +73,7 @@ EXAMPLES = ["four-races-in-one-text", "sixty-four-routes-and-sources", "most-add
 CASES_EXAMPLES = ["failure-seen-after-a-pause", "four-races-in-one-text", "lower-rtt-is-tried-first",
                   "floor-after-a-failure"]
 WRONG = b"race 1\nset attempt 9\nend\n" * 2
-# The races of a text of so many bytes are shared among workers. Its growths are many: the first are refused each, and
+# The races of a text of this size are shared among workers. Its growths are many: the first are refused each, and
 # then one in each tenth.
 SHARED_BYTES = 1024 * 1024
 EACH = 30
@@ -171,7 +171,7 @@ def is_cases_answer(ran, whole):
 
 
 def is_page(written, whole):
-    """Whether it is a page of some first races, whose number stands in its totals."""
+    """Whether it is a page of some first races, whose number is in its totals."""
     races, _, totals = written.partition(PAGE_END)
     told = re.search(rb"<b>(\d+)</b> races?<", totals)
     return whole.startswith(races) and told is not None and int(told[1]) == races.count(b"<section")
@@ -190,7 +190,7 @@ def joined(names, ending):
 
 
 def check_answers():
-    """What is written of each race as it comes."""
+    """Texts that are written of each race as it comes."""
     page = OPTIONS.folder / "page.html"
     page.symlink_to("/dev/stdout")
     for text, commands in (
@@ -205,7 +205,7 @@ def check_answers():
 
 
 def check_wholes():
-    """What is written of a whole text, or not at all."""
+    """Texts that are written of a whole text, or not at all."""
     for text, commands in (
         (joined(EXAMPLES, "timeline"), ["check", "compare --set floor=20 --set attempt=20", "summary",
                                         "summary --json"]),

@@ -1,5 +1,5 @@
-"""Runs the sessions in README.md and docs/, their blocks of `console`, in a network of its own: a client, a router whose
-firewall drops packets to shop.example and www.example.com by IPv6, and a host with their servers.
+"""Runs the sessions in README.md and docs/, their blocks of `console`, in a network of its own: a client, a router
+whose firewall drops packets to shop.example and www.example.com by IPv6, and a host with their servers.
 
 A line that begins with `$ ` is run by a shell of the client, with the built program as `he`, and one that begins with
 `router# ` by one of the router; the lines after it, up to the next one or the block's end, are what standard output and
@@ -112,7 +112,7 @@ def set_in(command, lines):
 
 
 def printed_by(commands, folder):
-    """What each command prints, all by one shell, so that one may run while others do."""
+    """The output of each command, all by one shell, so that one may run while others do."""
     script = "".join(f"{command}\necho {END % number}\n" for number, (command, _) in enumerate(commands))
     path = folder / "commands"
     path.write_text(script)
@@ -128,7 +128,7 @@ def printed_by(commands, folder):
 
 
 def wrong_of(page, folder):
-    """What is wrong of a page: each command whose output is another one."""
+    """The faults of a page: each command whose output is another one."""
     commands = [command for block in blocks_of_markdown(page.read_text(), "console") for command in commands_of(block)]
     for (command, written), printed in zip(commands, printed_by(commands, folder)):
         dated = [re.sub(DATE, "DATE", text) for text in (printed, written)]
