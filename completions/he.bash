@@ -20,7 +20,7 @@ _he() {
             return ;;
         "connect --set" | "proxy --set" | "live --set" | "replay --set" | "explain --set" | "draw --set" | "summary --set" | "compare --set")
             compopt -o nospace; mapfile -t COMPREPLY < <(compgen -W 'attempt= resolution= count= limit= floor=' -- "$word"); return ;;
-        "connect --machine" | "connect --record" | "proxy --machine" | "proxy --history" | "probe --machine" | "probe --record" | "names --record" | "live --record" | "draw --html")
+        "connect --machine" | "connect --record" | "proxy --machine" | "proxy --history" | "probe --machine" | "probe --record" | "names --record" | "live --record" | "replay --files0-from" | "explain --files0-from" | "draw --files0-from" | "draw --html" | "summary --files0-from" | "compare --files0-from" | "order --files0-from" | "check --files0-from")
             compopt -o filenames; mapfile -t COMPREPLY < <(compgen -f -- "$word"); return ;;
         "connect --resolver" | "proxy --resolver" | "probe --resolver" | "names --resolver")
             mapfile -t COMPREPLY < <(compgen -W system -- "$word"); return ;;
@@ -48,13 +48,13 @@ _he() {
         names) options='--resolver --record --json --verbose -v --help -h' words=HOST ;;
         host) options='--for --json --help -h' words= ;;
         live) options='--port --timeout --set --record --must-connect --verbose -v --help -h' words=FILE ;;
-        replay) options='--workers --set --json --verbose -v --help -h' words=FILE ;;
-        explain) options='--set --json --verbose -v --help -h' words=FILE ;;
-        draw) options='--ascii --width --svg --html --set --verbose -v --help -h' words=FILE ;;
-        summary) options='--json --openmetrics --slowest --by --keep-going --set --verbose -v --help -h' words=FILE ;;
-        compare) options='--json --races --keep-going --set --verbose -v --help -h' words=FILE ;;
-        order) options='--json --verbose -v --help -h' words=FILE ;;
-        check) options='--all --json --help -h' words=FILE ;;
+        replay) options='--files0-from --workers --set --json --verbose -v --help -h' words=FILE ;;
+        explain) options='--files0-from --set --json --verbose -v --help -h' words=FILE ;;
+        draw) options='--files0-from --ascii --width --svg --html --set --verbose -v --help -h' words=FILE ;;
+        summary) options='--files0-from --json --openmetrics --slowest --by --keep-going --set --verbose -v --help -h' words=FILE ;;
+        compare) options='--files0-from --json --races --keep-going --set --verbose -v --help -h' words=FILE ;;
+        order) options='--files0-from --json --verbose -v --help -h' words=FILE ;;
+        check) options='--files0-from --all --json --help -h' words=FILE ;;
         help) options='' words=COMMAND ;;
     esac
     case $word in

@@ -2,8 +2,8 @@
 # Installed as PREFIX/share/fish/vendor_completions.d/he.fish.
 complete -c he -f
 complete -c he -n __fish_use_subcommand -a connect -d 'Connect to a host, and relay standard input and output'
-complete -c he -n __fish_use_subcommand -a proxy -d 'Serve SOCKS 5 and HTTP CONNECT with Happy Eyeballs'
-complete -c he -n __fish_use_subcommand -a probe -d 'Connect to each address of a host, and judge the results'
+complete -c he -n __fish_use_subcommand -a proxy -d 'Serve SOCKS 5 and HTTP proxy clients with Happy Eyeballs'
+complete -c he -n __fish_use_subcommand -a probe -d 'Connect to each address of a host, and say which are broken'
 complete -c he -n __fish_use_subcommand -a names -d 'Look up a name (AAAA and A), with the time of each answer'
 complete -c he -n __fish_use_subcommand -a host -d 'Print this machine'\''s addresses and routes'
 complete -c he -n __fish_use_subcommand -a live -d 'Run one timeline with real connections, and print the result'
@@ -44,9 +44,9 @@ complete -c he -n '__fish_seen_subcommand_from proxy' -l set -x -a 'attempt= res
 complete -c he -n '__fish_seen_subcommand_from proxy' -l machine -r -F -d 'Read this machine'\''s addresses, routes and policy table from FILE, lines as `he host` prints them'
 complete -c he -n '__fish_seen_subcommand_from proxy' -l resolver -x -a system -d 'The name server to ask: ADDRESS, ADDRESS:PORT, [ADDRESS]:PORT or ADDRESS%INTERFACE'
 complete -c he -n '__fish_seen_subcommand_from proxy' -l record -x -d 'Write each race to a file of its own under DIR'
-complete -c he -n '__fish_seen_subcommand_from proxy' -l max-records -x -d 'Keep N records'
+complete -c he -n '__fish_seen_subcommand_from proxy' -l max-records -x -d 'Keep at most N records, removing the oldest first'
 complete -c he -n '__fish_seen_subcommand_from proxy' -l history -r -F -d 'Save connection times by address in FILE, for use after a restart'
-complete -c he -n '__fish_seen_subcommand_from proxy' -l max-clients -x -d 'Serve N clients at once'
+complete -c he -n '__fish_seen_subcommand_from proxy' -l max-clients -x -d 'Serve at most N clients at once'
 complete -c he -n '__fish_seen_subcommand_from proxy' -l idle -x -d 'Close a tunnel that is idle for SECONDS, or as 90s'
 complete -c he -n '__fish_seen_subcommand_from proxy' -s q -l quiet -d 'Write no line for a session'
 complete -c he -n '__fish_seen_subcommand_from proxy' -l log-json -d 'Write the line of a session as a JSON object'
@@ -63,7 +63,7 @@ complete -c he -n '__fish_seen_subcommand_from probe' -l resolver -x -a system -
 complete -c he -n '__fish_seen_subcommand_from probe' -l record -r -F -d 'Write the results to FILE as timelines, for `he replay`'
 complete -c he -n '__fish_seen_subcommand_from probe' -l json -d 'Write one JSON object for each round'
 complete -c he -n '__fish_seen_subcommand_from probe' -l openmetrics -d 'Write metrics of each round as OpenMetrics'
-complete -c he -n '__fish_seen_subcommand_from probe' -s q -l quiet -d 'Write the verdict alone'
+complete -c he -n '__fish_seen_subcommand_from probe' -s q -l quiet -d 'Write only the verdict'
 complete -c he -n '__fish_seen_subcommand_from probe' -s v -l verbose -d 'Report each step of a round as it happens'
 complete -c he -n '__fish_seen_subcommand_from probe' -s h -l help -d 'Print help'
 complete -c he -n '__fish_seen_subcommand_from names' -a '(__fish_print_hostnames)'
@@ -72,7 +72,7 @@ complete -c he -n '__fish_seen_subcommand_from names' -l record -r -F -d 'Write 
 complete -c he -n '__fish_seen_subcommand_from names' -l json -d 'Write one JSON object in place of the answers'
 complete -c he -n '__fish_seen_subcommand_from names' -s v -l verbose -d 'Report what happens in the look-up'
 complete -c he -n '__fish_seen_subcommand_from names' -s h -l help -d 'Print help'
-complete -c he -n '__fish_seen_subcommand_from host' -l for -x -d 'Write the lines for these destinations alone'
+complete -c he -n '__fish_seen_subcommand_from host' -l for -x -d 'Write only the lines for these destinations'
 complete -c he -n '__fish_seen_subcommand_from host' -l json -d 'Write one JSON object in place of the lines'
 complete -c he -n '__fish_seen_subcommand_from host' -s h -l help -d 'Print help'
 complete -c he -n '__fish_seen_subcommand_from live' -F
@@ -84,17 +84,20 @@ complete -c he -n '__fish_seen_subcommand_from live' -l must-connect -d 'Exit wi
 complete -c he -n '__fish_seen_subcommand_from live' -s v -l verbose -d 'Say why each attempt failed, after the race'
 complete -c he -n '__fish_seen_subcommand_from live' -s h -l help -d 'Print help'
 complete -c he -n '__fish_seen_subcommand_from replay' -F
+complete -c he -n '__fish_seen_subcommand_from replay' -l files0-from -r -F -d 'Read the files named in FILE (- is standard input), each name ended by a NUL byte'
 complete -c he -n '__fish_seen_subcommand_from replay' -l workers -x -d 'Share the races between at most N workers, 1 to 64'
 complete -c he -n '__fish_seen_subcommand_from replay' -l set -x -a 'attempt= resolution= count= limit= floor=' -d 'Override a setting in every race'
 complete -c he -n '__fish_seen_subcommand_from replay' -l json -d 'Write one JSON object for each race, each on a line'
 complete -c he -n '__fish_seen_subcommand_from replay' -s v -l verbose -d 'Explain the fault of a file as `he check` does, and say why a file can'\''t be read or written'
 complete -c he -n '__fish_seen_subcommand_from replay' -s h -l help -d 'Print help'
 complete -c he -n '__fish_seen_subcommand_from explain' -F
+complete -c he -n '__fish_seen_subcommand_from explain' -l files0-from -r -F -d 'Read the files named in FILE (- is standard input), each name ended by a NUL byte'
 complete -c he -n '__fish_seen_subcommand_from explain' -l set -x -a 'attempt= resolution= count= limit= floor=' -d 'Override a setting in every race'
 complete -c he -n '__fish_seen_subcommand_from explain' -l json -d 'Write one JSON object for each race, each on a line'
 complete -c he -n '__fish_seen_subcommand_from explain' -s v -l verbose -d 'Explain the fault of a file as `he check` does, and say why a file can'\''t be read or written'
 complete -c he -n '__fish_seen_subcommand_from explain' -s h -l help -d 'Print help'
 complete -c he -n '__fish_seen_subcommand_from draw' -F
+complete -c he -n '__fish_seen_subcommand_from draw' -l files0-from -r -F -d 'Read the files named in FILE (- is standard input), each name ended by a NUL byte'
 complete -c he -n '__fish_seen_subcommand_from draw' -l ascii -d 'Use ASCII characters only'
 complete -c he -n '__fish_seen_subcommand_from draw' -l width -x -d 'Columns of a line, 40 to 1000'
 complete -c he -n '__fish_seen_subcommand_from draw' -l svg -d 'Draw each race as an SVG image'
@@ -103,6 +106,7 @@ complete -c he -n '__fish_seen_subcommand_from draw' -l set -x -a 'attempt= reso
 complete -c he -n '__fish_seen_subcommand_from draw' -s v -l verbose -d 'Explain the fault of a file as `he check` does, and say why a file can'\''t be read or written'
 complete -c he -n '__fish_seen_subcommand_from draw' -s h -l help -d 'Print help'
 complete -c he -n '__fish_seen_subcommand_from summary' -F
+complete -c he -n '__fish_seen_subcommand_from summary' -l files0-from -r -F -d 'Read the files named in FILE (- is standard input), each name ended by a NUL byte'
 complete -c he -n '__fish_seen_subcommand_from summary' -l json -d 'Write the sums as one JSON object, on one line'
 complete -c he -n '__fish_seen_subcommand_from summary' -l openmetrics -d 'Write the counts and times as OpenMetrics text'
 complete -c he -n '__fish_seen_subcommand_from summary' -l slowest -x -d 'Add the N slowest races that were won, each with its file and line'
@@ -112,6 +116,7 @@ complete -c he -n '__fish_seen_subcommand_from summary' -l set -x -a 'attempt= r
 complete -c he -n '__fish_seen_subcommand_from summary' -s v -l verbose -d 'Explain the fault of a file as `he check` does, and say why a file can'\''t be read or written'
 complete -c he -n '__fish_seen_subcommand_from summary' -s h -l help -d 'Print help'
 complete -c he -n '__fish_seen_subcommand_from compare' -F
+complete -c he -n '__fish_seen_subcommand_from compare' -l files0-from -r -F -d 'Read the files named in FILE (- is standard input), each name ended by a NUL byte'
 complete -c he -n '__fish_seen_subcommand_from compare' -l json -d 'Write the table as one JSON object, on one line'
 complete -c he -n '__fish_seen_subcommand_from compare' -l races -d 'Write a line for each race and row before the table'
 complete -c he -n '__fish_seen_subcommand_from compare' -l keep-going -d 'Go on to the next file after a faulty one'
@@ -119,10 +124,12 @@ complete -c he -n '__fish_seen_subcommand_from compare' -l set -x -a 'attempt= r
 complete -c he -n '__fish_seen_subcommand_from compare' -s v -l verbose -d 'Explain the fault of a file as `he check` does, and say why a file can'\''t be read or written'
 complete -c he -n '__fish_seen_subcommand_from compare' -s h -l help -d 'Print help'
 complete -c he -n '__fish_seen_subcommand_from order' -F
+complete -c he -n '__fish_seen_subcommand_from order' -l files0-from -r -F -d 'Read the files named in FILE (- is standard input), each name ended by a NUL byte'
 complete -c he -n '__fish_seen_subcommand_from order' -l json -d 'Write one JSON object for each race, each on a line'
 complete -c he -n '__fish_seen_subcommand_from order' -s v -l verbose -d 'Explain the fault of a file as `he check` does, and say why a file can'\''t be read or written'
 complete -c he -n '__fish_seen_subcommand_from order' -s h -l help -d 'Print help'
 complete -c he -n '__fish_seen_subcommand_from check' -F
+complete -c he -n '__fish_seen_subcommand_from check' -l files0-from -r -F -d 'Read the files named in FILE (- is standard input), each name ended by a NUL byte'
 complete -c he -n '__fish_seen_subcommand_from check' -l all -d 'Go on after a faulty race and after a faulty file, and explain the first fault of each race'
 complete -c he -n '__fish_seen_subcommand_from check' -l json -d 'Write one JSON object for each file, each on a line'
 complete -c he -n '__fish_seen_subcommand_from check' -s h -l help -d 'Print help'

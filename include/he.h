@@ -29,7 +29,7 @@
  *     connect 2001:db8:1::1 ok 35     connected this many ticks after the start; `fail 35`: it failed then
  *     pause 100 200                   the client slept from tick 100 to tick 199
  *
- * A HOST NEEDS source and route lines: an address that no source reaches is tried last, and without any such lines
+ * A RACE NEEDS source and route lines: an address that no source reaches is tried last, and without any such lines
  * only the policy table orders the addresses.
  */
 #ifndef HE_H
