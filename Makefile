@@ -1,4 +1,4 @@
-# What a newcomer needs. README.md and CONTRIBUTING.md say what each is for and how long it takes.
+# The targets for a newcomer. README.md and CONTRIBUTING.md say what each is for and how long it takes.
 .PHONY: help race test edits build install build-library install-library library deb examples documents page hostile refused hosts captures live names session connect proxy fuzz manual kit program
 
 PREFIX ?= /usr/local
@@ -31,8 +31,8 @@ make install-library PREFIX=DIR
                            not done
 make library HE=FILE       proves and builds the library for C, and tries it and its clients in C, Python and Rust
                            beside a built program
-make examples HE=FILE      runs a built program over all examples, and compares what it writes with files and with a
-                           plain reading of the rules
+make examples HE=FILE      runs a built program over all examples, and compares its output with files and with a second
+                           implementation of the rules, in Python
 make documents HE=FILE     runs the command lines of the documents, and compares what is printed below them
 make hostile HE=FILE       runs a built program over streams that fail, open pipes, too little memory; bounds the time
                            and memory that it takes for a text of some megabytes
@@ -47,7 +47,7 @@ make session HE=FILE       runs the sessions of README.md and docs/SESSION.md in
 make connect HE=FILE       connects by a built program in full: transfers of 100 MB, 1,000 connections under faults
 make proxy HE=FILE         connects through `he proxy` in full: curl, git and nc, 10,000 sessions under faults
 make fuzz SECONDS=60 SEED=1 HE=FILE
-                           compares a built program with a plain reading of the rules, on texts that are drawn
+                           compares a built program with that implementation, on random texts
 make page HE=FILE          reads pages that a built program draws as a browser would
 make manual HE=FILE        compares the help of a built program with its manual page and its completions
 endef
@@ -56,7 +56,7 @@ export HELP
 help:
 	@trap '' PIPE; printf '%s\n' "$$HELP" 2> /dev/null || true
 
-# What a target needs; a line says what is missing.
+# The needs of a target; a line says what is missing.
 kit:
 	@command -v rt > /dev/null || { echo 'make: no command rt: the kit is not installed, or not on the path' >&2; exit 1; }
 
@@ -68,7 +68,7 @@ race:
 	@for file in $(RACE); do test -r "$$file" || { echo "make: no file $$file" >&2; exit 1; }; done
 	@if [ -x '$(HE)' ]; then exec '$(HE)' $(DO) $(RACE); fi; \
 	command -v rt > /dev/null || { echo 'make: no command rt: the kit is not installed, or not on the path' >&2; exit 1; }; \
-	echo 'builds the program with nothing proved, and runs it: a few minutes' >&2; \
+	echo 'builds the program with nothing proved, and runs it: some ten minutes' >&2; \
 	log=$$(mktemp); trap 'rm -f $$log' EXIT; \
 	(cd crates/he_tool && cat $(abspath $(RACE)) | rt try -- $(DO) 2> $$log) || { status=$$?; cat $$log >&2; exit $$status; }
 
@@ -81,7 +81,7 @@ edits: kit
 build: kit
 	scripts/build program
 
-# Copies alone, so that it may run as root after a build as the user.
+# Only copies, so that it may run as root after a build as the user.
 install: | $(HE)
 	@'$(HE)' --version | grep -q '[(,] *proved)$$' || echo 'make: $(HE) is not known to be proved: make build' >&2
 	install -D -m 755 '$(HE)' '$(TO)/bin/he'
