@@ -53,7 +53,8 @@ struct Finding {
     line: Vec<u8>,
 }
 
-// The verdict on a race: the status, how the race ended in the words of a story, and its times as a monitor reads them.
+// The verdict on a race: the status, how the race ended in the words of a story, and its times as a monitor reads
+// them.
 #[derive(Drop)]
 pub(crate) struct Verdict {
     pub(crate) status: u8,

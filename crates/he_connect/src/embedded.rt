@@ -262,8 +262,8 @@ where
     }
 }
 
-// Whether the host has no address of the family. Some servers say that there is no such name if it has one of the other
-// family only (RFC 4074 section 4.2).
+// Whether the host has no address of the family. Some servers say that there is no such name if it has one of the
+// other family only (RFC 4074 section 4.2).
 fn is_without(told: &Result<Vec<Ip>, NamesFault>) -> bool
     ensures { result ≡ is_without told.now }
 {

@@ -22,8 +22,8 @@
 //!   none (`specs/Origins`).
 //! - On a machine with only IPv6 a race may embed IPv4 hosts (RFC 8305 section 7), but not with `-4`, and only with
 //!   this machine's lines. Only IPv6 is tried then. Its answer has the host's IPv6 addresses; or, if the look-up of
-//!   these says that there are none or no such name, its IPv4 addresses, embedded by the prefixes (`he_nat64`) that the
-//!   answer for `ipv4only.arpa.` shows; or none (`specs/Embedded`).
+//!   these says that there are none or no such name, its IPv4 addresses, embedded by the prefixes (`he_nat64`) that
+//!   the answer for `ipv4only.arpa.` shows; or none (`specs/Embedded`).
 //! - The race gets the look-up's answer for each family; where this machine's lines come with it, those for the
 //!   kernel's answers for its first 32 addresses (`IsToldOf` in `specs/Answers`).
 //!

@@ -78,8 +78,8 @@ pub fn embedded_host(nat64: Option<&Nat64>, ip: Ip) -> Option<Ip> {
     Some(Ip::V4(host))
 }
 
-/// Appends a line that says why no IPv4 host was embedded: the network has no prefix, or none for this host, or it is not
-/// known. Appends nothing while look-ups have no answer.
+/// Appends a line that says why no IPv4 host was embedded: the network has no prefix, or none for this host, or it is
+/// not known. Appends nothing while look-ups have no answer.
 ///
 /// # Errors
 ///

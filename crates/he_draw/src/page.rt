@@ -11,9 +11,9 @@ use he_print::write_parts;
 use std::alloc::Allocator;
 
 // The beginning of a page, up to its first text. Totals are known last but shown first, and races are written as they
-// come but shown by their end: `order` sorts them. Bars are as long as their ticks, on one scale for all races, by whose
-// end 99 of 100 have ended, or on their race's own. A bar that goes on after the end of its scale is cut there, and
-// ends in dots.
+// come but shown by their end: `order` sorts them. Bars are as long as their ticks, on one scale for all races, by
+// whose end 99 of 100 have ended, or on their race's own. A bar that goes on after the end of its scale is cut there,
+// and ends in dots.
 const HEAD: &[u8] = b"<!DOCTYPE html>\n<html lang='en'>\n<head>\n<meta charset='utf-8'>\n\
 <meta name='viewport' content='width=device-width,initial-scale=1'>\n<title>Races</title>\n<style>\n\
 :root{color-scheme:light dark;--bg:#fff;--fg:#222;--dim:#666;--line:#ddd;--won:#171;--failed:#b22;--stopped:#767676;\

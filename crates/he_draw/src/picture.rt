@@ -19,9 +19,9 @@ use std::alloc::Allocator;
 
 /// Appends the picture of the race: the first line of its story, without the time that it lost; a row for each answer,
 /// each pause that begins before the end, and each attempt by place, with a bar from its start to its end and these
-/// ticks, in milliseconds; the scale; and an empty line. Lines are as wide as the screen, or wider if that leaves fewer
-/// than ten columns for the bars. `file` is the name of the race's file for the first line, if there is one. After
-/// `Memory` the vector is unchanged.
+/// ticks, in milliseconds; the scale; and an empty line. Lines are as wide as the screen, or wider if that leaves
+/// fewer than ten columns for the bars. `file` is the name of the race's file for the first line, if there is one.
+/// After `Memory` the vector is unchanged.
 pub fn write_picture<A: Allocator + Copy, B: Allocator, C: Allocator>(
     file: Option<&str>,
     course: &Course<B>,
