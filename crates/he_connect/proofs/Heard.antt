@@ -18,9 +18,10 @@ use Rattle.he_resolver.specs.declared.lookup.Source.TheVariants as sources
 use Rattle.he_select.specs.Selection.{nothing_known}
 use Rattle.he_timeline.specs.Building.{unrecorded}
 use Rattle.he_timeline.specs.Race.{Race, Reply, reply_of}
-use Rattle.he_connect.specs.Answers.{AnswersOf, AreOf, ComesFrom, HearsLookup, IsAnswerOf, IsOfLookup, IsOriginFor, IsReplyOf}
-use Rattle.he_connect.specs.declared.request.ConnectRequest.{ConnectRequest}
-use Rattle.he_connect.specs.declared.source.HostAnswers.{HostAnswers}
+use Rattle.he_setup.specs.Answers.{HearsLookup, IsAnswerOf, IsOfLookup}
+use Rattle.he_connect.specs.Answers.{AnswersOf, AreOf, ComesFrom, IsOriginFor, IsReplyOf}
+use Rattle.he_setup.specs.declared.request.ConnectRequest.{ConnectRequest}
+use Rattle.he_setup.specs.declared.source.HostAnswers.{HostAnswers}
 
 -- the answers of a record come from where those of the host of the request are to come from
 pub record IsOfHost (request : ConnectRequest) (start recorded : Race) : Type 0 where

@@ -12,11 +12,12 @@ use Rattle.he_recording.specs.declared.facts.AttemptFailure.{AttemptFailure}
 use Rattle.he_recording.specs.declared.facts.Facts.{Facts}
 use Rattle.he_recording.specs.declared.facts.Target.{Target}
 use Rattle.he_timeline.specs.Race.{Race}
-use Rattle.he_connect.specs.Recorded.{AreTextsOf, IsExplained, IsFactsFor}
-use Rattle.he_connect.specs.declared.fault.ConnectFault.{ConnectFault}
+use Rattle.he_setup.specs.Recorded.{IsFactsFor}
+use Rattle.he_connect.specs.Recorded.{AreTextsOf, IsExplained}
+use Rattle.he_setup.specs.declared.fault.ConnectFault.{ConnectFault}
 use Rattle.he_connect.specs.declared.racing.RecordTexts.{RecordTexts}
-use Rattle.he_connect.specs.declared.recorded.KnownFacts.{KnownFacts}
-use Rattle.he_connect.specs.declared.request.ConnectRequest.{ConnectRequest}
+use Rattle.he_setup.specs.declared.recorded.KnownFacts.{KnownFacts}
+use Rattle.he_setup.specs.declared.request.ConnectRequest.{ConnectRequest}
 
 pub texts_of : (by_nat64 : Bool) (request : ConnectRequest) (race : Race) (report : Report) (target : Target) (known : KnownFacts) (facts : Facts) (said : List Said)
     (result : Result RecordTexts ConnectFault)

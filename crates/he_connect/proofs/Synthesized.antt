@@ -21,7 +21,8 @@ use Rattle.he_turns.specs.declared.answers.Answer.{Answer}
 use Rattle.he_turns.specs.Heard.{AnswerLists, ips_of, lists_of, with_told, cleaned as cleaned_again}
 use Rattle.he_turns.specs.OfSource.{HearsAll, IsOfSource, SourcePoll}
 use Rattle.he_connect.specs.Embedded.{EmbeddedOrigins, EmbedsAt, GivesSix, HasReached, IsEmbeddedAnswer, IsHostsOf, IsSoundEmbedded, LacksSix, StaysEmbedded, TellsBy, embedded_origins}
-use Rattle.he_connect.specs.Origins.{AnswersBy, AreBy, AreSound, BeginEmbedded, ComesFor, HearsRace, IsAnswerBy, IsReplyBy, Origins, OfEmbedded, answers_needs, known_name, lookups_origins, origins_of}
+use Rattle.he_connect.specs.Origins.{AnswersBy, AreBy, AreSound, BeginEmbedded, ComesFor, HearsRace, IsAnswerBy, IsReplyBy, Origins, OfEmbedded, answers_needs, lookups_origins, origins_of}
+use Rattle.he_setup.specs.Embedding.{known_name}
 use Rattle.he_connect.specs.declared.answering.RaceAnswers.{RaceAnswers}
 use Rattle.he_connect.specs.declared.answering.RaceAnswers.TheVariants as answers
 use Rattle.he_connect.specs.declared.embedded.EmbeddedAnswers.{EmbeddedAnswers}
@@ -30,7 +31,7 @@ use Rattle.he_connect.specs.declared.embedded.Stage.TheVariants as stages
 use Rattle.he_connect.specs.declared.lookups.EmbeddedLookups.{EmbeddedLookups}
 use Rattle.he_connect.specs.declared.lookups.RaceLookups.{RaceLookups}
 use Rattle.he_connect.specs.declared.lookups.RaceLookups.TheVariants as lookups
-use Rattle.he_connect.specs.declared.request.ConnectRequest.{ConnectRequest}
+use Rattle.he_setup.specs.declared.request.ConnectRequest.{ConnectRequest}
 use Rattle.he_connect.proofs.Heard.{comes_from, known_ips, nothing_cleaned, replies_alike}
 
 -- ---- what look-ups give

@@ -1,64 +1,23 @@
--- IPv4 hosts that a machine with only IPv6 reaches through its network's NAT64 (RFC 8305 section 7): a host without
--- IPv6 addresses is reached at its IPv4 addresses, embedded by the prefixes that the answer for ipv4only.arpa. shows.
-use Rattle.std.specs.Prelude.{ℕ, ◌≡◌, ◌⊎◌, ⊤, ◌&&◌, ◌==◌, Bool, true, false, not, List, Option, Some, None, Result, Ok, Err, is_some, map, vec_len}
+-- A race's answer for IPv6 on a machine with only IPv6 (RFC 8305 section 7): a host without IPv6 addresses is reached
+-- at its IPv4 addresses, embedded by the prefixes that the answer for ipv4only.arpa. shows.
+use Rattle.std.specs.Prelude.{ℕ, ◌≡◌, ◌⊎◌, ⊤, ◌==◌, Bool, true, List, Option, Some, None, Result, Ok, Err, is_some, vec_len}
 use Rattle.std.specs.Global.{Vec}
-use Rattle.std.specs.List.{filter_map, list_all}
+use Rattle.std.specs.List.{filter_map}
 use Rattle.he_addr.specs.declared.ip.Family.{Family}
 use Rattle.he_addr.specs.declared.ip.Family.TheVariants as families
 use Rattle.he_addr.specs.declared.ip.Ip.{Ip}
-use Rattle.he_addr.specs.declared.ip.Ip.TheVariants.{V4, V6}
-use Rattle.he_addr.specs.Ip.{is_v6}
 use Rattle.he_names.specs.Answers.{cleaned}
-use Rattle.he_nat64.specs.Discovery.{discovered}
-use Rattle.he_nat64.specs.Synthesis.{synthesized}
 use Rattle.he_resolver.specs.Heard.{Asked, BySystem, IsSound, Listed, Origin, TellsHeard, Told, origin_of}
 use Rattle.he_resolver.specs.Needs.{lookup_needs}
 use Rattle.he_settings.specs.Faults.{is_absence}
 use Rattle.he_settings.specs.declared.fault.NamesFault.{NamesFault}
 use Rattle.he_settings.specs.declared.fault.NamesFault.TheVariants as faults
+use Rattle.he_setup.specs.Answers.{IsToldOf}
+use Rattle.he_setup.specs.Embedding.{embedded_ips, v4_number}
 use Rattle.he_turns.specs.Heard.{AnswerLists}
-use Rattle.he_connect.specs.Answers.{IsToldOf}
 use Rattle.he_connect.specs.declared.embedded.EmbeddedAnswers.{EmbeddedAnswers}
 use Rattle.he_connect.specs.declared.embedded.Stage.{Stage}
 use Rattle.he_connect.specs.declared.embedded.Stage.TheVariants as stages
-use Rattle.he_connect.specs.declared.request.ConnectRequest.{ConnectRequest}
-use Rattle.he_connect.specs.declared.request.Families.{Families}
-use Rattle.he_connect.specs.declared.request.Families.TheVariants as tried
-use Rattle.he_connect.specs.declared.request.Lines.{Lines}
-use Rattle.he_connect.specs.declared.request.Lines.TheVariants as lines
-
--- ---- when hosts are embedded
-
--- not with -4
-abbrev pub takes_six : Families → Bool
-takes_six (tried.Only families.V4) = false
-takes_six other = true
-
--- the lines are this machine's
-abbrev pub is_of_machine : Lines → Bool
-is_of_machine lines.Machine = true
-is_of_machine other = false
-
--- By the families of the request; by whether all known addresses are of IPv4; by whether the kernel has a way to one
--- of them or, if none is known, this machine can use IPv4; and by whether the kernel has a way to the IPv6 internet.
-abbrev pub is_embedded : Families → Bool → Bool → Bool → Bool
-is_embedded wanted only_v4 has_four has_six = takes_six wanted && only_v4 && not has_four && has_six
-
-abbrev pub are_v4 : List Ip → Bool
-are_v4 ips = list_all (λ ip. not (is_v6 ip)) ips
-
-abbrev pub v4_number : Ip → Option ℕ
-v4_number (V4 n) = Some n
-v4_number (V6 n) = None
-
-abbrev pub v6_number : Ip → Option ℕ
-v6_number (V4 n) = None
-v6_number (V6 n) = Some n
-
--- hosts are embedded only if -4 isn't given and the lines are this machine's
-abbrev pub MayEmbed : Bool → ConnectRequest → Type 0
-MayEmbed false request = ⊤
-MayEmbed true request = (takes_six request.families ≡ true) × (is_of_machine request.lines ≡ true)
 
 -- ---- what look-ups give
 
@@ -75,10 +34,6 @@ TellsBy BySystem family told = ⊤
 abbrev pub is_without : Told → Bool
 is_without (Ok ips) = vec_len ips == 0
 is_without (Err fault) = is_absence fault
-
--- the hosts, embedded by the prefixes that these addresses of ipv4only.arpa. show
-abbrev pub embedded_ips : List ℕ → List Ip → List Ip
-embedded_ips hosts ips = map (λ n. V6 n) (synthesized (discovered (filter_map v6_number ips)) hosts)
 
 -- so; or there is no prefix that may embed one of them, or the look-up or an allocation failed
 abbrev pub IsEmbedding : List ℕ → Told → Told → Type 0

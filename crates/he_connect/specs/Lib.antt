@@ -3,4 +3,3 @@ pub mod Embedded
 pub mod Origins
 pub mod Races
 pub mod Recorded
-pub mod Start

@@ -1,5 +1,5 @@
 -- The origins of a race's answers, with or without embedded hosts.
-use Rattle.std.specs.Prelude.{ℕ, ◌≡◌, ◌⊎◌, ⊤, Bool, true, false, List, [], Option, Some, None, Ok, codes, is_some}
+use Rattle.std.specs.Prelude.{ℕ, ◌≡◌, ◌⊎◌, ⊤, Bool, true, false, List, [], Option, Some, None, Ok, is_some}
 use Rattle.std.specs.Global.{Vec}
 use Rattle.he_addr.specs.declared.ip.Family.{Family}
 use Rattle.he_addr.specs.declared.ip.Family.TheVariants as families
@@ -9,14 +9,16 @@ use Rattle.he_resolver.specs.Heard.{IsSound, Origin, Told, origin_of}
 use Rattle.he_resolver.specs.Needs.{lookup_needs}
 use Rattle.he_timeline.specs.Race.{Race, Reply, reply_of}
 use Rattle.he_turns.specs.Heard.{AnswerLists, cleaned as cleaned_again}
-use Rattle.he_connect.specs.Answers.{ComesFrom, IsToldOf}
+use Rattle.he_setup.specs.Answers.{IsToldOf}
+use Rattle.he_setup.specs.Embedding.{known_name}
+use Rattle.he_connect.specs.Answers.{ComesFrom}
 use Rattle.he_connect.specs.Embedded.{EmbeddedOrigins, GivesEmbedded, IsSoundEmbedded, TellsBy, embedded_needs, embedded_origins}
 use Rattle.he_connect.specs.declared.answering.RaceAnswers.{RaceAnswers}
 use Rattle.he_connect.specs.declared.answering.RaceAnswers.TheVariants as answers
 use Rattle.he_connect.specs.declared.lookups.EmbeddedLookups.{EmbeddedLookups}
 use Rattle.he_connect.specs.declared.lookups.RaceLookups.{RaceLookups}
 use Rattle.he_connect.specs.declared.lookups.RaceLookups.TheVariants as lookups
-use Rattle.he_connect.specs.declared.request.ConnectRequest.{ConnectRequest}
+use Rattle.he_setup.specs.declared.request.ConnectRequest.{ConnectRequest}
 
 -- both families are those of the host; or IPv6 is, or is embedded
 pub data Origins : Type 0 where
@@ -62,10 +64,6 @@ module _ {R F : Type 0} where
     pub tells : AreSound old → IsAnswerBy (brings_lines old) (origins_of new) family told
 
 -- ---- the look-ups
-
--- the name that shows the prefixes; the final dot leaves out the search list
-abbrev pub known_name : List ℕ
-known_name = codes "ipv4only.arpa."
 
 module _ {R : Type 0} where
   abbrev pub lookups_origins : RaceLookups R → Origins

@@ -1,7 +1,5 @@
 -- A race run for a connection.
-use Rattle.std.specs.Prelude.{ℕ, ◌≡◌, ◌⊎◌, Bool, true, List, Option, Some, None, IfSome, is_some}
-use Rattle.he_addr.specs.declared.ip.Family.{Family}
-use Rattle.he_addr.specs.declared.ip.Family.TheVariants as ips
+use Rattle.std.specs.Prelude.{ℕ, ◌≡◌, Bool, true, List, Option, IfSome, is_some}
 use Rattle.he_timeline.specs.Race.{Race}
 use Rattle.he_live.specs.Dials.{goes_to}
 use Rattle.he_live.specs.declared.dialed.Dialed.{Dialed}
@@ -10,25 +8,12 @@ use Rattle.he_plan.specs.Transcript.{IsTranscript, Report}
 use Rattle.he_turns.specs.Recording.{is_won}
 use Rattle.he_turns.specs.Resolving.{KeepsGiven}
 use Rattle.he_turns.specs.Winner.{GoesAt}
-use Rattle.he_settings.specs.Known.{FindsKnown, items_of}
-use Rattle.he_settings.specs.Scopes.{FindsScope}
-use Rattle.he_connect.specs.declared.request.ConnectRequest.{ConnectRequest}
-use Rattle.he_connect.specs.declared.request.Families.{Families}
-use Rattle.he_connect.specs.declared.request.Families.TheVariants as families
-use Rattle.he_connect.specs.declared.setup.Setup.{Setup}
-use Rattle.he_connect.specs.Embedded.{MayEmbed}
+use Rattle.he_setup.specs.declared.request.ConnectRequest.{ConnectRequest}
+use Rattle.he_setup.specs.declared.request.Families.{Families}
+use Rattle.he_setup.specs.Embedding.{MayEmbed}
+use Rattle.he_setup.specs.Races.{Begins}
 use Rattle.he_connect.specs.Origins.{AnswersBy, ComesFor, Origins}
 use Rattle.he_connect.specs.Recorded.{AreTextsOf}
-use Rattle.he_connect.specs.Start.{Starts}
-
--- the only family to try, if there is one
-abbrev pub only_of : Families → Option Family
-only_of families.Both = None
-only_of (families.Only family) = Some family
-
--- only IPv6 is tried
-abbrev pub only_six : Families
-only_six = families.Only ips.V6
 
 -- a race with this start was run for the request, with embedding or not: its record keeps the start and replays; each
 -- new answer comes from the host's origins; the text is the record's, with its record lines, which have the reason
@@ -49,29 +34,6 @@ pub record RunsFrom (embeds : Bool) (request : ConnectRequest) (start : Race) (t
   pub texts : AreTextsOf by_nat64 request recorded report text story
   pub won_so : is_some connection ≡ is_won report.result
   pub goes : IfSome connection (GoesAt (goes_to to) report.lines report.result)
-
--- the families to try are the requested ones, or one of both: this machine may have no way for the other
-abbrev pub Tries : Families → Families → Type 0
-Tries wanted tried = (tried ≡ wanted) ⊎ (wanted ≡ families.Both)
-
--- the race starts with the requested settings, some lines and the families to try, and goes to the requested port,
--- over the interface in the host's text
-pub record Begins (request : ConnectRequest) (tried : Families) (start : Race) (to : Endpoint) : Type 0 where
-  pub tries : Tries request.families tried
-  pub lines : List ℕ
-  pub starts : Starts lines request.settings tried start
-  pub port : to.port ≡ request.port
-  pub scope : FindsScope request.host.now to.scope
-
--- the known addresses of the request's host
-abbrev pub KnowsHost : Setup → Type 0
-KnowsHost setup = FindsKnown setup.request.host.now setup.request.resolver (items_of setup.known)
-
--- a race is set up like this, for the request with the families to try
-pub record IsSetUp (request : ConnectRequest) (setup : Setup) : Type 0 where
-  pub tried : Families
-  pub begins : Begins request tried setup.start setup.to
-  pub same : setup.request ≡ record request { families = tried }
 
 -- the requested race was run, with embedding only if this machine's lines and IPv6 are requested
 pub record IsRun (request : ConnectRequest) (text story : List ℕ) (connection : Option Dialed) : Type 0 where

@@ -4,10 +4,9 @@ ghost use Rattle.he_connect.specs.Origins.{AreSound, AreSoundLookups, lookups_or
 
 use crate::embedded::EmbeddedAnswers;
 use crate::lookups::RaceLookups;
-use crate::source::{HostAnswers, LookupFaults, OwnMachine};
-use crate::telling::LookupWatcher;
 use futures::task::{Context, Poll};
 use he_addr::{Family, Memory};
+use he_setup::{HostAnswers, LookupFaults, LookupWatcher, OwnMachine};
 use he_turns::{Answer, AnswerSource};
 use std::alloc::{AllocGlobal, Global};
 use std::net::Net;

@@ -1,35 +1,27 @@
 //! The source of answers for a race on a machine with only IPv6, which reaches IPv4 hosts through its network's NAT64
 //! (RFC 8305 section 7).
-ghost use Rattle.std.specs.Prelude.{◌≡◌, IfOk, Some, is_some, map};
-ghost use Rattle.std.specs.List.{filter_map};
+ghost use Rattle.std.specs.Prelude.{◌≡◌, IfOk, Some, is_some};
 ghost use Rattle.futures.specs.Poll.{IfReady, OnPending};
 ghost use Rattle.futures.specs.Task.{Covers, Keeps};
 ghost use Rattle.he_addr.specs.declared.ip.Family.{Family};
 ghost use Rattle.he_addr.specs.declared.ip.Family.TheVariants as families;
-ghost use Rattle.he_addr.specs.declared.ip.Ip.TheVariants.{V6};
-ghost use Rattle.he_nat64.specs.Discovery.{discovered};
-ghost use Rattle.he_nat64.specs.Synthesis.{synthesized};
 ghost use Rattle.he_turns.specs.Heard.{lists_of};
-ghost use Rattle.he_connect.specs.Embedded.{EmbedsAt, GivesSix, IsEmbeddedAnswer, IsHostsOf, IsLast, IsSoundEmbedded, StaysEmbedded, embedded_ips, embedded_needs, embedded_origins, is_without, v4_number, v6_number};
+ghost use Rattle.he_setup.specs.Embedding.{embedded_ips};
+ghost use Rattle.he_connect.specs.Embedded.{EmbedsAt, GivesSix, IsEmbeddedAnswer, IsHostsOf, IsLast, IsSoundEmbedded, StaysEmbedded, embedded_needs, embedded_origins, is_without};
 ghost use Rattle.he_connect.specs.declared.embedded.Stage.TheVariants as stages;
 
 use crate::lookups::EmbeddedLookups;
-use crate::source::{HostAnswers, LookupFaults, OwnMachine};
-use crate::telling::LookupWatcher;
-use crate::translated::Nat64;
 use futures::task::{Context, Poll};
 use he_addr::{Family, Ip, Memory};
-use he_nat64::{Prefix64, discover, synthesize};
 use he_settings::NamesFault;
+use he_setup::synthesis::{embed_by, prefixes_of, v4_numbers};
+use he_setup::{HostAnswers, LookupFaults, LookupWatcher, Nat64, OwnMachine};
 use he_turns::Answer;
 use std::alloc::{AllocGlobal, Global};
 use std::net::Net;
 use std::random::RandomSource;
 use std::rt::Files;
 use std::time::Clock;
-
-/// The name that shows the prefixes (RFC 7050 section 3). The final dot leaves out the search list.
-pub const KNOWN_HOST: &str = "ipv4only.arpa.";
 
 /// The answers for a host on a machine with only IPv6: the host's IPv6 addresses; or, if it has none, its IPv4
 /// addresses, embedded by the prefixes that the answer for `ipv4only.arpa.` shows. One is asked for after the other.
@@ -270,88 +262,5 @@ fn is_without(told: &Result<Vec<Ip>, NamesFault>) -> bool
     match told {
         Ok(ips) => ips.is_empty(),
         Err(fault) => fault.is_absence(),
-    }
-}
-
-/// The prefixes that these addresses of `ipv4only.arpa.` show.
-///
-/// # Errors
-///
-/// `Memory`.
-pub fn prefixes_of(alloc: Global, ips: &[Ip]) -> Result<Vec<Prefix64>, NamesFault>
-    ensures { IfOk result (λ prefixes. prefixes.items ≡ discovered (filter_map v6_number ips.now)) }
-{
-    let numbers = v6_numbers(alloc, ips)?;
-    match discover(alloc, &numbers) {
-        Ok(prefixes) => Ok(prefixes),
-        Err(_) => Err(NamesFault::Memory),
-    }
-}
-
-/// The hosts, embedded by the prefixes.
-///
-/// # Errors
-///
-/// `Memory`.
-pub fn embed_by(alloc: Global, prefixes: &[Prefix64], hosts: &[u32]) -> Result<Vec<Ip>, NamesFault>
-    ensures { IfOk result (λ ips. ips.items ≡ map (λ n. V6 n) (synthesized prefixes.now hosts.now)) }
-{
-    match synthesize(alloc, prefixes, hosts) {
-        Ok(addresses) => ips_of(alloc, &addresses),
-        Err(_) => Err(NamesFault::Memory),
-    }
-}
-
-fn ips_of(alloc: Global, addresses: &[u128]) -> Result<Vec<Ip>, NamesFault>
-    ensures { IfOk result (λ ips. ips.items ≡ map (λ n. V6 n) addresses.now) }
-{
-    match addresses
-        .iter()
-        .map(|number| Ip::V6(*number))
-        .collect(alloc)
-    {
-        Ok(ips) => Ok(ips),
-        Err(_) => Err(NamesFault::Memory),
-    }
-}
-
-fn v6_numbers(alloc: Global, ips: &[Ip]) -> Result<Vec<u128>, NamesFault>
-    ensures { IfOk result (λ numbers. numbers.items ≡ filter_map v6_number ips.now) }
-{
-    match ips.iter().filter_map(|ip| v6_number(*ip)).collect(alloc) {
-        Ok(numbers) => Ok(numbers),
-        Err(_) => Err(NamesFault::Memory),
-    }
-}
-
-fn v6_number(ip: Ip) -> Option<u128>
-    ensures { result ≡ v6_number ip }
-{
-    match ip {
-        Ip::V6(number) => Some(number),
-        Ip::V4(_) => None,
-    }
-}
-
-/// The numbers of the IPv4 addresses.
-///
-/// # Errors
-///
-/// `Memory`.
-pub fn v4_numbers(alloc: Global, ips: &[Ip]) -> Result<Vec<u32>, NamesFault>
-    ensures { IfOk result (λ numbers. numbers.items ≡ filter_map v4_number ips.now) }
-{
-    match ips.iter().filter_map(|ip| v4_number(*ip)).collect(alloc) {
-        Ok(numbers) => Ok(numbers),
-        Err(_) => Err(NamesFault::Memory),
-    }
-}
-
-fn v4_number(ip: Ip) -> Option<u32>
-    ensures { result ≡ v4_number ip }
-{
-    match ip {
-        Ip::V4(number) => Some(number),
-        Ip::V6(_) => None,
     }
 }

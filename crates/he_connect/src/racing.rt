@@ -2,21 +2,14 @@
 ghost use Rattle.std.specs.Prelude.{◌≡◌, IfOk};
 ghost use Rattle.he_inputs.specs.Recorded.{IsRecordedAs};
 ghost use Rattle.he_recording.specs.Recorded.{recorded_text};
-ghost use Rattle.he_connect.specs.Races.{IsRun, KnowsHost, RunsFrom};
+ghost use Rattle.he_setup.specs.Races.{KnowsHost};
+ghost use Rattle.he_connect.specs.Races.{IsRun, RunsFrom};
 ghost use Rattle.he_connect.specs.Recorded.{AreTextsOf, IsExplained};
 
 use crate::answering::RaceAnswers;
-use crate::embedding::set_up_any;
-use crate::families::write_unusable;
-use crate::fault::ConnectFault;
 use crate::kernel::write_other_sources;
 use crate::lookups::look_up;
-use crate::recorded::{KnownFacts, facts_for};
-use crate::request::{ConnectRequest, Lines};
-use crate::setup::Setup;
-use crate::source::{FamilyFaults, LookupFaults, OwnMachine};
 use crate::telling::Telling;
-use crate::translated::{Nat64, is_by_nat64, nat64_prefixes, write_translated, write_untranslated};
 use crate::tried::{excluded, write_excluded, write_tried};
 use he_course::Course;
 use he_live::{Dialed, ResolvingRequest, Steps, attempt_failures, resolving_race_on};
@@ -26,6 +19,12 @@ use he_recording::laws::recorded_reads_back;
 use he_recording::{ServerFailure, Target, moment_now, record_of, write_recorded};
 use he_resolver::SystemResolver;
 use he_settings::NamesFault;
+use he_setup::families::write_unusable;
+use he_setup::translated::write_translated;
+use he_setup::{
+    ConnectFault, ConnectRequest, FamilyFaults, KnownFacts, Lines, LookupFaults, Nat64, OwnMachine,
+    Setup, facts_for, is_by_nat64, nat64_prefixes, set_up_any, write_untranslated,
+};
 use he_story::write_story;
 use he_timeline::Timeline;
 use he_turns::Raced;
@@ -236,7 +235,7 @@ fn write_race(
     texts
 }
 
-// What is requested, as in a record.
+// The request, as a record has it.
 fn target_of<'a>(request: &ConnectRequest<'a>) -> Target<'a>
     ensures host { result.host.now ≡ request.now.host.now }
     ensures port { result.port ≡ request.now.port }
@@ -291,7 +290,7 @@ struct RaceNotes<'n> {
     why: FamilyFaults,
     servers: &'n [ServerFailure],
     steps: &'n Steps,
-    // What is known of the network's NAT64, if its prefixes were looked up.
+    // The network's NAT64, as far as it is known, if its prefixes were looked up.
     nat64: Option<&'n Nat64>,
     // Its prefixes, as a record has them.
     prefixes: &'n [Nat64Prefix],

@@ -1,11 +1,11 @@
 //! The line that reports the addresses tried if nothing connected.
 
-use crate::request::{ConnectRequest, Families};
-use crate::source::FamilyFaults;
 use he_addr::{Family, Memory, read_ip, write_ip, write_number};
 use he_live::{Dialed, Reason, Steps};
 use he_plan::{Line, Mark};
 use he_settings::NamesFault;
+use he_setup::families::write_lack;
+use he_setup::{ConnectRequest, Families, FamilyFaults};
 use he_timeline::Timeline;
 use he_turns::Raced;
 use std::alloc::Global;
@@ -44,17 +44,6 @@ fn lacking(families: Families, why: FamilyFaults) -> Option<Family> {
     families
         .only()
         .filter(|family| why.of(*family) == Some(NamesFault::NoAddress))
-}
-
-// Appends that the name has no address of the family.
-pub(crate) fn write_lack(host: &str, family: Family, out: &mut Vec<u8>) -> Result<(), Memory> {
-    out.extend_from_slice(b"he: ")?;
-    out.extend_from_slice(host.as_bytes())?;
-    out.extend_from_slice(match family {
-        Family::V6 => b" has no IPv6 address\n",
-        Family::V4 => b" has no IPv4 address\n",
-    })?;
-    Ok(())
 }
 
 // The family of the host if it is an address of a family that is not requested.

@@ -1,7 +1,7 @@
 use Rattle.std.proofs.Common.{subst, sym}
 use Rattle.he_settings.specs.Known.{FindsKnown, items_of}
-use Rattle.he_connect.specs.declared.request.ConnectRequest.{ConnectRequest}
-use Rattle.he_connect.proofs.setup.set_up.Goals as goal
+use Rattle.he_setup.specs.declared.request.ConnectRequest.{ConnectRequest}
+use Rattle.he_setup.proofs.setup.set_up.Goals as goal
 
 pub returns-clause-known : goal.returns-clause-known
 returns-clause-known g c =

@@ -1,8 +1,8 @@
-//! What a race learns of its network's NAT64, and its report.
+//! A race's knowledge of its network's NAT64, and its report.
 ghost use Rattle.std.specs.Prelude.{◌≡◌, true};
 
+use crate::families::write_lack;
 use crate::setup::Setup;
-use crate::tried::write_lack;
 use he_addr::{Family, Ip, Memory, write_ip};
 use he_nat64::Prefix64;
 use he_plan::Line;
@@ -10,7 +10,7 @@ use he_record::nat64::Nat64Prefix;
 use he_settings::NamesFault;
 use std::alloc::Global;
 
-/// What a race learns of its network's NAT64.
+/// A race's knowledge of its network's NAT64.
 #[derive(Drop)]
 pub enum Nat64 {
     /// Its prefixes; without one, the network has no NAT64.
@@ -22,8 +22,8 @@ pub enum Nat64 {
 }
 
 impl Nat64 {
-    // Whether the look-ups for it have their answers.
-    pub(crate) fn is_answered(&self) -> bool {
+    /// Whether the look-ups for it have their answers.
+    pub fn is_answered(&self) -> bool {
         !matches!(self, Nat64::Unanswered)
     }
 }
@@ -50,9 +50,13 @@ pub fn nat64_prefixes(alloc: Global, nat64: Option<&Nat64>) -> Result<Vec<Nat64P
         .collect(alloc)
 }
 
-// Appends a line for each address that was tried and has an IPv4 host embedded: `he: 64:ff9b::cb00:7150 is
-// 203.0.113.80`.
-pub(crate) fn write_translated(
+/// Appends a line for each address that was tried and has an IPv4 host embedded: `he: 64:ff9b::cb00:7150 is
+/// 203.0.113.80`.
+///
+/// # Errors
+///
+/// `Memory` if an allocation fails; part may have been appended.
+pub fn write_translated(
     nat64: Option<&Nat64>,
     attempts: &[Line],
     out: &mut Vec<u8>,

@@ -1,7 +1,7 @@
 use Rattle.std.proofs.Common.{Bool, subst}
-use Rattle.he_connect.specs.Embedded.{MayEmbed}
-use Rattle.he_connect.proofs.Runs.{all_known, all_set_up, made_so}
-use Rattle.he_connect.proofs.embedding.set_up_any.Goals as goal
+use Rattle.he_setup.specs.Embedding.{MayEmbed}
+use Rattle.he_setup.proofs.SetUps.{all_known, all_set_up, made_so}
+use Rattle.he_setup.proofs.embedding.set_up_any.Goals as goal
 
 pub returns-then-embeds-clause-setup : goal.returns-then-embeds-clause-setup
 returns-then-embeds-clause-setup g c =

@@ -1,6 +1,6 @@
 //! The set-up of a connection's race.
 ghost use Rattle.std.specs.Prelude.{◌≡◌, IfOk, false};
-ghost use Rattle.he_connect.specs.Races.{IsSetUp, KnowsHost};
+ghost use Rattle.he_setup.specs.Races.{IsSetUp, KnowsHost};
 
 use crate::families::families_to_try;
 use crate::fault::ConnectFault;

@@ -2,7 +2,7 @@
 ghost use Rattle.std.specs.Prelude.{◌≡◌, ◌++◌, ◌∷◌, [], IfOk, None, codes, false};
 ghost use Rattle.he_timeline.specs.Building.{empty_race};
 ghost use Rattle.he_inputs.specs.Inputs.{HasRaces};
-ghost use Rattle.he_connect.specs.Start.{Starts, lines_text, with_families};
+ghost use Rattle.he_setup.specs.Start.{Starts, lines_text, with_families};
 
 use crate::fault::ConnectFault;
 use crate::request::Families;

@@ -1,6 +1,6 @@
-//! What the record of a connection's race says beside the race.
+//! The record lines of a connection's race.
 ghost use Rattle.std.specs.Prelude.{◌≡◌};
-ghost use Rattle.he_connect.specs.Recorded.{IsFactsFor, IsFactsOf, is_left_out, or_nat64, reason_of};
+ghost use Rattle.he_setup.specs.Recorded.{IsFactsFor, IsFactsOf, is_left_out, or_nat64, reason_of};
 
 use crate::request::Families;
 use crate::source::FamilyFaults;
@@ -11,7 +11,7 @@ use he_record::{LookupReason, Moment};
 use he_recording::{AttemptFailure, Facts, ServerFailure, Target, reason_if_empty};
 use he_timeline::Timeline;
 
-/// What is known of a race that has ended.
+/// The facts known of a race that has ended.
 #[derive(Clone, Copy)]
 pub struct KnownFacts<'n> {
     /// The time of tick 0.

@@ -3,8 +3,8 @@ use Rattle.std.specs.Prelude.{Option, Some, if◌then◌else◌}
 use Rattle.he_failures.specs.Recorded.{fault_reason}
 use Rattle.he_record.specs.declared.reasons.LookupReason.TheVariants.{NotAsked}
 use Rattle.he_settings.specs.declared.fault.NamesFault.{NamesFault}
-use Rattle.he_connect.specs.Recorded.{fault_of, is_left_out}
-use Rattle.he_connect.proofs.recorded.reason_of.Goals as goal
+use Rattle.he_setup.specs.Recorded.{fault_of, is_left_out}
+use Rattle.he_setup.proofs.recorded.reason_of.Goals as goal
 
 pub returns : goal.returns
 returns c =

@@ -1,9 +1,9 @@
 //! The set-up of a race that also reaches IPv4 hosts through the network's NAT64 (RFC 8305 section 7).
 ghost use Rattle.std.specs.Prelude.{◌≡◌, [], IfOk, not, true};
 ghost use Rattle.he_addr.specs.Ip.{is_v6};
-ghost use Rattle.he_connect.specs.Embedded.{MayEmbed, are_v4, is_embedded, is_of_machine, takes_six};
-ghost use Rattle.he_connect.specs.Races.{IsSetUp, KnowsHost, only_six};
-ghost use Rattle.he_connect.specs.Start.{Starts};
+ghost use Rattle.he_setup.specs.Embedding.{MayEmbed, are_v4, is_embedded, is_of_machine, takes_six};
+ghost use Rattle.he_setup.specs.Races.{IsSetUp, KnowsHost, only_six};
+ghost use Rattle.he_setup.specs.Start.{Starts};
 
 use crate::families::tell_unasked;
 use crate::fault::ConnectFault;
@@ -12,7 +12,7 @@ use crate::setup::{Setup, set_up};
 use crate::start::start_race;
 use he_addr::{Family, Ip};
 use he_kernel::families::can_use;
-use he_kernel::sockets::ROOT_SERVER_V6;
+use he_kernel::sockets::{ROOT_SERVER_V4, ROOT_SERVER_V6};
 use std::alloc::{AllocGlobal, Global};
 use std::io::Write;
 use std::mem::drop;
@@ -77,20 +77,20 @@ fn lists_only_v4(setup: &Setup<'_>) -> bool {
     }
 }
 
-// Whether the kernel has a way to one of the known addresses or, if none is known, this machine can use IPv4.
+// Whether this machine has IPv4: the kernel has a way to one of the known addresses, or to the IPv4 internet while it
+// forbids them; or, if none is known, this machine can use IPv4.
 fn can_reach_four<R: Files + Net + AllocGlobal>(
     rt: &R,
     setup: &Setup<'_>,
 ) -> Result<bool, ConnectFault> {
     match &setup.known {
-        Some(known) => Ok(has_way(rt, setup, known)),
+        Some(known) => Ok(has_way(rt, setup, known) || has_way(rt, setup, &[ROOT_SERVER_V4])),
         None => Ok(can_use(rt, &setup.asked, Family::V4)?),
     }
 }
 
-// The choice by the requested families; by whether all known addresses are of IPv4; by whether the kernel has a way to
-// one of them or, if none is known, this machine can use IPv4; and by whether the kernel has a way to the IPv6
-// internet.
+// The choice by the requested families; by whether all known addresses are of IPv4; by whether this machine has IPv4;
+// and by whether the kernel has a way to the IPv6 internet.
 fn is_embedded(wanted: Families, only_v4: bool, has_four: bool, has_six: bool) -> bool
     ensures choice { result ≡ is_embedded wanted only_v4 has_four has_six }
     ensures wanted { result ≡ true → takes_six wanted ≡ true }

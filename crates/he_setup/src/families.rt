@@ -1,10 +1,10 @@
 //! The families that a race tries.
 ghost use Rattle.std.specs.Prelude.{IfOk};
-ghost use Rattle.he_connect.specs.Races.{Tries};
+ghost use Rattle.he_setup.specs.Races.{Tries};
 
 use crate::fault::ConnectFault;
 use crate::request::{ConnectRequest, Families, Lines};
-use he_addr::Family;
+use he_addr::{Family, Memory};
 use he_kernel::asked::AskedWays;
 use he_kernel::families::can_use;
 use he_live::{Reason, Steps};
@@ -49,8 +49,27 @@ fn version_of(family: Family) -> &'static str {
     }
 }
 
-// Appends a line for each family with an unreachable network, if this machine has no way for the family.
-pub(crate) fn write_unusable<R: Files + Net + AllocGlobal>(
+/// Appends that the name has no address of the family.
+///
+/// # Errors
+///
+/// `Memory` if an allocation fails; part of the line may have been appended.
+pub fn write_lack(host: &str, family: Family, out: &mut Vec<u8>) -> Result<(), Memory> {
+    out.extend_from_slice(b"he: ")?;
+    out.extend_from_slice(host.as_bytes())?;
+    out.extend_from_slice(match family {
+        Family::V6 => b" has no IPv6 address\n",
+        Family::V4 => b" has no IPv4 address\n",
+    })?;
+    Ok(())
+}
+
+/// Appends a line for each family with an unreachable network, if this machine has no way for the family.
+///
+/// # Errors
+///
+/// `Machine` if this machine's addresses can't be read; `Memory`. Part may have been appended.
+pub fn write_unusable<R: Files + Net + AllocGlobal>(
     rt: &R,
     asked: &AskedWays,
     attempts: &[Line],

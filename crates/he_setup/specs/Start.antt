@@ -5,8 +5,8 @@ use Rattle.he_timeline.specs.Building.{empty_race, with_answer}
 use Rattle.he_timeline.specs.Race.{Race}
 use Rattle.he_timeline.specs.Settings.{SettingValues}
 use Rattle.he_inputs.specs.Inputs.{HasRaces}
-use Rattle.he_connect.specs.declared.request.Families.{Families}
-use Rattle.he_connect.specs.declared.request.Families.TheVariants as tried
+use Rattle.he_setup.specs.declared.request.Families.{Families}
+use Rattle.he_setup.specs.declared.request.Families.TheVariants as tried
 
 -- a race with only these lines
 abbrev pub lines_text : List ℕ → List ℕ

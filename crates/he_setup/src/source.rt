@@ -6,13 +6,13 @@ ghost use Rattle.he_addr.specs.declared.ip.Family.{Family};
 ghost use Rattle.he_turns.specs.Heard.{lists_of};
 ghost use Rattle.he_resolver.specs.Heard.{IsSound, Tells, origin_of, ttl_in};
 ghost use Rattle.he_resolver.specs.Needs.{lookup_needs};
-ghost use Rattle.he_connect.specs.Answers.{HasLines, HearsLookup, IsAnswerOf, IsToldOf};
-ghost use Rattle.he_connect.specs.Recorded.{fault_of};
+ghost use Rattle.he_setup.specs.Answers.{HasLines, HearsLookup, IsAnswerOf, IsToldOf};
+ghost use Rattle.he_setup.specs.Recorded.{fault_of};
 
 use crate::request::Families;
 use crate::setup::Setup;
-use crate::telling::LookupWatcher;
 use crate::translated::Nat64;
+use crate::watching::LookupWatcher;
 use futures::task::{Context, Poll};
 use he_addr::{Family, Ip, Memory};
 use he_asking::limits::MOST_EVENTS;
@@ -46,7 +46,7 @@ struct FaultCells {
     four: Cell<Option<NamesFault>>,
     // The events of the look-up.
     events: Cell<Option<Vec<LookupEvent>>>,
-    // What is known of the network's NAT64, once it is looked up.
+    // The network's NAT64, as far as it is known, once it is looked up.
     nat64: Cell<Option<Nat64>>,
 }
 
@@ -115,7 +115,7 @@ impl LookupFaults {
         self.shared.events.set(Some(events));
     }
 
-    /// What is known of the network's NAT64, if the host's IPv4 addresses were looked up for it. Gives it once.
+    /// The network's NAT64, as far as it is known, if the host's IPv4 addresses were looked up for it. Gives it once.
     pub fn take_nat64(&self) -> Option<Nat64> {
         self.shared.nat64.replace(None)
     }
@@ -233,8 +233,8 @@ where
         })
     }
 
-    // Polls the look-up for the family, and passes its events on.
-    pub(crate) fn poll_told(
+    /// Polls the look-up for the family, and passes its events on.
+    pub fn poll_told(
         &mut self,
         family: Family,
         now: u64,
@@ -256,13 +256,8 @@ where
         polled
     }
 
-    // Polls for the race's answer. While there is none, the look-up is waited for.
-    pub(crate) fn poll_host(
-        &mut self,
-        family: Family,
-        now: u64,
-        cx: &mut Context<'_>,
-    ) -> Poll<Answer>
+    /// Polls for the race's answer. While there is none, the look-up is waited for.
+    pub fn poll_host(&mut self, family: Family, now: u64, cx: &mut Context<'_>) -> Poll<Answer>
         ensures pending { OnPending result (HearsLookup self.old family None self.new) }
         ensures ready { IfReady result (λ answer. HearsLookup self.old family (Some (lists_of answer)) self.new) }
         ensures waits { OnPending result (Covers cx.new (lookup_needs self.new.lookup family)) }
@@ -276,8 +271,8 @@ where
         }
     }
 
-    // Prints that this look-up begins, for the prefixes of a NAT64.
-    pub(crate) fn tell_asked(&self, tick: u64) {
+    /// Reports that this look-up begins, for the prefixes of a NAT64.
+    pub fn tell_asked(&self, tick: u64) {
         self.watcher.tell_prefixes_asked(tick);
     }
 
@@ -289,8 +284,8 @@ where
         ips.iter().any(|ip| machine.asked.way(machine.rt, *ip, NO_SCOPE).from.is_some())
     }
 
-    // Takes why the family has no address.
-    pub(crate) fn note(&self, family: Family, fault: NamesFault) {
+    /// Notes why the family has no address.
+    pub fn note(&self, family: Family, fault: NamesFault) {
         self.why.note(family, fault);
     }
 
@@ -366,7 +361,7 @@ where
     W: LookupWatcher,
 {
     ghost use Rattle.he_resolver.specs.Needs.{lookup_needs};
-    ghost use Rattle.he_connect.specs.Answers.{HearsLookup};
+    ghost use Rattle.he_setup.specs.Answers.{HearsLookup};
 
     ghost needs = { λ answers family. lookup_needs answers.lookup family };
 

@@ -1,6 +1,6 @@
 //! The request of a connection.
 ghost use Rattle.std.specs.Prelude.{◌≡◌};
-ghost use Rattle.he_connect.specs.Races.{only_of};
+ghost use Rattle.he_setup.specs.Races.{only_of};
 
 use he_addr::Family;
 use he_names::Environment;

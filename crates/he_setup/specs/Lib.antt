@@ -1,0 +1,5 @@
+pub mod Answers
+pub mod Embedding
+pub mod Races
+pub mod Recorded
+pub mod Start
