@@ -223,7 +223,7 @@ fn first_to_go(waiting: &[Waiting], from: IpAddr) -> Option<usize> {
 }
 
 // The address that counts: an IPv4 address itself, also if IPv4-mapped; for an IPv6 address, its network.
-fn counted_as(from: IpAddr) -> IpAddr {
+pub(crate) fn counted_as(from: IpAddr) -> IpAddr {
     match from.to_canonical() {
         IpAddr::V6(ip) => {
             let network = ip.to_bits() >> NETWORK_BITS << NETWORK_BITS;

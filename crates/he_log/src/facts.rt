@@ -22,6 +22,8 @@ pub struct Facts {
     pub given_up: Option<u64>,
     /// The addresses that were tried, if it has no winner.
     pub tried: Vec<Ip>,
+    /// The IPv4 hosts that the winner's address or those that were tried reach through a NAT64.
+    pub hosts: Vec<Ip>,
 }
 
 impl Facts {
@@ -34,6 +36,7 @@ impl Facts {
             lost: None,
             given_up: None,
             tried: Vec::new(alloc),
+            hosts: Vec::new(alloc),
         }
     }
 }

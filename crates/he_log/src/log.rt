@@ -6,7 +6,7 @@ ghost use Rattle.he_log.specs.Log.{is_bare_byte, value_text};
 use crate::facts::Facts;
 use crate::output::Output;
 use he_access::reach::Place;
-use he_addr::{Memory, write_ip, write_number};
+use he_addr::{Ip, Memory, write_ip, write_number};
 use he_front::Ended;
 use he_history::{Cause, stamp_now};
 use he_live::{Endpoint, socket_of};
@@ -57,8 +57,17 @@ impl<F: Write + Drop> Log<F> {
 
     /// Writes the line of a client that is not served.
     pub fn tell_turned_away<R: Clock>(&self, rt: &R, client: SocketAddr) {
+        self.tell_refused(rt, client, b"turned-away");
+    }
+
+    /// Writes the line of a client that is not served since its address has the most sessions already.
+    pub fn tell_too_many<R: Clock>(&self, rt: &R, client: SocketAddr) {
+        self.tell_refused(rt, client, b"too-many");
+    }
+
+    fn tell_refused<R: Clock>(&self, rt: &R, client: SocketAddr, end: &[u8]) {
         if let Some(line) = self.begin_line(rt)
-            && let Ok(line) = line_of_turned_away(self.alloc, client, line)
+            && let Ok(line) = line_of_refused(self.alloc, client, end, line)
         {
             self.out.write(line.as_slice());
         }
@@ -98,7 +107,7 @@ impl<F: Write + Drop> Log<F> {
     /// Reports that the history file was not a history, and where its copy is.
     pub fn tell_moved(&self, to: &str) {
         if let Ok(what) = format!(in self.alloc;
-            "no line of the history was ADDRESS SOURCE MILLISECONDS SECOND: what it was is kept as {to}"
+            "the history file had no line ADDRESS SOURCE MILLISECONDS SECOND: it is kept as {to}"
         ) {
             self.say(&what);
         }
@@ -108,7 +117,7 @@ impl<F: Write + Drop> Log<F> {
     pub fn tell_passed_over(&self, lines: &[u64]) {
         for line in lines {
             if let Ok(what) = format!(in self.alloc;
-                "line {line} of the history was passed over: it is not ADDRESS SOURCE MILLISECONDS SECOND"
+                "line {line} of the history is skipped: it is not ADDRESS SOURCE MILLISECONDS SECOND"
             ) {
                 self.say(&what);
             }
@@ -174,19 +183,21 @@ fn line_of(
         None => {}
     }
     line.put_tried(alloc, facts)?;
+    line.put_ips(alloc, "ipv4", &facts.hosts)?;
     line.put_number("sent", end.sent)?;
     line.put_number("received", end.received)?;
     line.put_end(alloc, end.how)?;
     line.finish()
 }
 
-fn line_of_turned_away(
+fn line_of_refused(
     alloc: Global,
     client: SocketAddr,
+    end: &[u8],
     mut line: Line,
 ) -> Result<Vec<u8>, Memory> {
     line.put_client(alloc, client)?;
-    line.put_text("end", b"turned-away")?;
+    line.put_text("end", end)?;
     line.finish()
 }
 
@@ -237,17 +248,22 @@ impl Line {
         if let Some(tick) = facts.given_up {
             self.put_number("ms", tick)?;
         }
-        if facts.tried.is_empty() {
+        self.put_ips(alloc, "tried", &facts.tried)
+    }
+
+    // The addresses, if there are any.
+    fn put_ips(&mut self, alloc: Global, name: &str, ips: &[Ip]) -> Result<(), Memory> {
+        if ips.is_empty() {
             return Ok(());
         }
-        let mut tried = Vec::new(alloc);
-        for ip in &facts.tried {
-            if !tried.is_empty() {
-                tried.push(b',')?;
+        let mut text = Vec::new(alloc);
+        for ip in ips {
+            if !text.is_empty() {
+                text.push(b',')?;
             }
-            write_ip(*ip, &mut tried)?;
+            write_ip(*ip, &mut text)?;
         }
-        self.put_text("tried", tried.as_slice())
+        self.put_text(name, text.as_slice())
     }
 
     fn put_end(&mut self, alloc: Global, how: Ending) -> Result<(), Memory> {

@@ -1,8 +1,9 @@
 -- The targets that one client's races may connect to.
-use Rattle.std.specs.Prelude.{ℕ, ◌≡◌, ◌||◌, Bool, true, false, is_some}
+use Rattle.std.specs.Prelude.{ℕ, ◌≡◌, ◌||◌, Bool, true, false, IfSome, None, is_some}
 use Rattle.he_access.specs.Reaching.{IsReached}
 use Rattle.he_access.specs.Tests.{is_here}
-use Rattle.he_kernel.specs.declared.ways.Way.{Way}
+use Rattle.he_addr.specs.declared.ip.Ip.TheVariants.{V4}
+use Rattle.he_loop.specs.declared.access.Destination.{Destination}
 use Rattle.he_loop.specs.declared.access.Reach.{Reach}
 
 -- the client reaches everything but the proxy itself: it is a program of this machine, or private addresses are
@@ -10,8 +11,14 @@ use Rattle.he_loop.specs.declared.access.Reach.{Reach}
 abbrev pub is_wide : Reach → Bool
 is_wide reach = reach.allows_private || is_here reach.client.ip reach.client.source
 
+-- the client's races may connect to the IPv4 host at the port, as to one of another machine
+abbrev pub ReachesHost : Reach → ℕ → ℕ → Type 0
+ReachesHost reach port host =
+    IsReached (is_wide reach) reach.own.now (record { ip = V4 host; port = port }) None
+
 -- the client's races may connect to a destination at the port, by the kernel's source address for it; a client
--- without full reach only if there is one
-pub record Reaches (reach : Reach) (way : Way) (port : ℕ) : Type 0 where
-  pub reached : IsReached (is_wide reach) reach.own.now (record { ip = way.to; port = port }) way.from
-  pub way_is : is_wide reach ≡ false → is_some way.from ≡ true
+-- without full reach only if there is one; and to the IPv4 host that the destination embeds, if it is known
+pub record Reaches (reach : Reach) (to : Destination) (port : ℕ) : Type 0 where
+  pub reached : IsReached (is_wide reach) reach.own.now (record { ip = to.way.to; port = port }) to.way.from
+  pub way_is : is_wide reach ≡ false → is_some to.way.from ≡ true
+  pub host : IfSome to.host (ReachesHost reach port)

@@ -11,11 +11,11 @@ use Rattle.he_loop.specs.declared.access.Reach.{Reach}
 use Rattle.he_loop.specs.declared.dial.Joined.{Joined}
 
 -- the connection was made to the address and the endpoint's port, which the client's races may reach by the kernel's
--- answer for this address
+-- answer for this address, as they may the IPv4 host that it embeds
 pub record GoesTo (reach : Reach) (to : Endpoint) (ip : Ip) (joined : Joined) : Type 0 where
   pub socket : IsSocketOf ip to joined.to
-  pub answered : joined.way.to ≡ ip
-  pub reached : Reaches reach joined.way to.port
+  pub answered : joined.known.way.to ≡ ip
+  pub reached : Reaches reach joined.known to.port
 
 -- a connection attempt waits to be writable
 abbrev pub DialNeeds : Option (Result TcpStream Error) → ℕ → Type 0

@@ -1,10 +1,11 @@
 //! The targets that one client's races may connect to.
-ghost use Rattle.std.specs.Prelude.{◌≡◌, IsTrue};
+ghost use Rattle.std.specs.Prelude.{◌≡◌, IfSome, IsTrue};
 ghost use Rattle.std.specs.Net.Socket.{socket_ip};
 ghost use Rattle.he_addr.specs.Text.{ip_of};
 ghost use Rattle.he_access.specs.Tests.{is_here};
-ghost use Rattle.he_loop.specs.Access.{Reaches, is_wide};
+ghost use Rattle.he_loop.specs.Access.{Reaches, ReachesHost, is_wide};
 
+use crate::prefixes::Prefixes;
 use he_access::reach::{Place, is_here, is_loopback, may_reach};
 use he_addr::Ip;
 use he_kernel::asked::AskedWays;
@@ -60,6 +61,15 @@ impl Client {
     }
 }
 
+/// The facts known of a destination.
+#[derive(Clone, Copy)]
+pub struct Destination {
+    /// The kernel's answer for it.
+    pub way: Way,
+    /// The IPv4 host that it embeds by a discovered prefix of a NAT64.
+    pub host: Option<u32>,
+}
+
 /// The targets that one client's races may connect to.
 #[derive(Clone, Copy)]
 pub struct Reach<'a> {
@@ -68,6 +78,8 @@ pub struct Reach<'a> {
     pub client: Client,
     /// Whether clients of other machines may also reach private addresses and this machine's.
     pub allows_private: bool,
+    /// The NAT64 prefixes that the proxy has discovered.
+    pub prefixes: &'a Prefixes,
 }
 
 impl<'a> Reach<'a> {
@@ -78,15 +90,42 @@ impl<'a> Reach<'a> {
         self.allows_private || self.client.is_near()
     }
 
-    /// Whether the client's races may connect to a destination at the port, by the kernel's answer for it. A client
-    /// of another machine reaches none for which the kernel gives no source address.
-    pub fn has(self, way: Way, port: u16) -> bool
-        ensures { IsTrue result → Reaches self.entry way port }
+    /// The facts known of the destination of the kernel's answer.
+    pub fn known_of(self, way: Way) -> Destination
+        ensures { result.way ≡ way }
+    {
+        Destination {
+            way,
+            host: self.prefixes.host_of(way.to),
+        }
+    }
+
+    /// Whether the client's races may connect to a destination at the port, by what is known of it. A client of
+    /// another machine reaches none for which the kernel gives no source address, and through a NAT64 only the IPv4
+    /// hosts that it may reach.
+    pub fn has(self, to: Destination, port: u16) -> bool
+        ensures { IsTrue result → Reaches self.entry to port }
     {
         let is_wide = self.is_wide();
+        let Destination { way, host } = to;
         if way.from.is_none() && !is_wide {
             return false;
         }
         may_reach(is_wide, self.own, Place { ip: way.to, port }, way.from)
+            && self.has_host(host, port)
+    }
+
+    // Whether the client's races may connect to the IPv4 host behind a prefix, if there is one.
+    fn has_host(self, host: Option<u32>, port: u16) -> bool
+        ensures { IsTrue result → IfSome host (ReachesHost self.entry port) }
+    {
+        let Some(host) = host else {
+            return true;
+        };
+        let to = Place {
+            ip: Ip::V4(host),
+            port,
+        };
+        may_reach(self.is_wide(), self.own, to, None)
     }
 }

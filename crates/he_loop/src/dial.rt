@@ -5,12 +5,11 @@ ghost use Rattle.futures.specs.Task.{Covers, Keeps};
 ghost use Rattle.tokio.specs.Net.{stream_writable};
 ghost use Rattle.he_loop.specs.Dials.{DialNeeds};
 
-use crate::access::{Reach, ip_of};
+use crate::access::{Destination, Reach, ip_of};
 use crate::shared::SharedLoop;
 use futures::task::{Context, Poll};
 use he_addr::Ip;
 use he_kernel::asked::AskedWays;
-use he_kernel::ways::Way;
 use he_live::{Endpoint, Reason, Step, StepKind, Steps, socket_of};
 use he_relay::keep_alive;
 use he_turns::{AttemptFault, Connector, Trial};
@@ -19,11 +18,11 @@ use std::os::fd::OwnedFd;
 use std::{io, net};
 use tokio::net::TcpStream;
 
-/// A connection, with the address, port and interface that it was made to, and the kernel's answer for that address.
+/// A connection, with the address, port and interface that it was made to, and what was known of that address.
 #[derive(Drop)]
 pub struct Joined {
     to: SocketAddr,
-    way: Way,
+    known: Destination,
     stream: TcpStream,
 }
 
@@ -100,7 +99,8 @@ impl<'h, N: Net> Connector for LoopConnector<'h, N> {
     // An attempt at an address out of reach can't begin.
     fn begin(&mut self, place: usize, ip: Ip, now: u64) -> Result<LoopTrial, AttemptFault> {
         let way = self.asked.way(self.shared.rt, ip, self.to.scope);
-        if !self.reach.has(way, self.to.port) {
+        let known = self.reach.known_of(way);
+        if !self.reach.has(known, self.to.port) {
             self.note_forbidden(place, ip, now);
             return Err(AttemptFault::Begin);
         }
@@ -110,7 +110,7 @@ impl<'h, N: Net> Connector for LoopConnector<'h, N> {
         let to = socket_of(ip, self.to);
         let trial = LoopTrial {
             place,
-            way,
+            known,
             to,
             dialing: Some(begin_dialing(&self.shared, to)),
             steps,
@@ -124,7 +124,7 @@ impl<'h, N: Net> Connector for LoopConnector<'h, N> {
 #[derive(Drop)]
 pub struct LoopTrial {
     place: usize,
-    way: Way,
+    known: Destination,
     to: SocketAddr,
     // None after its result was given.
     dialing: Option<io::Result<TcpStream>>,
@@ -135,7 +135,7 @@ impl LoopTrial {
     fn note(&self, tick: u64, what: StepKind) {
         self.steps.note(Step {
             place: self.place,
-            ip: self.way.to,
+            ip: self.known.way.to,
             tick,
             what,
         });
@@ -154,7 +154,7 @@ impl Trial for LoopTrial {
 
     ghost due_tick = { λ _. None };
 
-    ghost may_give = { λ trial joined. (joined.to ≡ trial.to) × (joined.way ≡ trial.way) };
+    ghost may_give = { λ trial joined. (joined.to ≡ trial.to) × (joined.known ≡ trial.known) };
 
     fn poll_trial(&mut self, now: u64, cx: &mut Context<'_>) -> Poll<Result<Joined, AttemptFault>> {
         match poll_dialing(&mut self.dialing, cx) {
@@ -163,7 +163,7 @@ impl Trial for LoopTrial {
                 self.note(now, StepKind::Connected);
                 Poll::Ready(Ok(Joined {
                     to: self.to,
-                    way: self.way,
+                    known: self.known,
                     stream,
                 }))
             }

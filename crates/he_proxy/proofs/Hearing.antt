@@ -2,7 +2,7 @@
 use Rattle.std.proofs.Common.{◌≡◌, ◌⊎◌, ℕ, List, [], ◌∷◌, inl, inr, refl}
 use Rattle.std.specs.Prelude.{Option, None, Some}
 use Rattle.he_addr.specs.declared.ip.Family.{Family}
-use Rattle.he_connect.specs.declared.source.HostAnswers.{HostAnswers}
+use Rattle.he_setup.specs.declared.source.HostAnswers.{HostAnswers}
 use Rattle.he_live.specs.declared.steps.Quiet.{Quiet}
 use Rattle.futures.specs.Poll.{IfReady, OnPending}
 use Rattle.futures.specs.Task.{Covers}
@@ -65,6 +65,10 @@ module _ (own : ℕ → Type 0) where
 pub pending_so : {X : Type 0} {A B : Type 0} (r : Poll X) → (A → B) → OnPending r A → OnPending r B
 pending_so Pending f held = f held
 pending_so (Ready x) f held = tt
+
+pub if_pending : {X : Type 0} {A : Type 0} (r : Poll X) → A → OnPending r A
+if_pending Pending held = held
+if_pending (Ready x) held = tt
 
 pub either : {A B C D : Type 0} → (A → C) → (B → D) → A ⊎ B → C ⊎ D
 either f g (inl a) = inl (f a)

@@ -1,3 +1,5 @@
 mod Runs
 mod Hearing
+mod Asked
 mod Recorded
+mod Session

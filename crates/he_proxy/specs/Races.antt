@@ -14,17 +14,18 @@ use Rattle.he_sessions.specs.declared.racer.Winner.{Winner}
 use Rattle.he_sessions.specs.declared.racer.Won.{Won}
 use Rattle.he_timeline.specs.Race.{Race}
 use Rattle.tokio.specs.declared.net.stream.TcpStream.{TcpStream}
-use Rattle.he_connect.specs.Races.{IsSetUp}
-use Rattle.he_connect.specs.declared.request.ConnectRequest.{ConnectRequest}
-use Rattle.he_connect.specs.declared.setup.Setup.{Setup}
+use Rattle.he_setup.specs.Embedding.{MayEmbed}
+use Rattle.he_setup.specs.Races.{IsSetUp}
+use Rattle.he_setup.specs.declared.request.ConnectRequest.{ConnectRequest}
+use Rattle.he_setup.specs.declared.setup.Setup.{Setup}
 use Rattle.he_addr.specs.Text.{ip_of}
-use Rattle.he_live.specs.declared.endpoint.Endpoint.{Endpoint}
 use Rattle.he_turns.specs.Resolving.{ReplaysGiven}
 use Rattle.he_turns.specs.Winner.{WinnerGoes}
 use Rattle.he_loop.specs.Dials.{GoesTo}
 use Rattle.he_access.specs.declared.reach.Place.{Place}
 use Rattle.he_loop.specs.declared.access.Reach.{Reach}
 use Rattle.he_loop.specs.declared.dial.Joined.{Joined}
+use Rattle.he_proxy.specs.Answers.{AnswersFor}
 use Rattle.he_proxy.specs.declared.request.ProxyRequest.{ProxyRequest}
 
 -- the race was won at this place and tick: by this address, in this number of milliseconds, of which it lost `lost`
@@ -67,28 +68,32 @@ pub record IsReachOf (places : List Place) (allows : Bool) (client : SocketAddr)
   pub of_client : reach.client.ip ≡ ip_of (socket_ip client)
   pub allowed : reach.allows_private ≡ allows
 
--- the race of the set-up was run: its record keeps the start and replays to its transcript, and its connection goes
--- to the address of the winning line, at the endpoint, which the client's races may reach
-pub record RunsFrom (start : Race) (to : Endpoint) (reach : Reach) (raced : Raced Joined) : Type 0 where
-  pub replays : ReplaysGiven start raced
-  pub goes : WinnerGoes (GoesTo reach to) raced
+-- the race of the set-up was run: its record keeps the start, has the answers of a source for the set-up, and replays
+-- to its transcript; and its connection goes to the address of the winning line, at the endpoint, which the client's
+-- races may reach
+pub record RunsFrom (R : Type 0) (setup : Setup) (reach : Reach) (raced : Raced Joined) : Type 0 where
+  pub replays : ReplaysGiven setup.start raced
+  pub answers : AnswersFor R setup raced.recorded
+  pub goes : WinnerGoes (GoesTo reach setup.to) raced
 
--- the result is the winner of the requested race: it started as in he_connect, and was run like this
-pub record IsWonFor (request : ConnectRequest) (reach : Reach) (won : Won TcpStream) : Type 0 where
+-- the result is the winner of the requested race: it started as in he_setup, and was run like this. IPv4 hosts are
+-- embedded only if this machine's lines and IPv6 are requested
+pub record IsWonFor (R : Type 0) (request : ConnectRequest) (reach : Reach) (won : Won TcpStream) : Type 0 where
   pub setup : Setup
   pub set_up : IsSetUp request setup
+  pub chosen : MayEmbed setup.embeds request
   pub raced : Raced Joined
-  pub runs : RunsFrom setup.start setup.to reach raced
+  pub runs : RunsFrom R setup reach raced
   pub handed : IsWonOf raced won
 
 -- a result for a session of the client, for the host at the port
-pub record IsWonBy (proxy : ProxyRequest) (places : List Place) (client : SocketAddr) (host : List ℕ) (port : ℕ)
-    (won : Won TcpStream) : Type 0 where
+pub record IsWonBy (R : Type 0) (proxy : ProxyRequest) (places : List Place) (client : SocketAddr) (host : List ℕ)
+    (port : ℕ) (won : Won TcpStream) : Type 0 where
   pub request : ConnectRequest
   pub asks : AsksFor proxy host port request
   pub reach : Reach
   pub reaches : IsReachOf places proxy.allows_private client reach
-  pub winner : IsWonFor request reach won
+  pub winner : IsWonFor R request reach won
 
 -- whatever it ends with, a winner that it gives satisfies this
 abbrev pub Wins : (Won TcpStream → Type 0) → (Result (Won TcpStream) Ended → Type 0) → Type 0

@@ -3,12 +3,14 @@ use Rattle.std.specs.Prelude.{ℕ, ◌≡◌, ⊤, Bool, List, Option, Some, Non
 use Rattle.std.specs.Global.{Vec}
 use Rattle.he_addr.specs.declared.ip.Family.{Family}
 use Rattle.he_addr.specs.declared.ip.Ip.{Ip}
-use Rattle.he_connect.specs.Answers.{IsToldOf}
-use Rattle.he_connect.specs.declared.source.HostAnswers.{HostAnswers}
+use Rattle.he_setup.specs.Answers.{IsToldOf}
+use Rattle.he_setup.specs.declared.source.HostAnswers.{HostAnswers}
 use Rattle.he_live.specs.declared.steps.Quiet.{Quiet}
+use Rattle.he_resolver.specs.Heard.{Told}
 use Rattle.he_turns.specs.Heard.{AnswerLists, Tells, ips_of}
 use Rattle.tokio.specs.Locks.{notified_source}
 use Rattle.he_proxy.specs.Kept.{AreKeptFor}
+use Rattle.he_proxy.specs.declared.lookups.HostLookup.{HostLookup}
 use Rattle.he_proxy.specs.declared.source.RaceSource.{RaceSource}
 use Rattle.he_proxy.specs.declared.source.Turn.{Turn}
 use Rattle.he_proxy.specs.declared.source.Turn.TheVariants as turns
@@ -25,12 +27,15 @@ IsToldWith None None = ⊤
 IsToldWith (Some bare) (Some told) = HasSameLines bare told
 IsToldWith bare told = ⊥
 
+-- the race's answer is made of a look-up's result
+abbrev pub IsToldHere : Bool → Told → AnswerLists → Type 0
+IsToldHere brings told answer = (bare : AnswerLists) × IsToldOf brings told bare × HasSameLines bare answer
+
 -- no answer, or the cached addresses for this family of the host, as from the look-up
 abbrev pub IsOfKept : Bool → List ℕ → Family → Option AnswerLists → Type 0
 IsOfKept brings host family None = ⊤
 IsOfKept brings host family (Some told) =
-    (ips : Vec Ip) × AreKeptFor host family ips.items × (bare : AnswerLists) × IsToldOf brings (Ok ips) bare
-    × HasSameLines bare told
+    (ips : Vec Ip) × AreKeptFor host family ips.items × IsToldHere brings (Ok ips) told
 
 -- the race does the look-up of its host itself
 abbrev pub Asks : Turn → Type 0
@@ -43,6 +48,11 @@ needs_at (turns.Asks asked) own s = own s
 needs_at (turns.Waits answered) own s = s ≡ notified_source answered
 
 module _ {R : Type 0} where
+  -- the source answers with this look-up of its host, which no poll has changed
+  pub record IsAsked (lookup : HostLookup R) (source : RaceSource R) : Type 0 where
+    pub host : string_bytes source.host ≡ string_bytes lookup.host
+    pub answers : source.answers ≡ lookup.answers
+
   abbrev pub needs_by : (ℕ → Type 0) → RaceSource R → ℕ → Type 0
   needs_by own source s = needs_at source.turn own s
 

@@ -1,9 +1,9 @@
 //! Why a proxy doesn't serve.
 
 use he_addr::Memory;
-use he_connect::ConnectFault;
 use he_history::Cause;
 use he_live::Reason;
+use he_setup::ConnectFault;
 use std::alloc::AllocFailed;
 use std::io;
 use std::net::SocketAddr;
@@ -16,13 +16,13 @@ pub enum ProxyFault {
     #[error("cannot listen at {0}: {1}")]
     Listen(SocketAddr, Cause),
     /// The address is open to other machines, but no network is allowed.
-    #[error("{0} is open to other machines: say which may come by --allow NETWORK")]
+    #[error("other machines can reach {0}: give their networks with --allow")]
     Open(SocketAddr),
     /// The records' directory can't be made or read.
     #[error("cannot keep records there (--record): {0}")]
     Record(Cause),
     /// The history file can't be read or written.
-    #[error("cannot keep what is known of addresses there (--history): {0}")]
+    #[error("cannot read or write the file of --history: {0}")]
     History(Cause),
     /// The lines of the races can't be read.
     #[error("{0}")]

@@ -1,11 +1,10 @@
 //! The result of an ended race, and its record.
-ghost use Rattle.std.specs.Prelude.{◌≡◌, IfOk, IfSome};
+ghost use Rattle.std.specs.Prelude.{◌≡◌, IfOk, IfSome, true};
 ghost use Rattle.he_proxy.specs.Races.{IsWinner, IsWonOf};
 ghost use Rattle.he_proxy.specs.Recorded.{IsRecordOf, IsSessionFacts, client_ip, end_of};
 
 use crate::sockets::Noted;
 use he_addr::{Ip, Memory};
-use he_connect::{Families, KnownFacts, facts_of};
 use he_course::Course;
 use he_front::Ended;
 use he_history::{
@@ -19,6 +18,7 @@ use he_plan::{Line, Mark, Outcome3, Transcript};
 use he_record::{ClientEnd, Moment};
 use he_recording::{Facts as RecordFacts, Target, text_of};
 use he_sessions::{Winner, Won};
+use he_setup::{Families, KnownFacts, Nat64, facts_for, nat64_prefixes};
 use he_timeline::Timeline;
 use he_turns::Raced;
 use std::alloc::{AllocGlobal, Global};
@@ -55,6 +55,8 @@ pub struct Keeping<'h, R> {
     pub reach: Reach<'h>,
     pub noted: Noted,
     pub families: Families,
+    /// Whether it may reach IPv4 hosts through its network's NAT64.
+    pub embeds: bool,
 }
 
 impl<'h, R: Clock + Files + RandomSource + AllocGlobal + Net + Copy> Keeping<'h, R> {
@@ -86,10 +88,12 @@ impl<'h, R: Clock + Files + RandomSource + AllocGlobal + Net + Copy> Keeping<'h,
         ensures { IfOk result (IsWonOf raced) }
     {
         let winner = winner_of(self.shared.alloc, &raced);
-        let lost = self.lost(&winner, &raced.transcript);
+        let nat64 = self.noted.why.take_nat64();
+        let lost = self.lost(&winner, &raced.transcript, nat64.as_ref());
         let source = raced.winner.as_ref().and_then(Joined::source);
         self.learn(&raced.recorded, &raced.transcript, source);
-        let text = self.keep(&raced.recorded, &raced.transcript, lost, None);
+        let text = self.text_of(&raced.recorded, &raced.transcript, nat64.as_ref(), None);
+        let text = self.keep(text, &raced.transcript, lost, None);
         let Raced {
             transcript,
             recorded,
@@ -118,7 +122,9 @@ impl<'h, R: Clock + Files + RandomSource + AllocGlobal + Net + Copy> Keeping<'h,
                 transcript,
             } = kept;
             self.learn(&recorded, &transcript, None);
-            let text = self.keep(&recorded, &transcript, None, Some(tick));
+            let nat64 = self.noted.why.take_nat64();
+            let text = self.text_of(&recorded, &transcript, nat64.as_ref(), Some(tick));
+            let text = self.keep(text, &transcript, None, Some(tick));
             drop(transcript);
             self.show(recorded, text);
         }
@@ -134,17 +140,17 @@ impl<'h, R: Clock + Files + RandomSource + AllocGlobal + Net + Copy> Keeping<'h,
         self.known.learn(self.shared.rt, transcript, learnt);
     }
 
-    // Keeps the record, if records are kept, and notes the log's facts of the race. Returns the record's text; none if
-    // an allocation fails.
+    // Keeps the record with this text, if records are kept, and notes the log's facts of the race. Returns the text;
+    // none if an allocation failed.
     fn keep(
         &self,
-        recorded: &Timeline,
+        text: Result<Vec<u8>, Memory>,
         transcript: &Transcript,
         lost: Option<Lost>,
         given_up: Option<u64>,
     ) -> Option<Vec<u8>> {
         let alloc = self.shared.alloc;
-        let text = self.text_of(recorded, transcript, given_up).ok();
+        let text = text.ok();
         let mut facts = Facts::none(alloc);
         facts.began = String::from_str(alloc, self.began.as_str()).ok();
         facts.record = text.as_ref().and_then(|text| self.record(text));
@@ -152,6 +158,7 @@ impl<'h, R: Clock + Files + RandomSource + AllocGlobal + Net + Copy> Keeping<'h,
         if lost.is_some() || given_up.is_some() {
             facts.tried = tried_in(alloc, transcript.attempts());
         }
+        facts.hosts = self.hosts_in(transcript);
         facts.lost = lost;
         facts.given_up = given_up;
         self.facts.note(self.client, facts);
@@ -170,37 +177,65 @@ impl<'h, R: Clock + Files + RandomSource + AllocGlobal + Net + Copy> Keeping<'h,
         records.keep(self.shared.rt, name, text)
     }
 
+    // The IPv4 hosts that the winner's address embeds or, without a winner, those that were tried, each once; none if
+    // an allocation fails.
+    fn hosts_in(&self, transcript: &Transcript) -> Vec<Ip> {
+        let is_won = matches!(transcript.result(), Outcome3::Won(_, _));
+        let mut hosts = Vec::new(self.shared.alloc);
+        for line in transcript.attempts() {
+            if let Some(host) = self.reach.prefixes.host_of(line.ip)
+                && (!is_won || matches!(line.mark, Mark::Won(_)))
+                && !hosts.contains(&Ip::V4(host))
+            {
+                let _ = hosts.push(Ip::V4(host));
+            }
+        }
+        hosts
+    }
+
     // The text of the race with its record.
     fn text_of(
         &self,
         recorded: &Timeline,
         transcript: &Transcript,
+        nat64: Option<&Nat64>,
         given_up: Option<u64>,
     ) -> Result<Vec<u8>, Memory>
         ensures { IfOk result (λ text. IsRecordOf self.now given_up recorded.now transcript.now text.items) }
     {
         let alloc = self.shared.alloc;
         let servers = self.noted.why.servers(alloc)?;
+        let prefixes = nat64_prefixes(alloc, nat64)?;
         let attempts = attempt_failures(alloc, transcript.attempts(), &self.noted.steps)?;
         let known = KnownFacts {
             at: self.at,
             why: self.noted.why.families(),
-            nat64: &[],
+            nat64: &prefixes,
             servers: &servers,
             attempts: &attempts,
         };
-        let facts = self.facts_of(recorded, known, given_up);
+        let by_nat64 = self.is_by_nat64(nat64);
+        let facts = self.facts_of(by_nat64, recorded, known, given_up);
         text_of(alloc, &facts, recorded)
     }
 
-    // The facts of the race: those of a race of he_connect, its client, and when that left.
+    // Whether the race reaches its host only through a NAT64, for want of an IPv6 address.
+    fn is_by_nat64(&self, nat64: Option<&Nat64>) -> bool
+        ensures { result ≡ true → self.now.embeds ≡ true }
+    {
+        self.embeds && nat64.is_some()
+    }
+
+    // The facts of the race: those of a race of he_setup, its client, and when that left. `by_nat64`: it reaches its
+    // host only through a NAT64.
     fn facts_of<'f>(
         &'f self,
+        by_nat64: bool,
         recorded: &Timeline,
         known: KnownFacts<'f>,
         given_up: Option<u64>,
     ) -> RecordFacts<'f>
-        ensures { IsSessionFacts self.now given_up recorded.now known.entry result }
+        ensures { IsSessionFacts self.now by_nat64 given_up recorded.now known.entry result }
     {
         let target = Target {
             host: self.host.as_bytes(),
@@ -209,7 +244,7 @@ impl<'h, R: Clock + Files + RandomSource + AllocGlobal + Net + Copy> Keeping<'h,
         RecordFacts {
             from: Some(client_ip(self.client)),
             end: end_of(given_up),
-            ..facts_of(target, self.families, recorded, known)
+            ..facts_for(by_nat64, target, self.families, recorded, known)
         }
     }
 
@@ -231,35 +266,38 @@ impl<'h, R: Clock + Files + RandomSource + AllocGlobal + Net + Copy> Keeping<'h,
         &self,
         winner: &Result<Option<Winner>, Memory>,
         transcript: &Transcript,
+        nat64: Option<&Nat64>,
     ) -> Option<Lost> {
         match winner {
             Ok(Some(_)) => None,
-            Ok(None) => Some(self.lost_of(transcript)),
+            Ok(None) => Some(self.lost_of(transcript, nat64)),
             Err(Memory) => Some(Lost::ProxyFailed),
         }
     }
 
-    // Why there is no address, or the most telling result of the attempts.
-    fn lost_of(&self, transcript: &Transcript) -> Lost {
-        if let Some(fault) = self.noted.why.families().nameless(self.families) {
-            return Lost::of_names(fault);
-        }
+    // The most telling result of the attempts, or why there is no address.
+    fn lost_of(&self, transcript: &Transcript, nat64: Option<&Nat64>) -> Lost {
         let attempts = transcript.attempts();
         for lost in TELLING {
             if attempts.iter().any(|line| self.lost_by(*line) == lost) {
                 return lost;
             }
         }
-        match transcript.result() {
-            Outcome3::Limit(_) => Lost::TimedOut,
-            _ if attempts.is_empty() => Lost::NoAddress,
-            _ => Lost::ProxyFailed,
+        if let Some(fault) = self.noted.why.families().nameless(self.families) {
+            return Lost::of_names(fault);
+        }
+        match (transcript.result(), nat64) {
+            (Outcome3::Limit(_), _) => Lost::TimedOut,
+            _ if !attempts.is_empty() => Lost::ProxyFailed,
+            (_, Some(Nat64::Prefixes(_))) => Lost::NoNetwork,
+            (_, Some(Nat64::Unknown(fault))) => Lost::of_names(*fault),
+            _ => Lost::NoAddress,
         }
     }
 
     fn lost_by(&self, line: Line) -> Lost {
         let way = self.noted.asked.way(self.shared.rt, line.ip, NO_SCOPE);
-        if !self.reach.has(way, self.port) {
+        if !self.reach.has(self.reach.known_of(way), self.port) {
             return Lost::Forbidden;
         }
         match line.mark {

@@ -2,7 +2,7 @@
 //! targets by RFC 8305, and relays.
 //!
 //! [`serve`] listens, and runs each client's session (`he_sessions`) as one task of many in one event loop. A
-//! session's race is that of `he connect`: it starts as set up by `he_connect`, its ticks are from `he_live`, and its
+//! session's race is that of `he connect`: it starts as set up by `he_setup`, its ticks are from `he_live`, and its
 //! turns are those of `he_turns`. Its record is a file in the records' directory, for `he replay`. Name servers'
 //! answers are shared with other races to the host: those that begin while the name servers are asked, and those
 //! within the TTL (`he_kept`). The history of an address counts in later races for a day (`he_history`). A race whose
@@ -14,22 +14,28 @@
 //! The proxy serves clients of this machine, and those of the allowed networks; others are closed at once. It listens
 //! at an address that is open to other machines only if a network is allowed. No race connects to the proxy itself. A
 //! client of another machine reaches no address of this machine, and only globally reachable addresses, unless
-//! private ones are allowed; this holds for the addresses of names too. The kernel determines which addresses are
-//! this machine's.
+//! private ones are allowed; this holds for the addresses of names too, and for IPv4 hosts that are reached through a
+//! NAT64. The kernel determines which addresses are this machine's.
 //!
 //! # What is proved
 //!
 //! - A session's client is one that `he_access` serves, and its race is requested with that client's address
 //!   (`IsServedBy`, `IsReachOf` in `specs/Races`).
 //! - An address is tried only if `he_access` allows it to the client, by the kernel's answer for it in this race
-//!   ([`Reach::has`](he_loop::Reach::has)); for a client of another machine only if the kernel has a way to it. The
-//!   connection comes with that answer (`GoesTo` of he_loop). That the kernel was asked is tested.
+//!   ([`Reach::has`](he_loop::Reach::has)); for a client of another machine only if the kernel has a way to it. If it
+//!   embeds an IPv4 host by a prefix that the proxy discovered last, `he_access` allows that host too. The connection
+//!   comes with that answer and that host (`GoesTo` of he_loop). Tested: that the kernel was asked, and which host it
+//!   is.
 //! - A race is requested with the session's host and port, and with the proxy's settings, families, lines and
 //!   resolver (`AsksFor` in `specs/Races`).
 //! - A session gets the connection that its race gave: the winner's address and time are those of the race's
-//!   transcript, and the lost time is that of its course (`HandsOut`). That race started as `he_connect` sets one up
+//!   transcript, and the lost time is that of its course (`HandsOut`). That race started as `he_setup` sets one up
 //!   for the host and the port, its record keeps the start and replays to its transcript, and the connection goes to
 //!   the address of the winning line, which the client's races may reach (`IsWonBy`).
+//! - The record of that race has the answers of a source that began for the request (`specs/Answers`). On a machine
+//!   with only IPv6 it may embed IPv4 hosts, as in `he_setup`: only if IPv6 and this machine's lines are requested.
+//!   Then it answers with the host's IPv6 addresses; or, if there are none, with its IPv4 addresses, embedded by the
+//!   prefixes that the answer for `ipv4only.arpa.` shows; or with none.
 //! - A look-up's answer is cached for the race's own host and family, with the answer's addresses and TTL
 //!   (`to_keep`). A cached answer that a race gets was cached for its own host and family (`AreKeptFor` in
 //!   `specs/Kept`), by a look-up less than its TTL ago (`he_kept`).
@@ -46,14 +52,16 @@
 //!
 //! All this holds if the calls return: they wait for the system.
 //!
-//! Tested only: that it connects, and when; the time, the reasons and the name servers in record lines; the facts in
-//! the log's lines; the page.
+//! Tested only: that it connects, and when; that the prefixes are cached; the time, the reasons and the name servers
+//! in record lines; the facts in the log's lines; the page.
 #![tactic(auto)]
 
+pub mod answering;
 pub mod fault;
 pub mod keeping;
 pub mod limits;
 mod listening;
+pub mod lookups;
 pub mod pages;
 pub mod proxy;
 pub mod race;

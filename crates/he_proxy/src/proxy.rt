@@ -12,13 +12,13 @@ use crate::server::Server;
 use crate::state::ProxyState;
 use futures::stream::SelectAll;
 use futures::{Future, Stream, StreamExt};
-use he_clients::{Beginning, Clients, Running, Service};
-use he_connect::{ConnectFault, Lines, read_lines, start_race};
+use he_clients::{Beginning, Clients, PerAddress, Running, Service};
 use he_history::{Cause, KnownAddresses, KnownAtStart, Recent, Records};
 use he_kept::KeptAnswers;
 use he_log::{Log, SessionFacts, TurnedAway};
-use he_loop::SharedLoop;
+use he_loop::{Prefixes, SharedLoop};
 use he_sessions::{Limits, Racer};
+use he_setup::{ConnectFault, Lines, read_lines, start_race};
 use std::alloc::{AllocGlobal, Global};
 use std::cell::Cell;
 use std::convert::Infallible;
@@ -76,13 +76,16 @@ where
         own,
         answers: KeptAnswers::new(rt, alloc)?,
         known,
+        prefixes: Prefixes::new(alloc),
         records: open_records(rt, alloc, request)?,
         recent: Recent::new(alloc),
         beginning: Beginning::new(alloc),
         running: Running::new(request.most),
+        per_address: PerAddress::new(alloc, request.most_per_client),
         log: Log::new(alloc, request.log, faults),
         facts: SessionFacts::new(alloc),
         turned_away: TurnedAway::new(alloc),
+        too_many: TurnedAway::new(alloc),
         left: Cell::new(None),
     };
     state.log.tell_passed_over(&wrong);

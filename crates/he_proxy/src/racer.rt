@@ -1,5 +1,6 @@
 //! Races for the sessions, on the sockets of the event loop.
 ghost use Rattle.std.specs.Prelude.{◌≡◌, IfOk, Ok};
+ghost use Rattle.he_setup.specs.Races.{KnowsHost};
 ghost use Rattle.he_proxy.specs.Races.{AsksFor, IsReachOf, IsWonBy, RunsFrom, Wins};
 
 use crate::keeping::Keeping;
@@ -13,7 +14,6 @@ use futures::Future;
 use he_access::reach::is_served;
 use he_addr::{Ip, Memory};
 use he_clients::ClientPlace;
-use he_connect::{ConnectFault, ConnectRequest, Setup, set_up};
 use he_front::Ended;
 use he_history::{Records, second_now, stamp_of};
 use he_kernel::asked::AskedWays;
@@ -21,6 +21,7 @@ use he_log::{Facts, Lost};
 use he_loop::{Client, Reach, SharedLoop, ip_of, place_of};
 use he_recording::moment_now;
 use he_sessions::{PageAsked, Racer, SessionEnd};
+use he_setup::{ConnectFault, ConnectRequest, Setup, set_up_any};
 use std::alloc::AllocGlobal;
 use std::io;
 use std::io::Write;
@@ -52,10 +53,11 @@ where
             own: self.state.own.as_slice(),
             client: Client::of(self.shared.rt, asked, client),
             allows_private: self.request.allows_private,
+            prefixes: &self.state.prefixes,
         }
     }
 
-    // The request of the race for he_connect.
+    // The request of the race for he_setup.
     fn request_for<'a>(&self, host: &'a str, port: u16) -> ConnectRequest<'a>
     where
         'h: 'a,
@@ -82,11 +84,11 @@ where
         port: u16,
     ) -> Result<LoopRace<'h, R, SocketRace<'h, R>>, ConnectFault>
         ensures can { IfOk result (λ race. ⟦<SocketRace<'h, R> as Future>⟧.can_poll race.race) }
-        ensures wins { IfOk result (λ race. Wins (IsWonBy self.now.request.now self.now.state.now.own.items client
-            host.now port) (⟦<LoopRace<'h, R, SocketRace<'h, R>> as Future>⟧.gives race)) }
+        ensures wins { IfOk result (λ race. Wins (IsWonBy R self.now.request.now self.now.state.now.own.items
+            client host.now port) (⟦<LoopRace<'h, R, SocketRace<'h, R>> as Future>⟧.gives race)) }
     {
         let request = self.request_for(host, port);
-        let setup = set_up(self.shared.rt, self.shared.alloc, &request, &mut io::sink())?;
+        let setup = set_up_any(self.shared.rt, self.shared.alloc, &request, &mut io::sink())?;
         let begun = self.begin_from(&setup, self.reach_of(client, &setup.asked), client);
         drop(setup);
         begun
@@ -100,14 +102,15 @@ where
         client: SocketAddr,
     ) -> Result<LoopRace<'h, R, SocketRace<'h, R>>, ConnectFault>
         ensures can { IfOk result (λ race. ⟦<SocketRace<'h, R> as Future>⟧.can_poll race.race) }
-        ensures runs { IfOk result (λ race. (raced : _) → ⟦<SocketRace<'h, R> as Future>⟧.gives race.race (Ok raced)
-            → RunsFrom setup.now.start setup.now.to reach.entry raced) }
+        ensures runs { KnowsHost setup.now → IfOk result (λ race. (raced : _)
+            → ⟦<SocketRace<'h, R> as Future>⟧.gives race.race (Ok raced) → RunsFrom R setup.now reach.entry raced) }
     {
         let noted = Noted::new(self.shared.alloc, setup.asked.share()?)?;
-        let keeping = self.keeping(&setup.request, reach, noted, client)?;
+        let keeping = self.keeping(setup, reach, noted, client)?;
         let earlier = Earlier {
             kept: &self.state.answers,
             known: &self.state.known,
+            prefixes: &self.state.prefixes,
         };
         let race = socket_race(self.shared, setup, reach, earlier, &keeping.noted)?;
         Ok(LoopRace::new(race, keeping))
@@ -115,7 +118,7 @@ where
 
     fn keeping(
         &self,
-        request: &ConnectRequest<'_>,
+        setup: &Setup<'_>,
         reach: Reach<'h>,
         noted: Noted,
         client: SocketAddr,
@@ -134,11 +137,12 @@ where
             left: &self.state.left,
             began: stamp_of(alloc, at)?,
             at: Some(at),
-            host: String::from_str(alloc, request.host)?,
-            port: request.port,
+            host: String::from_str(alloc, setup.request.host)?,
+            port: setup.request.port,
             reach,
             noted,
-            families: request.families,
+            families: setup.request.families,
+            embeds: setup.embeds,
         })
     }
 }
@@ -190,8 +194,8 @@ where
 
     ghost serves = { λ racer client. IsServed (ip_of (socket_ip client)) racer.request.now.allow.now };
 
-    ghost answers = { λ racer client host port end. IfOk end (IsWonBy racer.request.now racer.state.now.own.items client
-        host port) };
+    ghost answers = { λ racer client host port end. IfOk end (IsWonBy R racer.request.now racer.state.now.own.items
+        client host port) };
 
     fn is_served(&self, client: SocketAddr) -> bool {
         let ip = ip_of(client.ip());
@@ -242,6 +246,7 @@ where
         let facts = self.state.facts.take(end.client);
         self.state.log.tell(self.shared.rt, end, &facts);
         drop(facts);
+        self.state.per_address.remove(end.client.ip());
         if self.state.running.remove() {
             self.state.log.tell_room(self.state.running.most());
         }

@@ -1,10 +1,10 @@
 //! The request of a proxy.
 
 use he_addr::Prefix;
-use he_connect::{Families, Lines};
 use he_log::LogForm;
 use he_names::Environment;
 use he_settings::Choice;
+use he_setup::{Families, Lines};
 use he_timeline::Settings;
 use std::net::SocketAddr;
 
@@ -36,6 +36,8 @@ pub struct ProxyRequest<'a> {
     pub log: LogForm,
     /// The limit of sessions at once, at least 1.
     pub most: u32,
+    /// The limit of sessions at once from one address, at least 1; if None, there is none.
+    pub most_per_client: Option<u32>,
     /// Seconds, at least 1, after which a tunnel without traffic is closed; if None, no tunnel is.
     pub idle: Option<u32>,
 }

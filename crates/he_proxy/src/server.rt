@@ -3,8 +3,9 @@ ghost use Rattle.std.specs.Prelude.{IfSome};
 
 use crate::state::ProxyState;
 use he_clients::Service;
+use he_history::second_now;
 use he_live::Reason;
-use he_loop::SharedLoop;
+use he_loop::{SharedLoop, ip_of};
 use he_sessions::{Limits, Racer, Session};
 use std::io::Write;
 use std::net::SocketAddr;
@@ -20,11 +21,27 @@ pub struct Server<'q, K, Q, F: Drop> {
     pub state: &'q ProxyState<F>,
 }
 
+impl<'q, K: Clock, Q, F: Write + Drop> Server<'q, K, Q, F> {
+    // Logs once a minute and network that a client with the most sessions is refused another one.
+    fn tell_too_many(&self, client: SocketAddr) {
+        let rt = self.shared.rt;
+        if let Some(now) = second_now(rt)
+            && self.state.too_many.is_news(ip_of(client.ip()), now)
+        {
+            self.state.log.tell_too_many(rt, client);
+        }
+    }
+}
+
 impl<'q, K: Clock, Q: Racer<Stream = TcpStream>, F: Write + Drop> Service for Server<'q, K, Q, F> {
     type Session = Session<'q, K, Q>;
 
     fn begin(&self, client: TcpStream, address: SocketAddr) -> Option<Session<'q, K, Q>> {
         if !self.racer.is_served(address) {
+            return None;
+        }
+        if !self.state.per_address.add(address.ip()) {
+            self.tell_too_many(address);
             return None;
         }
         let SharedLoop { rt, alloc, handle } = self.shared;
@@ -36,7 +53,10 @@ impl<'q, K: Clock, Q: Racer<Stream = TcpStream>, F: Write + Drop> Service for Se
                 }
                 Some(session)
             }
-            Err(_) => None,
+            Err(_) => {
+                self.state.per_address.remove(address.ip());
+                None
+            }
         }
     }
 

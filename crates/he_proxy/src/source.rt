@@ -6,19 +6,21 @@ ghost use Rattle.he_addr.specs.declared.ip.Family.{Family};
 ghost use Rattle.he_turns.specs.Heard.{IsSilent, lists_of};
 ghost use Rattle.he_turns.specs.declared.limits.TheConstants.{MAX_POLL_TICK};
 ghost use Rattle.he_proxy.specs.Kept.{AreKeptFor};
-ghost use Rattle.he_proxy.specs.Sources.{Asks, HasSameLines, HearsOwn, IsOfKept, needs_by};
+ghost use Rattle.he_proxy.specs.Sources.{Asks, HasSameLines, HearsOwn, IsAsked, IsOfKept, IsToldHere, needs_by};
 
+use crate::lookups::HostLookup;
 use crate::sockets::Noted;
 use futures::Future;
 use futures::task::{Context, Poll};
 use he_addr::{Family, Ip, Memory};
-use he_connect::{HostAnswers, LookupFaults};
 use he_history::KnownAddresses;
 use he_kept::{Asking, KeptAnswer, KeptAnswers, Lifetime, Question};
 use he_kernel::asked::AskedWays;
 use he_live::Quiet;
+use he_loop::Prefixes;
 use he_select::Known;
 use he_settings::NamesFault;
+use he_setup::{HostAnswers, LookupFaults};
 use he_turns::{Answer, AnswerSource};
 use std::alloc::{AllocGlobal, Global};
 use std::net::Net;
@@ -32,6 +34,8 @@ use tokio::sync::Notified;
 pub struct Earlier<'h> {
     pub kept: &'h KeptAnswers,
     pub known: &'h KnownAddresses,
+    /// The NAT64 prefixes that were discovered.
+    pub prefixes: &'h Prefixes,
 }
 
 // The look-ups of a host's families, each until it is answered.
@@ -75,7 +79,7 @@ enum Turn<'h> {
 pub struct RaceSource<'h, R> {
     rt: &'h R,
     alloc: Global,
-    answers: HostAnswers<'h, R, Quiet>,
+    pub(crate) answers: HostAnswers<'h, R, Quiet>,
     // Why a family has no address.
     why: LookupFaults,
     // The kernel's answers in this race.
@@ -89,29 +93,82 @@ impl<'h, R> RaceSource<'h, R>
 where
     R: Net + RandomSource + Clock + Files + AllocGlobal,
 {
-    /// The answers for this host, whose look-up notes why a family has none.
+    /// The answers of this look-up, which notes why a family has none.
     ///
     /// # Errors
     ///
     /// `Memory` if an allocation fails.
     pub fn new(
         rt: &'h R,
-        host: &str,
-        answers: HostAnswers<'h, R, Quiet>,
+        lookup: HostLookup<'h, R>,
         noted: &Noted,
         earlier: Earlier<'h>,
-    ) -> Result<RaceSource<'h, R>, Memory> {
-        let alloc = rt.alloc();
-        Ok(RaceSource {
+    ) -> Result<RaceSource<'h, R>, Memory>
+        ensures { IfOk result (IsAsked lookup.entry) }
+    {
+        let HostLookup {
+            host,
+            only,
+            answers,
+        } = lookup;
+        let mut source = RaceSource {
             rt,
-            alloc,
+            alloc: rt.alloc(),
             answers,
             why: noted.why.share()?,
             asked: noted.asked.share()?,
-            host: String::from_str(alloc, host)?,
+            host,
             earlier,
-            turn: turn_for(earlier.kept, host),
-        })
+            turn: Turn::Asks(AskedFor::nothing()),
+        };
+        source.begin(only);
+        Ok(source)
+    }
+
+    /// Goes on with this look-up.
+    pub fn ask(&mut self, lookup: HostLookup<'h, R>)
+        ensures { IsAsked lookup.entry self.new }
+    {
+        let HostLookup {
+            host,
+            only,
+            answers,
+        } = lookup;
+        self.host = host;
+        self.answers = answers;
+        // This race no longer asks for what it asked for before.
+        self.turn = Turn::Asks(AskedFor::nothing());
+        self.begin(only);
+    }
+
+    // Takes the answers of another race that does the look-up, or the cached one of the only family; otherwise others
+    // wait for this race's.
+    fn begin(&mut self, only: Option<Family>)
+        ensures answers { self.new.answers ≡ self.old.answers }
+        ensures host { self.new.host ≡ self.old.host }
+    {
+        let kept = self.earlier.kept;
+        self.turn = if only.is_some_and(|family| self.kept_of(family).is_some()) {
+            Turn::Waits(kept.answered.notified())
+        } else {
+            turn_for(kept, self.host.as_str(), only)
+        };
+    }
+
+    /// Why the family has no address: as its look-up says, otherwise `NoAddress`.
+    pub fn fault_or_none(&self, family: Family) -> NamesFault {
+        self.why
+            .families()
+            .of(family)
+            .unwrap_or(NamesFault::NoAddress)
+    }
+
+    /// The race's answer for the family: these addresses, with their lines and history, or an empty one, whose reason
+    /// is noted.
+    pub fn answer_of(&self, family: Family, told: Result<Vec<Ip>, NamesFault>) -> Answer
+        ensures { IsToldHere (is_some self.now.answers.machine) told (lists_of result) }
+    {
+        self.with_known(self.answers.answer_of(family, told))
     }
 
     // The look-up's answer, which is cached.
@@ -152,7 +209,7 @@ where
         let kept = self.earlier.kept;
         let mut answered = kept.answered.notified();
         if let Some(ips) = self.kept_of(family) {
-            return Poll::Ready(self.with_known(self.answers.answer_of(family, Ok(ips))));
+            return Poll::Ready(self.answer_of(family, Ok(ips)));
         }
         if kept.asked(self.host.as_str(), family).is_some() {
             match answered.poll(cx) {
@@ -186,11 +243,12 @@ where
         }
     }
 
-    // Caches a name server's answer for the family: its addresses, or that there are none.
+    // Caches a name server's answer for the family: its addresses, or that there are none, unless that is cached.
     fn keep(&self, family: Family, answer: &Answer) {
         let ttl = self.answers.ttl(family);
         let fault = self.why.families().of(family);
-        if ttl.is_none() && !fault.is_some_and(is_said) {
+        let is_new = fault.is_some_and(is_said) && self.kept_of(family).is_none();
+        if ttl.is_none() && !is_new {
             return;
         }
         let kept = self.earlier.kept;
@@ -226,14 +284,27 @@ where
     }
 }
 
-// Waits for another race if that does the look-up of the host; otherwise starts one here.
-fn turn_for<'h>(kept: &'h KeptAnswers, host: &str) -> Turn<'h> {
-    if kept.asked(host, Family::V6).is_some() || kept.asked(host, Family::V4).is_some() {
+// Waits for another race if that does the look-up of the host; otherwise starts one here. `only` is the only family
+// that is looked up.
+fn turn_for<'h>(kept: &'h KeptAnswers, host: &str, only: Option<Family>) -> Turn<'h> {
+    let has_six = only != Some(Family::V4);
+    let has_four = only != Some(Family::V6);
+    if (has_six && kept.asked(host, Family::V6).is_some())
+        || (has_four && kept.asked(host, Family::V4).is_some())
+    {
         return Turn::Waits(kept.answered.notified());
     }
     Turn::Asks(AskedFor {
-        six: kept.ask(host, Family::V6).ok(),
-        four: kept.ask(host, Family::V4).ok(),
+        six: if has_six {
+            kept.ask(host, Family::V6).ok()
+        } else {
+            None
+        },
+        four: if has_four {
+            kept.ask(host, Family::V4).ok()
+        } else {
+            None
+        },
     })
 }
 
@@ -242,7 +313,7 @@ fn is_said(fault: NamesFault) -> bool {
     matches!(fault, NamesFault::NoAddress | NamesFault::NoSuchName)
 }
 
-fn ips_of(alloc: Global, known: &[Known]) -> Result<Vec<Ip>, Memory>
+pub(crate) fn ips_of(alloc: Global, known: &[Known]) -> Result<Vec<Ip>, Memory>
     ensures { IfOk result (λ ips. ips.items ≡ map (λ known. known.ip) known.now) }
 {
     known.iter().map(|known| known.ip).collect(alloc)

@@ -1,10 +1,11 @@
 //! The state that all sessions of a proxy share, beside the event loop.
 
 use he_access::reach::Place;
-use he_clients::{Beginning, Running};
+use he_clients::{Beginning, PerAddress, Running};
 use he_history::{KnownAddresses, Recent, Records};
 use he_kept::KeptAnswers;
 use he_log::{Log, SessionFacts, TurnedAway};
+use he_loop::Prefixes;
 use std::cell::Cell;
 use std::net::SocketAddr;
 
@@ -15,14 +16,20 @@ pub struct ProxyState<F: Drop> {
     pub own: Vec<Place>,
     pub answers: KeptAnswers,
     pub known: KnownAddresses,
+    /// The NAT64 prefixes that were discovered.
+    pub prefixes: Prefixes,
     pub records: Option<Records>,
     pub recent: Recent,
     pub beginning: Beginning,
     pub running: Running,
+    /// The sessions of each client's address.
+    pub per_address: PerAddress,
     pub log: Log<F>,
     /// The log's facts of sessions, beside their ends.
     pub facts: SessionFacts,
     pub turned_away: TurnedAway,
+    /// The networks of clients with too many sessions.
+    pub too_many: TurnedAway,
     /// The last client that left during its race.
     pub left: Cell<Option<SocketAddr>>,
 }
