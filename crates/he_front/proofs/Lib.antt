@@ -4,3 +4,4 @@ mod Authorities
 mod Begun
 mod Cuts
 mod Named
+mod OldMessages

@@ -3,6 +3,7 @@ pub mod Authority
 pub mod Http
 pub mod Lines
 pub mod Messages
+pub mod OldSocks
 pub mod Openings
 pub mod Pages
 pub mod Reading

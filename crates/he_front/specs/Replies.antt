@@ -1,4 +1,4 @@
--- The replies to a client (RFC 1928 section 6; RFC 9110 section 15).
+-- The replies to a client (RFC 1928 section 6; the SOCKS 4 protocol; RFC 9110 section 15).
 use Rattle.std.specs.Prelude.{ℕ}
 use Rattle.he_front.specs.declared.replies.Ended.{Ended}
 use Rattle.he_front.specs.declared.replies.Ended.TheVariants as ended
@@ -15,6 +15,18 @@ code_of ended.TimedOut = 4
 code_of ended.Refused = 5
 code_of ended.Command = 7
 code_of ended.Kind = 8
+
+-- CD of SOCKS 4: request granted; request rejected or failed, whatever the cause
+abbrev pub old_code_of : Ended → ℕ
+old_code_of ended.Connected = 90
+old_code_of ended.Failed = 91
+old_code_of ended.Forbidden = 91
+old_code_of ended.NoNetwork = 91
+old_code_of ended.NoHost = 91
+old_code_of ended.TimedOut = 91
+old_code_of ended.Refused = 91
+old_code_of ended.Command = 91
+old_code_of ended.Kind = 91
 
 -- OK; Bad Request; Forbidden; Internal Server Error; Not Implemented; Bad Gateway; Gateway Timeout
 abbrev pub status_of : Ended → ℕ

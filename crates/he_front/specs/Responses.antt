@@ -83,5 +83,5 @@ config_text ip port =
 -- the settings that a client needs
 abbrev pub advice_text : Ip → ℕ → List ℕ
 advice_text ip port =
-    codes "he proxy speaks SOCKS 5, CONNECT and plain HTTP: set ALL_PROXY=socks5h://" ++ (socket_text ip port
+    codes "This is a proxy (SOCKS 5, HTTP). Set ALL_PROXY=socks5h://" ++ (socket_text ip port
     ++ (codes ", or http_proxy and https_proxy=http://" ++ socket_text ip port))

@@ -1,11 +1,12 @@
-//! The requests of a proxy's clients and the replies to them: SOCKS 5 (RFC 1928), tunnels over HTTP (RFC 9110 section
-//! 9.3.6), requests of HTTP to forward, which `he_forward` reads, and the proxy's own pages. This crate reads and
-//! writes octets, and has no sockets.
+//! The requests of a proxy's clients and the replies to them: SOCKS 5 (RFC 1928), SOCKS 4 and 4A, tunnels over HTTP
+//! (RFC 9110 section 9.3.6), requests of HTTP to forward, which `he_forward` reads, and the proxy's own pages. This
+//! crate reads and writes octets, and has no sockets.
 //!
 //! Proved, for all octets:
 //!
 //! - [`read_greeting`], [`read_request`]: a message is read exactly if the octets begin with one; `Partial` if they
-//!   don't and more octets can complete one; `Refused` if none can (`specs/Messages`, `specs/Socks`).
+//!   don't and more octets can complete one; `Refused` if none can (`specs/Messages`, `specs/Socks`). So is the
+//!   request of SOCKS 4 by [`read_old_request`] (`specs/OldSocks`).
 //! - [`read_head`]: so is the head of an HTTP request, by the grammar of `httparse`, with at most [`MOST_FIELDS`]
 //!   fields, and with the spans of its target and its first field Host (`specs/Http`).
 //! - [`request_line`]: the method and the target of any octets, for a log (`specs/Lines`).
@@ -16,8 +17,8 @@
 //! - [`page_asked`]: a page is returned exactly if the target is its path and the field Host is the proxy itself
 //!   (`specs/Pages`).
 //! - [`Ended::socks_reply`]: the octets of a reply, with the code of RFC 1928 section 6 (`specs/Replies`);
-//!   [`Ended::write_response`], [`write_page`], [`write_config`] and [`write_advice`] append the texts of
-//!   `specs/Responses`.
+//!   [`Ended::old_socks_reply`]: those of SOCKS 4; [`Ended::write_response`], [`write_page`], [`write_config`] and
+//!   [`write_advice`] append the texts of `specs/Responses`.
 //!
 //! Only tested: that these succeed if memory is available. Neither proved nor tested: that a browser accepts the
 //! auto-config text.
@@ -27,6 +28,7 @@ pub mod asked;
 pub mod authority;
 pub mod http;
 pub mod line;
+pub mod old_socks;
 pub mod opening;
 pub mod pages;
 pub mod replies;
@@ -37,8 +39,9 @@ pub use asked::Asked;
 pub use authority::{MOST_HOST, read_authority};
 pub use http::{Head, MOST_FIELDS, ReadHead, read_head};
 pub use line::{RequestLine, request_line};
+pub use old_socks::{MOST_USER, read_old_request};
 pub use opening::{Opening, opening_of};
 pub use pages::{Page, page_asked};
-pub use replies::{Ended, method_reply, old_socks_reply};
+pub use replies::{Ended, method_reply};
 pub use responses::{write_advice, write_config, write_page};
 pub use socks::{Read, Refusal, Request, Target, read_greeting, read_request};

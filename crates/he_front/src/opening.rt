@@ -8,7 +8,7 @@ ghost use Rattle.he_front.specs.Openings.{opening_of};
 pub enum Opening {
     /// A greeting of SOCKS 5 (RFC 1928 section 3).
     Socks,
-    /// A request of SOCKS 4, which is refused.
+    /// A request of SOCKS 4 (its protocol, VN is 4).
     OldSocks,
     /// A request of HTTP, whose method begins with a letter (RFC 9110 section 9.1).
     Http,

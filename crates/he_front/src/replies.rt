@@ -1,7 +1,7 @@
 // How a session ended, and the reply to its client.
 
 ghost use Rattle.std.specs.Prelude.{◌≡◌, ◌∷◌, [], if◌then◌else◌};
-ghost use Rattle.he_front.specs.Replies.{code_of, status_of};
+ghost use Rattle.he_front.specs.Replies.{code_of, old_code_of, status_of};
 
 /// The reply to a greeting: the client proceeds without authentication, or none of its methods is acceptable (RFC
 /// 1928 section 3).
@@ -9,13 +9,6 @@ pub fn method_reply(offers_none: bool) -> [u8; 2]
     ensures { result ≡ 5 ∷ (if offers_none then 0 else 0xff) ∷ [] }
 {
     [5, if offers_none { 0 } else { 0xff }]
-}
-
-/// The reply to a SOCKS 4 request: refused (SOCKS 4 protocol, a version of 0 and the code 91).
-pub fn old_socks_reply() -> [u8; 8]
-    ensures { result ≡ 0 ∷ 91 ∷ 0 ∷ 0 ∷ 0 ∷ 0 ∷ 0 ∷ 0 ∷ [] }
-{
-    [0, 91, 0, 0, 0, 0, 0, 0]
 }
 
 /// How a client's request ended.
@@ -61,6 +54,30 @@ impl Ended {
             Ended::Refused => 5,
             Ended::Command => 7,
             Ended::Kind => 8,
+        }
+    }
+
+    /// The octets of a SOCKS 4 reply: VN is 0, CD is 90 if the request was granted, otherwise 91, and the port and the
+    /// address are 0.
+    pub fn old_socks_reply(self) -> [u8; 8]
+        ensures { result ≡ 0 ∷ old_code_of self ∷ 0 ∷ 0 ∷ 0 ∷ 0 ∷ 0 ∷ 0 ∷ [] }
+    {
+        [0, self.old_code(), 0, 0, 0, 0, 0, 0]
+    }
+
+    fn old_code(self) -> u8
+        ensures { result ≡ old_code_of self }
+    {
+        match self {
+            Ended::Connected => 90,
+            Ended::Failed
+            | Ended::Forbidden
+            | Ended::NoNetwork
+            | Ended::NoHost
+            | Ended::Refused
+            | Ended::TimedOut
+            | Ended::Command
+            | Ended::Kind => 91,
         }
     }
 

@@ -203,7 +203,7 @@ pub fn write_advice<A: Allocator + Copy>(
     ensures { OnOk result (out.new.items ≡ out.old.items ++ advice_text ip port) }
 {
     write_octets(
-        b"he proxy speaks SOCKS 5, CONNECT and plain HTTP: set ALL_PROXY=socks5h://",
+        b"This is a proxy (SOCKS 5, HTTP). Set ALL_PROXY=socks5h://",
         out,
     )?;
     write_socket(ip, port, out)?;

@@ -11,7 +11,7 @@ const VERSION: u8 = 5;
 
 const NO_AUTHENTICATION: u8 = 0;
 
-const CONNECT: u8 = 1;
+pub(crate) const CONNECT: u8 = 1;
 
 const RESERVED: u8 = 0;
 
@@ -160,7 +160,7 @@ fn refusal_of(octets: &[u8]) -> Option<Refusal>
 }
 
 // Whether the octet at the place exists and is a different one.
-fn is_other(octets: &[u8], place: usize, wanted: u8) -> bool
+pub(crate) fn is_other(octets: &[u8], place: usize, wanted: u8) -> bool
     ensures { result ≡ is_other octets.now place wanted }
 {
     match octets.get(place) {
@@ -169,14 +169,14 @@ fn is_other(octets: &[u8], place: usize, wanted: u8) -> bool
     }
 }
 
-fn port_at(octets: &[u8]) -> u16
+pub(crate) fn port_at(octets: &[u8]) -> u16
     requires { length octets.now ≡ 2 }
     ensures { result ≡ from_be_bytes w16 octets.now }
 {
     u16::from_be_bytes([octets[0], octets[1]])
 }
 
-fn v4_at(octets: &[u8]) -> u32
+pub(crate) fn v4_at(octets: &[u8]) -> u32
     requires { length octets.now ≡ 4 }
     ensures { result ≡ from_be_bytes w32 octets.now }
 {

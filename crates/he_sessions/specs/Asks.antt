@@ -12,6 +12,7 @@ use Rattle.he_front.specs.declared.socks.Request.{Request}
 use Rattle.he_front.specs.Asked.{asked_in}
 use Rattle.he_front.specs.Authority.{IsAuthority}
 use Rattle.he_front.specs.Http.{HasHead}
+use Rattle.he_front.specs.OldSocks.{IsOldRequest}
 use Rattle.he_front.specs.Socks.{IsGreeting, IsRequest}
 use Rattle.he_forward.specs.Requests.{Reads}
 use Rattle.he_forward.specs.declared.forward.Forward.{Forward}
@@ -26,10 +27,12 @@ use Rattle.he_sessions.specs.declared.asking.Protocol.TheVariants as protocols
 use Rattle.he_sessions.specs.declared.asking.Wanted.{Wanted}
 use Rattle.he_sessions.specs.declared.asking.Wanted.TheVariants as wanteds
 
--- The octets begin with a request of `len` octets for a tunnel to this host and port: a request of SOCKS 5 (RFC 1928
--- section 4), or the head of a CONNECT with its target (RFC 9110 section 9.3.6).
+-- The octets begin with a request of `len` octets for a tunnel to this host and port: a request of SOCKS 4 or 4A, one
+-- of SOCKS 5 (RFC 1928 section 4), or the head of a CONNECT with its target (RFC 9110 section 9.3.6).
 abbrev pub AsksTunnel : List ℕ → Protocol → Asked Global → ℕ → Type 0
-AsksTunnel octets protocols.OldSocks asked len = ⊥
+AsksTunnel octets protocols.OldSocks asked len =
+    (request : Request) × IsOldRequest octets request len
+    × (asked_in request ≡ Some (string_bytes asked.host, asked.port))
 AsksTunnel octets protocols.Socks asked len =
     (request : Request) × IsRequest octets request len × (asked_in request ≡ Some (string_bytes asked.host, asked.port))
 AsksTunnel octets protocols.Http asked len =

@@ -12,7 +12,7 @@ use he_body::Framing;
 use he_forward::{Forward, ReadForward, read_forward};
 use he_front::{
     Asked, Ended, Head, Opening, Read, ReadHead, Refusal, opening_of, read_greeting, read_head,
-    read_request,
+    read_old_request, read_request,
 };
 use httparse::spans::Span;
 use std::alloc::Global;
@@ -20,7 +20,7 @@ use std::alloc::Global;
 /// The protocol of a client.
 #[derive(Clone, Copy, Debug, PartialEq, Eq)]
 pub enum Protocol {
-    /// SOCKS 4, which is refused.
+    /// SOCKS 4 and 4A.
     OldSocks,
     /// SOCKS 5 (RFC 1928).
     Socks,
@@ -46,7 +46,7 @@ pub struct Outgoing {
     pub framing: Framing,
 }
 
-/// What a client wants of the connection to the server.
+/// A client's wish for the connection to the server.
 #[derive(Drop)]
 pub enum Wanted {
     /// A tunnel, by this protocol.
@@ -86,7 +86,7 @@ pub(crate) fn read_ask(alloc: Global, octets: &[u8], was_greeted: bool) -> Resul
     };
     match opening_of(*first) {
         Opening::Socks => Ok(greeting_in(octets)),
-        Opening::OldSocks => Ok(Ask::Refused(Protocol::OldSocks, Ended::Command)),
+        Opening::OldSocks => read_old_socks(alloc, octets),
         Opening::Http => read_http(alloc, octets),
         Opening::Other => Ok(Ask::Unknown),
     }
@@ -120,6 +120,23 @@ fn read_socks(alloc: Global, octets: &[u8]) -> Result<Ask, Memory>
     }
 }
 
+fn read_old_socks(alloc: Global, octets: &[u8]) -> Result<Ask, Memory>
+    ensures { IfOk result (Asks false octets.now) }
+{
+    let (request, len) = match read_old_request(octets) {
+        Read::Whole(request, len) => (request, len),
+        Read::Partial => return Ok(Ask::More),
+        Read::Refused(refusal) => {
+            return Ok(Ask::Refused(Protocol::OldSocks, old_ended_by(refusal)));
+        }
+    };
+    match Asked::by_socks(alloc, &request) {
+        Ok(Some(asked)) => Ok(Ask::Server(Wanted::Tunnel(Protocol::OldSocks), asked, len)),
+        Ok(None) => Ok(Ask::Refused(Protocol::OldSocks, Ended::Kind)),
+        Err(refused) => Err(refused),
+    }
+}
+
 fn ended_by(refusal: Refusal) -> Ended
     ensures { IsFailure result }
 {
@@ -127,6 +144,16 @@ fn ended_by(refusal: Refusal) -> Ended
         Refusal::Message => Ended::Failed,
         Refusal::Command => Ended::Command,
         Refusal::Kind => Ended::Kind,
+    }
+}
+
+// A malformed request of SOCKS 4 has no code of its own.
+fn old_ended_by(refusal: Refusal) -> Ended
+    ensures { IsFailure result }
+{
+    match refusal {
+        Refusal::Command => Ended::Command,
+        Refusal::Message | Refusal::Kind => Ended::Kind,
     }
 }
 

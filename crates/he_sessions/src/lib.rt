@@ -1,15 +1,15 @@
 //! Sessions of a proxy: each reads one client's request, races for it, answers and relays, as a future.
 //!
-//! A [`Session`] is one client's connection from start to end. It reads the client's request: a tunnel by SOCKS 5
-//! (RFC 1928) or by CONNECT (RFC 9110 section 9.3.6), a request of HTTP to forward (RFC 9112 section 3.2.2), or a page
-//! by GET or HEAD. Until the first octet has come, the client may have to make room for another one ([`Place`]). A
-//! [`Racer`] races for the connection; meanwhile the session keeps what the client sends, at most 16 KiB, and ends the
-//! race if the client leaves. It answers in the client's protocol, and relays in both directions until both have
-//! ended. If one connection breaks off, the other one is reset once all earlier bytes are sent, after at most ten
-//! seconds. A refused client is sent the reason before the connection is closed. SOCKS 4 and other methods of HTTP are
-//! refused; a client whose first octet begins neither protocol is closed. A request has at most 16 KiB, beside its
-//! body. Each session has one timer: it closes a request that is not complete within [`Limits::request`], and a tunnel
-//! in which no byte moved for [`Limits::idle`]. A race has the racer's own limit.
+//! A [`Session`] is one client's connection from start to end. It reads the client's request: a tunnel by SOCKS 5 (RFC
+//! 1928), by SOCKS 4 or by CONNECT (RFC 9110 section 9.3.6), a request of HTTP to forward (RFC 9112 section 3.2.2), or
+//! a page by GET or HEAD. Until the first octet has come, the client may have to make room for another one
+//! ([`Place`]). A [`Racer`] races for the connection; meanwhile the session keeps what the client sends, at most 16
+//! KiB, and ends the race if the client leaves. It answers in the client's protocol, and relays in both directions
+//! until both have ended. If one connection breaks off, the other one is reset once all earlier bytes are sent, after
+//! at most ten seconds. A refused client is sent the reason before the connection is closed. Other methods of HTTP are
+//! refused; a client whose first octet begins none of these protocols is closed. A request has at most 16 KiB, beside
+//! its body. Each session has one timer: it closes a request that is not complete within [`Limits::request`], and a
+//! tunnel in which no byte moved for [`Limits::idle`]. A race has the racer's own limit.
 //!
 //! The server of a request to forward gets the head of `he_forward` in place of the client's, and then the body, which
 //! `he_bounded` bounds. The response goes to the client as it is, with all responses of 1xx, until the server ends it;

@@ -7,7 +7,7 @@ ghost use Rattle.he_sessions.specs.Replies.{IsReply};
 use crate::asking::Protocol;
 use bytes::BytesMut;
 use he_addr::Memory;
-use he_front::{Ended, old_socks_reply};
+use he_front::Ended;
 use std::alloc::Global;
 
 // The reply to a client whose tunnel is open.
@@ -29,7 +29,7 @@ fn reply_of(alloc: Global, protocol: Protocol, ended: Ended) -> Result<BytesMut,
     ensures { IfOk result (λ reply. IsReply protocol ended reply.items) }
 {
     match protocol {
-        Protocol::OldSocks => BytesMut::copy_from_slice(alloc, &old_socks_reply()),
+        Protocol::OldSocks => BytesMut::copy_from_slice(alloc, &ended.old_socks_reply()),
         Protocol::Socks => BytesMut::copy_from_slice(alloc, &ended.socks_reply()),
         Protocol::Http => {
             let mut text = Vec::new(alloc);
@@ -61,8 +61,7 @@ fn reason_of(ended: Ended) -> &'static str {
         Ended::NoHost => "the host has no address that could be reached",
         Ended::Refused => "each address of the host refused the connection",
         Ended::TimedOut => "no address of the host answered in time",
-        Ended::Command =>
-            "this proxy makes tunnels, by SOCKS 5 or CONNECT, and forwards requests for http:// URLs",
+        Ended::Command => "this proxy supports only SOCKS, CONNECT and requests for http:// URLs",
         Ended::Kind => "the request is not one that this proxy can read",
     }
 }

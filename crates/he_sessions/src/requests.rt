@@ -235,7 +235,7 @@ impl<'q, K: Clock, Q: Racer> Session<'q, K, Q> {
     }
 }
 
-// What the log gets of the request in the octets: the method of one to forward, if there is memory for it.
+// The log's part of the request in the octets: the method of one to forward, if there is memory for it.
 fn logged(alloc: Global, wanted: &Wanted, octets: &[u8]) -> Option<Vec<u8>> {
     match wanted {
         Wanted::Tunnel(_) => None,

@@ -53,7 +53,7 @@ pub struct Racing<F, S> {
     pub early: Vec<u8>,
     /// Whether the client has ended its direction.
     pub has_ended: bool,
-    /// What the client wants of the connection.
+    /// The client's wish for the connection.
     pub wanted: Wanted,
     /// The race.
     pub race: F,

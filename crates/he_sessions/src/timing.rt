@@ -35,7 +35,7 @@ pub(crate) fn no_progress() -> Progress {
     }
 }
 
-// What to do next with a tunnel that waits and has moved this number of bytes: it ends if none moved for its idle
+// The next step of a tunnel that waits and has moved this number of bytes: it ends if none moved for its idle
 // time.
 pub(crate) fn poll_idle<K: Clock>(
     clock: &K,

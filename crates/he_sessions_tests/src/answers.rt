@@ -12,6 +12,11 @@ const TARGET: (&str, u16) = ("example.org", 443);
 // RFC 1928: one method, none; CONNECT to example.org at port 443.
 const ASKS: &[u8] = b"\x05\x01\x00\x05\x01\x00\x03\x0bexample.org\x01\xbb";
 
+// SOCKS 4A: CONNECT to example.org at port 443 for the user "me"; and without its last octet.
+const OLD_ASKS: &[u8] = b"\x04\x01\x01\xbb\x00\x00\x00\x01me\x00example.org\x00";
+
+const OLD_PART: &[u8] = b"\x04\x01\x01\xbb\x00\x00\x00\x01me\x00example.org";
+
 const CONNECTS: &[u8] = b"CONNECT example.org:443 HTTP/1.1\r\nHost: example.org:443\r\n\r\n";
 
 // The outcome for a client that sends this in pieces of `piece` octets.
@@ -90,6 +95,28 @@ fn socks_is_refused_by_its_replies(rt: HostRuntime) -> Result<(), Fail> {
 }
 
 #[test]
+fn old_socks_is_refused_by_its_reply(rt: HostRuntime) -> Result<(), Fail> {
+    let reply = b"\x00\x5b\x00\x00\x00\x00\x00\x00";
+    // The race has no winner, or isn't begun.
+    let refused = Course::Ends(Ended::Refused);
+    assert!(rt; is_answered(&rt, refused, OLD_ASKS, reply, Ending::Refused)?);
+    let forbidden = Course::IsRefused(Ended::Forbidden);
+    assert!(rt; is_answered(&rt, forbidden, OLD_ASKS, reply, Ending::Refused)?);
+    // BIND, a name with a space, port 0, and no octets of a name.
+    let bind = b"\x04\x02\x01\xbb\x7f\x00\x00\x01me\x00";
+    assert!(rt; is_answered(&rt, Course::GoesOn, bind, reply, Ending::Refused)?);
+    let space = b"\x04\x01\x01\xbb\x00\x00\x00\x01me\x00a b\x00";
+    assert!(rt; is_answered(&rt, Course::GoesOn, space, reply, Ending::Refused)?);
+    let zero = b"\x04\x01\x00\x00\x7f\x00\x00\x01\x00";
+    assert!(rt; is_answered(&rt, Course::GoesOn, zero, reply, Ending::Refused)?);
+    let empty = b"\x04\x01\x01\xbb\x00\x00\x00\x01me\x00\x00";
+    assert!(rt; is_answered(&rt, Course::GoesOn, empty, reply, Ending::Refused)?);
+    // A request without its last NUL is waited for.
+    assert!(rt; is_answered(&rt, Course::GoesOn, OLD_PART, b"", Ending::Late)?);
+    Ok(())
+}
+
+#[test]
 fn other_methods_and_versions_are_refused(rt: HostRuntime) -> Result<(), Fail> {
     // User name and password are the only method.
     assert!(rt;
@@ -98,16 +125,6 @@ fn other_methods_and_versions_are_refused(rt: HostRuntime) -> Result<(), Fail> {
             Course::GoesOn,
             b"\x05\x01\x02",
             b"\x05\xff",
-            Ending::Refused
-        )?
-    );
-    let old = b"\x04\x01\x00\x50\x7f\x00\x00\x01\x00";
-    assert!(rt;
-        is_answered(
-            &rt,
-            Course::GoesOn,
-            old,
-            b"\x00\x5b\x00\x00\x00\x00\x00\x00",
             Ending::Refused
         )?
     );

@@ -1,4 +1,4 @@
-//! Tests of `he_sessions` on real sockets, of loopback alone: the answers to clients of SOCKS 5 and of HTTP, the
+//! Tests of `he_sessions` on real sockets, of loopback alone: the answers to clients of SOCKS and of HTTP, the
 //! targets for which races are begun, that early octets are relayed first, what a server gets of a request that is
 //! forwarded, how sessions end, and that all octets arrive. And of `he_front`, `he_forward` and `he_body` on messages
 //! put together by hand.
@@ -14,6 +14,8 @@ mod forwards;
 mod heads;
 #[cfg(test)]
 mod homes;
+#[cfg(test)]
+mod old_socks;
 #[cfg(test)]
 mod openings;
 #[cfg(test)]

@@ -7,7 +7,7 @@ use he_front::http::{Head, ReadHead, read_head};
 use he_front::line::request_line;
 use he_front::opening::{Opening, opening_of};
 use he_front::pages::{Page, page_asked};
-use he_front::replies::{Ended, method_reply, old_socks_reply};
+use he_front::replies::{Ended, method_reply};
 use he_front::responses::{write_advice, write_config, write_page};
 use he_front::socks::{Read, Refusal, Target, read_greeting, read_request};
 use std::test::Fail;
@@ -40,7 +40,6 @@ fn a_greeting_offers_methods(rt: HostRuntime) {
     assert!(rt; read_greeting(&[5, 2, 0]) == Read::Partial);
     assert!(rt; read_greeting(&[4, 1]) == Read::Refused(Refusal::Message));
     assert!(rt; method_reply(true) == [5, 0] && method_reply(false) == [5, 0xff]);
-    assert!(rt; old_socks_reply() == [0, 0x5b, 0, 0, 0, 0, 0, 0]);
 }
 
 #[test]

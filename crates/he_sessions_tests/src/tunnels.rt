@@ -18,6 +18,15 @@ const SIX: &[u8] =
 
 const CONNECTS: &[u8] = b"CONNECT [2001:db8::1]:8080 HTTP/1.1\r\nHost: h\r\n\r\n";
 
+// SOCKS 4 for the user "me", SOCKS 4A for none, and an IPv6 address as a name.
+const OLD_FOUR: &[u8] = b"\x04\x01\x00\x50\xc0\x00\x02\x07me\x00";
+
+const OLD_NAMED: &[u8] = b"\x04\x01\x01\xbb\x00\x00\x00\x01\x00example.org\x00";
+
+const OLD_SIX: &[u8] = b"\x04\x01\x1f\x90\x00\x00\x00\xff\x002001:db8::1\x00";
+
+const OLD_OPEN: &[u8] = b"\x00\x5a\x00\x00\x00\x00\x00\x00";
+
 const SOCKS_OPEN: &[u8] = b"\x05\x00\x05\x00\x00\x01\x00\x00\x00\x00\x00\x00";
 
 const HTTP_OPEN: &[u8] = b"HTTP/1.1 200 Connection established\r\n\r\n";
@@ -110,9 +119,37 @@ fn each_kind_of_target_is_raced_for(rt: HostRuntime) -> Result<(), Fail> {
 }
 
 #[test]
+fn each_kind_of_old_target_is_raced_for(rt: HostRuntime) -> Result<(), Fail> {
+    assert!(rt; is_whole(&rt, ("192.0.2.7", 80), OLD_FOUR, OLD_OPEN, 40, usize::MAX)?);
+    assert!(rt;
+        is_whole(
+            &rt,
+            ("example.org", 443),
+            OLD_NAMED,
+            OLD_OPEN,
+            40,
+            usize::MAX
+        )?
+    );
+    assert!(rt;
+        is_whole(
+            &rt,
+            ("2001:db8::1", 8080),
+            OLD_SIX,
+            OLD_OPEN,
+            40,
+            usize::MAX
+        )?
+    );
+    Ok(())
+}
+
+#[test]
 fn a_request_may_come_octet_by_octet(rt: HostRuntime) -> Result<(), Fail> {
     assert!(rt; is_whole(&rt, ("example.org", 443), NAMED, SOCKS_OPEN, 40, 1)?);
     assert!(rt; is_whole(&rt, ("2001:db8::1", 8080), CONNECTS, HTTP_OPEN, 40, 1)?);
+    assert!(rt; is_whole(&rt, ("192.0.2.7", 80), OLD_FOUR, OLD_OPEN, 40, 1)?);
+    assert!(rt; is_whole(&rt, ("example.org", 443), OLD_NAMED, OLD_OPEN, 40, 1)?);
     Ok(())
 }
 
