@@ -30,7 +30,7 @@ _he() {
             return ;;
         "proxy --record")
             return ;;
-        "proxy --max-records" | "proxy --max-clients" | "probe --count" | "replay --workers" | "draw --width" | "summary --slowest")
+        "proxy --max-records" | "proxy --max-clients" | "proxy --max-per-client" | "probe --count" | "replay --workers" | "draw --width" | "summary --slowest")
             return ;;
         "proxy --idle" | "probe --interval")
             return ;;
@@ -43,7 +43,7 @@ _he() {
     esac
     case $command in
         connect) options='-4 -6 -z --timeout --set --wait --machine --resolver --record --json --check --warn --explain --verbose -v --help -h' words=HOST ;;
-        proxy) options='--listen --allow --allow-private -4 -6 --timeout --set --machine --resolver --record --max-records --history --max-clients --idle --quiet -q --log-json --help -h' words= ;;
+        proxy) options='--listen --allow --allow-private -4 -6 --timeout --set --machine --resolver --record --max-records --history --max-clients --max-per-client --idle --quiet -q --log-json --help -h' words= ;;
         probe) options='-4 -6 --timeout --pace --count --interval --machine --resolver --record --json --openmetrics --quiet -q --verbose -v --help -h' words=HOST ;;
         names) options='--resolver --record --json --verbose -v --help -h' words=HOST ;;
         host) options='--for --json --help -h' words= ;;

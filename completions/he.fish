@@ -47,6 +47,7 @@ complete -c he -n '__fish_seen_subcommand_from proxy' -l record -x -d 'Write eac
 complete -c he -n '__fish_seen_subcommand_from proxy' -l max-records -x -d 'Keep at most N records, removing the oldest first'
 complete -c he -n '__fish_seen_subcommand_from proxy' -l history -r -F -d 'Save connection times by address in FILE, for use after a restart'
 complete -c he -n '__fish_seen_subcommand_from proxy' -l max-clients -x -d 'Serve at most N clients at once'
+complete -c he -n '__fish_seen_subcommand_from proxy' -l max-per-client -x -d 'Serve at most N clients of one address at once'
 complete -c he -n '__fish_seen_subcommand_from proxy' -l idle -x -d 'Close a tunnel that is idle for SECONDS, or as 90s'
 complete -c he -n '__fish_seen_subcommand_from proxy' -s q -l quiet -d 'Write no line for a session'
 complete -c he -n '__fish_seen_subcommand_from proxy' -l log-json -d 'Write the line of a session as a JSON object'

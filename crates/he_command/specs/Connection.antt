@@ -3,11 +3,11 @@ use Rattle.std.specs.Prelude.{◌≡◌, ◌≢◌, ◌⊎◌, ℕ, List, Bool, 
 use Rattle.std.specs.Borrow.{Bor}
 use Rattle.he_addr.specs.declared.ip.Family.{Family}
 use Rattle.he_connect.specs.Races.{IsRun}
-use Rattle.he_connect.specs.declared.request.ConnectRequest.{ConnectRequest}
-use Rattle.he_connect.specs.declared.request.Families.{Families}
-use Rattle.he_connect.specs.declared.request.Families.TheVariants as families
-use Rattle.he_connect.specs.declared.request.Lines.{Lines}
-use Rattle.he_connect.specs.declared.request.Lines.TheVariants as lines
+use Rattle.he_setup.specs.declared.request.ConnectRequest.{ConnectRequest}
+use Rattle.he_setup.specs.declared.request.Families.{Families}
+use Rattle.he_setup.specs.declared.request.Families.TheVariants as families
+use Rattle.he_setup.specs.declared.request.Lines.{Lines}
+use Rattle.he_setup.specs.declared.request.Lines.TheVariants as lines
 use Rattle.he_live.specs.declared.dialed.Dialed.{Dialed}
 use Rattle.he_names.specs.Ports.{IsNoPort, MeansPort}
 use Rattle.he_names.specs.declared.environment.Environment.{Environment}

@@ -1,7 +1,7 @@
 -- The effects of `he probe`.
 use Rattle.std.specs.Prelude.{◌≡◌, ◌≤◌, ◌⊎◌, ⊤, ℕ, List, [], ◌∷◌, Bool, true, false, not, if◌then◌else◌, count_by, length, nat_eq, Option, Some, None}
 use Rattle.he_addr.specs.declared.ip.Family.TheVariants as families
-use Rattle.he_connect.specs.Recorded.{fault_of}
+use Rattle.he_setup.specs.Recorded.{fault_of}
 use Rattle.he_names.specs.declared.environment.Environment.{Environment}
 use Rattle.he_options.specs.Shown.{shown}
 use Rattle.he_probing.specs.Json.{object_text}

@@ -1,6 +1,7 @@
 -- The options of `he proxy`, as he_proxy has them.
-use Rattle.std.specs.Prelude.{◌≡◌, ℕ}
+use Rattle.std.specs.Prelude.{◌≡◌, List, ℕ}
 use Rattle.std.specs.Option.{unwrap_or}
+use Rattle.std.specs.declared.net.socket_addr.SocketAddr.{SocketAddr}
 use Rattle.he_names.specs.declared.environment.Environment.{Environment}
 use Rattle.he_log.specs.declared.log.LogForm.{LogForm}
 use Rattle.he_log.specs.declared.log.LogForm.TheVariants as forms
@@ -27,9 +28,11 @@ status_by other = FAULT
 abbrev pub status_of_proxy : Proxy → ℕ
 status_of_proxy proxy = status_by proxy.resolver
 
--- the served options are those of the line; a number that the line doesn't give is the default of he_proxy
-pub record IsServed (proxy : Proxy) (environment : Environment) (request : ProxyRequest) : Type 0 where
-  pub listen : request.listen.now ≡ proxy.listen.items
+-- the served options are those of the line, at these addresses; a number that the line doesn't give is the default of
+-- he_proxy
+pub record IsServed (proxy : Proxy) (listen : List SocketAddr) (environment : Environment) (request : ProxyRequest)
+    : Type 0 where
+  pub listen_is : request.listen.now ≡ listen
   pub allow : request.allow.now ≡ proxy.allow.items
   pub allows_private : request.allows_private ≡ proxy.allows_private
   pub families : request.families ≡ families_of proxy.only
@@ -42,4 +45,5 @@ pub record IsServed (proxy : Proxy) (environment : Environment) (request : Proxy
   pub history : request.history ≡ proxy.history
   pub log : request.log ≡ log_of proxy.log
   pub most : request.most ≡ unwrap_or proxy.most DEFAULT_SESSIONS
+  pub most_per_client : request.most_per_client ≡ proxy.most_per_client
   pub idle : request.idle ≡ proxy.idle

@@ -15,7 +15,6 @@ use crate::probe_record::{RoundsFile, add_round, close_rounds, open_rounds};
 use crate::race_request::{choice_of, families_of, lines_of};
 use crate::system::System;
 use he_addr::{Family, Memory};
-use he_connect::ConnectRequest;
 use he_inputs::StreamFault;
 use he_names::Environment;
 use he_options::shown::shown;
@@ -25,6 +24,7 @@ use he_probing::{
 };
 use he_record::Moment;
 use he_request::{Probe, ProbeForm};
+use he_setup::ConnectRequest;
 use he_stream::{FromReader, InputStream, OutputStream};
 use he_tasks::reports::{report, report_of, report_path};
 use he_tasks::session::put_all;

@@ -9,14 +9,21 @@ use he_log::LogForm;
 use he_names::Environment;
 use he_options::Resolver;
 use he_proxy::{DEFAULT_RECORDS, DEFAULT_SESSIONS, ProxyFault, ProxyRequest, serve};
-use he_request::{Proxy, SessionLog};
+use he_request::listen::addresses_of;
+use he_request::{Proxy, SessionLog, SixUse};
 use he_stream::OutputStream;
 use he_tasks::reports::{report, report_path};
 use he_tasks::{Session, USAGE};
 use std::io::Write;
+use std::net::{IpAddr, Ipv6Addr, Net, SocketAddr, UdpSocket};
 
 const NOT_SYSTEM: &[u8] =
     b"he: `--resolver system` cannot be used with `he proxy`: it queries name servers directly\n";
+
+// Linux's error numbers if this machine has no address of the family, and not this address.
+const EAFNOSUPPORT: i32 = 97;
+
+const EADDRNOTAVAIL: i32 = 99;
 
 // Serves the requested proxy, until a fault or a signal ends it.
 pub(crate) fn run_proxy<R: System, O: OutputStream, F: Write>(
@@ -44,10 +51,31 @@ fn serve_clients<R: System, O: OutputStream, F: Write>(
     ensures status { result ≡ FAULT }
     ensures output { session.new.output ≡ session.old.output }
 {
+    let six = six_use(session.system);
+    let listen = match addresses_of(session.alloc, proxy.listen.as_slice(), six) {
+        Ok(listen) => listen,
+        Err(memory) => return report_fault(session, ProxyFault::from(memory), proxy),
+    };
     let variables = Variables::read(session.system);
-    let request = request_of(proxy, variables.environment());
+    let request = request_of(proxy, listen.as_slice(), variables.environment());
     match serve(session.system, session.alloc, &request, &mut session.faults) {
         Err(fault) => report_fault(session, fault, proxy),
+    }
+}
+
+fn six_use<R: Net>(rt: &R) -> SixUse {
+    SixUse {
+        loopback: may_bind(rt, Ipv6Addr::LOCALHOST),
+        any: may_bind(rt, Ipv6Addr::UNSPECIFIED),
+    }
+}
+
+// Whether a socket can be bound to the address. If that is not known, as for want of a descriptor, it counts as
+// possible: listening there then says what is wrong.
+fn may_bind<R: Net>(rt: &R, ip: Ipv6Addr) -> bool {
+    match UdpSocket::bind(rt, (IpAddr::V6(ip), 0u16)) {
+        Ok(_) => true,
+        Err(error) => !matches!(error.raw_os_error(), Some(EAFNOSUPPORT | EADDRNOTAVAIL)),
     }
 }
 
@@ -74,14 +102,18 @@ fn report_fault<R, O: OutputStream, F: Write>(
 }
 
 // The options of the proxy.
-fn request_of<'a, 'p, 'q>(proxy: &'q Proxy<'p>, environment: Environment<'a>) -> ProxyRequest<'a>
+fn request_of<'a, 'p, 'q>(
+    proxy: &'q Proxy<'p>,
+    listen: &'a [SocketAddr],
+    environment: Environment<'a>,
+) -> ProxyRequest<'a>
 where
     'p: 'a,
     'q: 'a,
-    ensures { IsServed proxy.now environment.entry result }
+    ensures { IsServed proxy.now listen.now environment.entry result }
 {
     ProxyRequest {
-        listen: proxy.listen.as_slice(),
+        listen,
         allow: proxy.allow.as_slice(),
         allows_private: proxy.allows_private,
         families: families_of(proxy.only),
@@ -94,6 +126,7 @@ where
         history: proxy.history,
         log: log_of(proxy.log),
         most: proxy.most.unwrap_or(DEFAULT_SESSIONS),
+        most_per_client: proxy.most_per_client,
         idle: proxy.idle,
     }
 }

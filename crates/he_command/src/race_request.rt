@@ -1,13 +1,13 @@
-//! The line's options for a race and a look-up, as `he_connect` and `he_settings` have them.
+//! The line's options for a race and a look-up, as `he_setup` and `he_settings` have them.
 ghost use Rattle.std.specs.Prelude.{◌≡◌};
 ghost use Rattle.he_command.specs.Connection.{choice_of, families_of, lines_of, race_of};
 
 use he_addr::Family;
-use he_connect::{ConnectRequest, Families, Lines};
 use he_names::Environment;
 use he_options::Resolver;
 use he_request::Connection;
 use he_settings::Choice;
+use he_setup::{ConnectRequest, Families, Lines};
 
 // The race for a connection at this port, by a resolver configuration with this environment's changes.
 pub(crate) fn race_of<'a, 'c>(

@@ -1,4 +1,5 @@
 pub mod Families
+pub mod Listening
 pub mod Probes
 pub mod Proxies
 pub mod Requests

@@ -1,13 +1,11 @@
 -- What the line of a proxy asks for, by what clap found of its words.
-use Rattle.std.specs.Prelude.{◌≡◌, ◌⊎◌, ◌<◌, ◌+◌, ◌-◌, ◌/◌, Bool, true, false, List, [], ◌∷◌, ℕ, Result, codes, option_map}
-use Rattle.std.specs.Net.Grammar.{IsSocketText}
-use Rattle.std.specs.Net.Socket.{socket_port}
-use Rattle.std.specs.declared.net.socket_addr.SocketAddr.{SocketAddr}
+use Rattle.std.specs.Prelude.{◌≡◌, ◌+◌, ◌-◌, ◌/◌, Bool, true, false, List, [], ◌∷◌, ℕ, Result, codes, option_map}
 use Rattle.clap.specs.Matches.{first_value}
 use Rattle.clap.specs.declared.parser.matches.Found.{Found}
 use Rattle.he_addr.specs.Text.{SpellsPrefix}
 use Rattle.he_timeline.specs.Changes.{ChangeValues}
 use Rattle.he_request.specs.Families.{AsksFamily}
+use Rattle.he_request.specs.Listening.{NamesListen}
 use Rattle.he_options.specs.Resolvers.{AsksResolver}
 use Rattle.he_options.specs.Times.{time_of}
 use Rattle.he_options.specs.Words.{AsksChanges, HasFlag, HasNumber, connect_settings, values_of}
@@ -15,15 +13,6 @@ use Rattle.he_options.specs.declared.limits.TheConstants.{SECOND}
 use Rattle.he_request.specs.declared.proxy.Proxy.{Proxy}
 use Rattle.he_request.specs.declared.proxy.SessionLog.{SessionLog}
 use Rattle.he_request.specs.declared.proxy.SessionLog.TheVariants as logs
-
--- a text names an address with a port other than 0
-abbrev pub NamesAddress : List ℕ → SocketAddr → Type 0
-NamesAddress text address = IsSocketText text address × (0 < socket_port address)
-
-abbrev pub NamesNoAddress : List ℕ → Type 0
-NamesNoAddress text =
-    ((address : SocketAddr) → IsSocketText text address → ⊥)
-    ⊎ ((address : SocketAddr) × IsSocketText text address × (socket_port address ≡ 0))
 
 -- each of these is what the text at its place names
 abbrev pub AreNamed : {X : Type 0} → (List ℕ → X → Type 0) → List (List ℕ) → List X → Type 0
@@ -43,7 +32,7 @@ whole_seconds time = (time + (SECOND - 1)) / SECOND
 
 -- the addresses, the networks, the settings, the folder and the file of the line
 pub record AsksProxy {E : Type 0} (gives : List ℕ → Result ℕ E → Type 0) (found : Found) (proxy : Proxy) : Type 0 where
-  pub listen : AreNamed NamesAddress (values_of found (codes "listen")) proxy.listen.items
+  pub listen : AreNamed NamesListen (values_of found (codes "listen")) proxy.listen.items
   pub allow : AreNamed SpellsPrefix (values_of found (codes "allow")) proxy.allow.items
   pub allows_private : HasFlag found (codes "allow-private") proxy.allows_private
   pub only : AsksFamily found proxy.only
@@ -55,6 +44,7 @@ pub record AsksProxy {E : Type 0} (gives : List ℕ → Result ℕ E → Type 0)
   pub record_most : HasNumber gives found (codes "record-most") proxy.record_most
   pub history : option_map (λ path. path.now) proxy.history ≡ first_value found (codes "history")
   pub most : HasNumber gives found (codes "most") proxy.most
+  pub most_per_client : HasNumber gives found (codes "most-per-client") proxy.most_per_client
   pub idle : proxy.idle ≡ option_map whole_seconds (time_of SECOND (first_value found (codes "idle")))
   pub resolver : AsksResolver (first_value found (codes "resolver")) proxy.resolver
   pub quiet : Bool

@@ -11,8 +11,10 @@
 //! - The numbers of a request are in their ranges ([`read_words`]).
 //! - What each part of a line asks for (`specs/Requests`): the files and the settings, the rows of a comparison, the
 //!   workers, what is written of each race, the file of a page; the port, the families, and the flags; the host of a
-//!   connection and how long it waits. The addresses and networks of a proxy are those that its texts name
-//!   (`specs/Proxies`). The times of `he probe` are in their ranges (`specs/Probes`).
+//!   connection and how long it waits. The networks of a proxy are those that its texts name (`specs/Proxies`). The
+//!   times of `he probe` are in their ranges (`specs/Probes`).
+//! - Where a proxy listens, by a table of what each text of --listen names; the reader of a text gives nothing only if
+//!   the text is in no line of it (`specs/Listening`).
 //!
 //! Only tested: which words clap takes, that a request has what its part of the line asks for, and what help and
 //! faults say.
@@ -24,6 +26,7 @@ pub mod connect;
 mod draw;
 mod explain;
 pub mod host;
+pub mod listen;
 pub mod live;
 mod meant;
 pub mod names;
@@ -36,6 +39,7 @@ mod summary;
 
 pub use connect::Connection;
 pub use host::Host;
+pub use listen::{Listen, SixUse};
 pub use live::Live;
 pub use names::Names;
 pub use probe::{Probe, ProbeForm};

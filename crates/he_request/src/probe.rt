@@ -63,7 +63,7 @@ Example: `he probe www.example.com 443` may write
   2001:db8:1::1  IPv6    2001:db8:5::7    no answer  3000
   198.51.100.1   IPv4    192.0.2.7        connected     2
   IPv6 broken: 2 of 2 addresses fail. A client connects to 198.51.100.1 after
-  253 ms and loses 250: 198.51.100.1 takes 3
+  253 ms, 250 of them lost; 198.51.100.1 alone would take 3
 
 where the verdict is one line. The record has the outcome of each address, so a
 replay with other settings is the race that a client with these has:

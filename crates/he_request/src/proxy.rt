@@ -1,13 +1,14 @@
 //! `he proxy`.
-ghost use Rattle.std.specs.Prelude.{◌≡◌, ◌≤◌, IfNone, IfOk, IfSome, codes, map, option_map};
+ghost use Rattle.std.specs.Prelude.{◌≡◌, ◌≤◌, IfOk, codes, map, option_map};
 ghost use Rattle.clap.specs.Matches.{first_value, found_of};
 ghost use Rattle.he_addr.specs.Text.{SpellsPrefix};
-ghost use Rattle.he_request.specs.Proxies.{AreNamed, AsksProxy, NamesAddress, NamesNoAddress, log_of};
+ghost use Rattle.he_request.specs.Proxies.{AreNamed, AsksProxy, log_of};
 ghost use Rattle.he_request.specs.Proxies.{whole_seconds};
 ghost use Rattle.he_options.specs.Times.{time_of};
 ghost use Rattle.he_options.specs.declared.limits.TheConstants.{MOST_IDLE, SECOND};
 
 use crate::connect::{LINES_HELP, family_of, record_of};
+use crate::listen::{Listen, words_in};
 use clap::{ArgAction, ArgMatches, Command, value_parser};
 use he_addr::{Family, Memory, Prefix, read_prefix};
 use he_options::arguments::{flag, flag_of, letter, plain, value, values_of};
@@ -18,13 +19,13 @@ use he_options::time::time_of;
 use he_options::{OptionFault, Refusal, Resolver};
 use he_timeline::Settings;
 use std::alloc::Global;
-use std::net::SocketAddr;
 use std::str::FromStr;
 
 const ABOUT: &str = "Serve SOCKS 5 and HTTP proxy clients with Happy Eyeballs";
 
-const LISTEN_HELP: &str = "Serve this address and port; repeatable;\n\
-default is 127.0.0.1:1080 and [::1]:1080";
+const LISTEN_HELP: &str = "Serve this address and port; repeatable. 1080 and\n\
+localhost:1080 are 127.0.0.1 and ::1, :1080 is\n\
+all addresses; default is 1080";
 
 const ALLOW_HELP: &str = "Serve clients of NETWORK too, as 192.0.2.0/24;\n\
 repeatable. An address to listen on that is not a\nloopback address needs one";
@@ -44,6 +45,9 @@ const RECORD_MOST_HELP: &str =
 const HISTORY_HELP: &str = "Save connection times by address in FILE, for use\nafter a restart";
 
 const MOST_HELP: &str = "Serve at most N clients at once; default is 1000";
+
+const PER_CLIENT_HELP: &str =
+    "Serve at most N clients of one address at once;\nby default without limit";
 
 const IDLE_HELP: &str = "Close a tunnel that is idle for SECONDS, or as 90s;\n\
 by default none is closed";
@@ -97,6 +101,7 @@ pub(crate) fn command<'a>(alloc: Global) -> Result<Command<'a>, Memory> {
         .short('q')
         .conflicts_with("log-json")?;
     let most = value(alloc, "most", "N", MOST_HELP).long("max-clients");
+    let per_client = value(alloc, "most-per-client", "N", PER_CLIENT_HELP).long("max-per-client");
     let records = value(alloc, "record-most", "N", RECORD_MOST_HELP).long("max-records");
     let args = vec![in alloc;
         value(alloc, "listen", "ADDR:PORT", LISTEN_HELP).action(ArgAction::Append),
@@ -112,6 +117,7 @@ pub(crate) fn command<'a>(alloc: Global) -> Result<Command<'a>, Memory> {
         records.value_parser(value_parser!(u32).range(1..=i64::from(MOST_RECORDS))),
         value(alloc, "history", "FILE", HISTORY_HELP),
         most.value_parser(value_parser!(u32).range(1..=i64::from(MOST_SESSIONS))),
+        per_client.value_parser(value_parser!(u32).range(1..=i64::from(MOST_SESSIONS))),
         value(alloc, "idle", "SECONDS", IDLE_HELP),
         quiet,
         flag(
@@ -134,8 +140,8 @@ pub enum SessionLog {
 /// A proxy that serves until a signal ends it.
 #[derive(Drop)]
 pub struct Proxy<'a> {
-    /// The addresses to serve, with their ports; those of loopback where there are none.
-    pub listen: Vec<SocketAddr>,
+    /// Where to listen; at the loopback addresses if there is none.
+    pub listen: Vec<Listen>,
     /// From where clients may come, beside this machine.
     pub allow: Vec<Prefix>,
     /// Whether clients of other machines may reach private addresses.
@@ -155,6 +161,8 @@ pub struct Proxy<'a> {
     pub history: Option<&'a str>,
     /// How many sessions there may be at once, where that is given.
     pub most: Option<u32>,
+    /// How many sessions of one address there may be at once, where that is given.
+    pub most_per_client: Option<u32>,
     /// After how many seconds an idle tunnel is closed, where that is given.
     pub idle: Option<u32>,
     pub log: SessionLog,
@@ -164,7 +172,7 @@ pub struct Proxy<'a> {
 pub(crate) fn proxy_of<'a>(alloc: Global, matches: &ArgMatches<'a>) -> Result<Proxy<'a>, Refusal>
     ensures { IfOk result (AsksProxy ⟦<u32 as FromStr>⟧.from_str_gives (found_of matches.now)) }
 {
-    let listen = addresses_in(alloc, values_of(matches, "listen"))?;
+    let listen = words_in(alloc, values_of(matches, "listen"))?;
     let allow = networks_in(alloc, values_of(matches, "allow"))?;
     let settings = settings_of(changes_of(matches)?);
     let resolver = resolver_of(alloc, matches)?;
@@ -182,6 +190,7 @@ pub(crate) fn proxy_of<'a>(alloc: Global, matches: &ArgMatches<'a>) -> Result<Pr
         record_most: matches.get_one::<u32>("record-most"),
         history: matches.get_str("history"),
         most: matches.get_one::<u32>("most"),
+        most_per_client: matches.get_one::<u32>("most-per-client"),
         idle,
         log: log_of(flag_of(matches, "quiet"), flag_of(matches, "log-json")),
     })
@@ -215,35 +224,6 @@ fn log_of(is_quiet: bool, is_json: bool) -> SessionLog
         SessionLog::Json
     } else {
         SessionLog::Line
-    }
-}
-
-// The addresses to serve, one for each of these texts.
-fn addresses_in(alloc: Global, texts: &[&str]) -> Result<Vec<SocketAddr>, Refusal>
-    ensures { IfOk result (λ listen. AreNamed NamesAddress (map (λ text. text.now) texts.now) listen.items) }
-{
-    let mut listen = Vec::new(alloc);
-    for text in texts {
-        let Some(address) = read_listen(text.as_bytes()) else {
-            return Err(Refusal::Option(OptionFault::Listen));
-        };
-        match listen.push(address) {
-            Ok(()) => {}
-            Err(_) => return Err(Refusal::Memory),
-        }
-    }
-    Ok(listen)
-}
-
-// The address and the port that a text names, as `127.0.0.1:1080` and `[::1]:1080`; None for any other text, and for
-// port 0.
-fn read_listen(text: &[u8]) -> Option<SocketAddr>
-    ensures some { IfSome result (NamesAddress text.now) }
-    ensures none { IfNone result (NamesNoAddress text.now) }
-{
-    match SocketAddr::parse_ascii(text) {
-        Ok(address) if address.port() != 0 => Some(address),
-        _ => None,
     }
 }
 

@@ -1,6 +1,6 @@
 use Rattle.std.proofs.Common.{inr, subst}
 use Rattle.he_connect.specs.Races.{IsRun}
-use Rattle.he_connect.specs.declared.request.ConnectRequest.{ConnectRequest}
+use Rattle.he_setup.specs.declared.request.ConnectRequest.{ConnectRequest}
 use Rattle.he_command.proofs.Kept.{kept_after}
 use Rattle.he_command.proofs.connection.run_connect.Goals as goal
 
