@@ -24,7 +24,7 @@ word_of (kinds.Policy policies.Memory) = codes "out of memory"
 
 -- the rows of a policy table, counted from 0
 abbrev pub rows_of : TextKind → List ℕ
-rows_of (kinds.Policy (policies.Repeated row)) = decimal row ++ codes " has a prefix that stands earlier"
+rows_of (kinds.Policy (policies.Repeated row)) = decimal row ++ codes " repeats an earlier prefix"
 rows_of (kinds.Policy (policies.SharedPrecedence row later)) =
     decimal row ++ (codes " and " ++ (decimal later ++ codes " share a precedence"))
 rows_of _ = []

@@ -1,4 +1,4 @@
--- The sentence of a slip: its consequence, and the remedy.
+-- The sentence of a likely mistake: its consequence, and the remedy.
 use Rattle.std.specs.Prelude.{ℕ, ◌++◌, List, [], ◌∷◌, codes, decimal}
 use Rattle.he_addr.specs.declared.ip.Family.TheVariants as families
 use Rattle.he_check.specs.declared.slips.Slip.{Slip}
@@ -10,8 +10,8 @@ sentence_of NoRace = codes "the input has no race: a race begins with the line `
 sentence_of NoSource = codes "this race has no `source` line, so every address counts as unreachable: add the output of `he host`"
 sentence_of IdleFloor =
     codes "the floor of this race is its attempt delay, so it changes nothing: set a lower one, or none"
-sentence_of (NoRoute families.V6) = codes "the host of this race has an IPv6 source and no IPv6 route, so it reaches no IPv6 address: write a route, as `route ::/0 1`"
-sentence_of (NoRoute families.V4) = codes "the host of this race has an IPv4 source and no IPv4 route, so it reaches no IPv4 address: write a route, as `route 0.0.0.0/0 1`"
+sentence_of (NoRoute families.V6) = codes "this race has an IPv6 source but no IPv6 route, so no IPv6 address is reachable: add a route, as `route ::/0 1`"
+sentence_of (NoRoute families.V4) = codes "this race has an IPv4 source but no IPv4 route, so no IPv4 address is reachable: add a route, as `route 0.0.0.0/0 1`"
 sentence_of (NoAnswer families.V6) = codes "this race has no `aaaa` line, so it waits for that answer until its limit: if the name has no IPv6 address, write `aaaa TICK none`"
 sentence_of (NoAnswer families.V4) =
     codes "this race has no `a` line, so it waits for that answer until its limit: if the name has no IPv4 address, write `a TICK none`"
@@ -21,8 +21,8 @@ sentence_of (LateAnswer families.V4) =
 sentence_of (UnusableAnswer families.V6) = codes "no address of this race's aaaa line may be tried, as each is unspecified, multicast or in ::ffff:0:0/96: write others, or `none`"
 sentence_of (UnusableAnswer families.V4) =
     codes "no address of this race's a line may be tried, as each is unspecified or multicast: write others, or `none`"
-sentence_of (NoSourceOf families.V6) = codes "the host of this race has no IPv6 source, so it reaches no address of the aaaa line: write its IPv6 addresses, or `aaaa TICK none`"
-sentence_of (NoSourceOf families.V4) = codes "the host of this race has no IPv4 source, so it reaches no address of the a line: write its IPv4 addresses, or `a TICK none`"
+sentence_of (NoSourceOf families.V6) = codes "this race has no IPv6 source, so no address of its aaaa line is reachable: add a `source` line, or write `aaaa TICK none`"
+sentence_of (NoSourceOf families.V4) = codes "this race has no IPv4 source, so no address of its a line is reachable: add a `source` line, or write `a TICK none`"
 sentence_of (LateOutcome families.V6) = codes "an outcome of an IPv6 address of this race comes after its limit and is never seen: set a higher limit, or a shorter time"
 sentence_of (LateOutcome families.V4) = codes "an outcome of an IPv4 address of this race comes after its limit and is never seen: set a higher limit, or a shorter time"
 sentence_of Unanswered =

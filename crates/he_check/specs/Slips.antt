@@ -1,4 +1,4 @@
--- Entries of a race and its record that are allowed, but surely not meant, and the warnings of an input about them.
+-- Entries of a race and its record that are allowed, but likely mistakes, and the warnings of an input about them.
 use Rattle.std.specs.Prelude.{ℕ, ◌≡◌, ◌+◌, ◌-◌, ◌==◌, ◌++◌, ◌&&◌, ◌||◌, Bool, false, not, List, [], ◌∷◌, length, map, nat_lt, if◌then◌else◌, Option, Some, None}
 use Rattle.std.specs.List.{list_any}
 use Rattle.std.specs.Option.{option_map_or}

@@ -18,9 +18,9 @@ pub struct Checked {
     pub lines: u64,
 }
 
-/// Reads the races of an input one by one, counts them and the input's lines, and returns a warning for each slip of
-/// a race, in the order of the races, or for an input without races. `is_broken`: the input broke off after these
-/// bytes.
+/// Reads the races of an input one by one, counts them and the input's lines, and returns a warning for each likely
+/// mistake in a race, in the order of the races, or for an input without races. `is_broken`: the input broke off after
+/// these bytes.
 ///
 /// # Errors
 ///

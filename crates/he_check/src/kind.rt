@@ -48,7 +48,7 @@ fn append_rows<A: Allocator + Copy>(kind: TextKind, text: &mut Vec<u8, A>) -> Re
     match kind {
         TextKind::Policy(PolicyFault::Repeated(row)) => {
             write_number(row as u64, text)?;
-            text.extend_from_slice(b" has a prefix that stands earlier")?;
+            text.extend_from_slice(b" repeats an earlier prefix")?;
             Ok(())
         }
         TextKind::Policy(PolicyFault::SharedPrecedence(row, later)) => {

@@ -1,4 +1,4 @@
-//! Entries of a race and its record that are allowed, but surely not meant.
+//! Entries of a race and its record that are allowed, but likely mistakes.
 ghost use Rattle.std.specs.Prelude.{◌≡◌, ◌+◌, ◌<◌, ◌^◌, ◌++◌, length, map, OnOk};
 ghost use Rattle.std.specs.List.{list_any};
 ghost use Rattle.he_addr.specs.Ip.{is_of, is_usable};
@@ -13,7 +13,7 @@ use he_select::{Host, Route, Source};
 use he_timeline::{Outcome, Settings, Timeline};
 use std::alloc::Allocator;
 
-/// An entry of a race that is allowed, but surely not meant. It is no fault: the race is replayed as written.
+/// An entry of a race that is allowed, but likely a mistake. It is no fault: the race is replayed as written.
 #[derive(Clone, Copy, Debug, PartialEq, Eq)]
 pub enum Slip {
     /// The input has no race.
@@ -40,17 +40,17 @@ pub enum Slip {
     Unanswered,
 }
 
-/// A slip of a race of an input, or of its record.
+/// A likely mistake in a race of an input, or in its record.
 #[derive(Clone, Copy, Debug, PartialEq, Eq)]
 pub struct Warning {
     /// The line of an unanswered address; otherwise the first line of the race, record lines included. Lines are
     /// counted over the whole input from 1; 1 if the input has no race.
     pub line: u64,
-    /// The slip.
+    /// The likely mistake.
     pub slip: Slip,
 }
 
-// Appends a warning for each slip of a race and its record, which begin on this line.
+// Appends a warning for each likely mistake in a race and its record, which begin on this line.
 pub(crate) fn add_warnings<A: Allocator, B: Allocator, C: Allocator>(
     told: &Record<'_, C>,
     race: &Timeline<B>,

@@ -35,7 +35,7 @@ fn append_warning<A: Allocator + Copy>(
     Ok(())
 }
 
-// The consequence of the slip, and the remedy.
+// The consequence of the likely mistake, and the remedy.
 pub(crate) fn sentence(slip: Slip) -> &'static [u8]
     ensures { result.now ≡ sentence_of slip }
 {
@@ -46,9 +46,9 @@ pub(crate) fn sentence(slip: Slip) -> &'static [u8]
         Slip::IdleFloor =>
             b"the floor of this race is its attempt delay, so it changes nothing: set a lower one, or none",
         Slip::NoRoute(Family::V6) =>
-            b"the host of this race has an IPv6 source and no IPv6 route, so it reaches no IPv6 address: write a route, as `route ::/0 1`",
+            b"this race has an IPv6 source but no IPv6 route, so no IPv6 address is reachable: add a route, as `route ::/0 1`",
         Slip::NoRoute(Family::V4) =>
-            b"the host of this race has an IPv4 source and no IPv4 route, so it reaches no IPv4 address: write a route, as `route 0.0.0.0/0 1`",
+            b"this race has an IPv4 source but no IPv4 route, so no IPv4 address is reachable: add a route, as `route 0.0.0.0/0 1`",
         Slip::NoAnswer(Family::V6) =>
             b"this race has no `aaaa` line, so it waits for that answer until its limit: if the name has no IPv6 address, write `aaaa TICK none`",
         Slip::NoAnswer(Family::V4) =>
@@ -62,9 +62,9 @@ pub(crate) fn sentence(slip: Slip) -> &'static [u8]
         Slip::UnusableAnswer(Family::V4) =>
             b"no address of this race's a line may be tried, as each is unspecified or multicast: write others, or `none`",
         Slip::NoSourceOf(Family::V6) =>
-            b"the host of this race has no IPv6 source, so it reaches no address of the aaaa line: write its IPv6 addresses, or `aaaa TICK none`",
+            b"this race has no IPv6 source, so no address of its aaaa line is reachable: add a `source` line, or write `aaaa TICK none`",
         Slip::NoSourceOf(Family::V4) =>
-            b"the host of this race has no IPv4 source, so it reaches no address of the a line: write its IPv4 addresses, or `a TICK none`",
+            b"this race has no IPv4 source, so no address of its a line is reachable: add a `source` line, or write `a TICK none`",
         Slip::LateOutcome(Family::V6) =>
             b"an outcome of an IPv6 address of this race comes after its limit and is never seen: set a higher limit, or a shorter time",
         Slip::LateOutcome(Family::V4) =>

@@ -8,8 +8,8 @@ ghost use Rattle.he_compare.specs.Groups.{GroupsAddUp};
 
 use he_plan::laws::one_transcript;
 
-/// What is summed over the races of each group is over all groups what it is over all races: the lost time of all
-/// files, hours, families or hosts is that of all races.
+/// The sums of the groups add up to those of all races: the lost time of all files, hours, families or hosts is that
+/// of all races.
 pub fn groups_add_up()
     ensures { GroupsAddUp }
 {}

@@ -7,7 +7,7 @@
 //!
 //! ```text
 //!   p50 ms  p90 ms  p99 ms  attempts       IPv6  sooner   later    same  only with  only without  unknown  settings
-//!      300     300     300      2.00      0.0 %       0       0       1          0             0        0  as they stand
+//!      300     300     300      2.00      0.0 %       0       0       1          0             0        0  as recorded
 //!       60      60      60      2.00      0.0 %       1       0       0          0             0        0  floor=10
 //! ```
 //!

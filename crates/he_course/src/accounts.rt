@@ -35,7 +35,7 @@ pub struct Account<A: Allocator> {
     /// Connecting to the address that won.
     pub connecting: u64,
 
-    /// What was lost: the sum of `tried` and `nobody`.
+    /// The time lost: the sum of `tried` and `nobody`.
     pub lost: u64,
 }
 

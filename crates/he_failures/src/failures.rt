@@ -1,4 +1,4 @@
-//! What record lines say of a look-up: why a family has no address, and which name servers gave no answer.
+//! Record lines of a look-up: why a family has no address, and which name servers gave no answer.
 
 ghost use Rattle.std.specs.Prelude.{◌≡◌, ◌++◌, ◌∷◌, [], IfOk, OnOk};
 ghost use Rattle.std.specs.List.{list_any};

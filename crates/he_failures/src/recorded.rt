@@ -12,7 +12,7 @@ use he_settings::NamesFault;
 use std::alloc::Global;
 use std::mem::drop;
 
-/// What is known of a look-up that has ended.
+/// The facts known of a look-up that has ended.
 #[derive(Clone, Copy)]
 pub struct HeardFaults<'e> {
     /// Why IPv6 has no address, if it has none.
@@ -23,7 +23,7 @@ pub struct HeardFaults<'e> {
     pub events: &'e [LookupEvent],
 }
 
-/// The record lines of a look-up, to stand before the race that has its answers: the time at which it began, why a
+/// The record lines of a look-up, to precede the race that has its answers: the time at which it began, why a
 /// family has no address, and the name servers that gave no answer.
 ///
 /// # Errors

@@ -14,7 +14,7 @@ meaning_of Name =
     codes "names are not looked up here: write the addresses, which `he names NAME` finds, or see `he connect`"
 meaning_of DefaultRoute = codes "`default` is written as the prefix 0.0.0.0/0 or ::/0"
 meaning_of IpOutput =
-    codes "`ip` prints this: `he host` writes the addresses and routes of this machine as lines of a race"
+    codes "`ip` prints this: write the lines that `he host` prints"
 meaning_of Device = codes "write the interface's number, not its name: `ip address` prints `2: eth0`"
 meaning_of Unit = codes "write `20`, not `20ms`: times are in milliseconds, without a unit"
 meaning_of Sign = codes "a number has no sign"

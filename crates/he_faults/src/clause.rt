@@ -105,8 +105,7 @@ fn meaning(meant: Meant) -> &'static [u8]
         Meant::Name =>
             b"names are not looked up here: write the addresses, which `he names NAME` finds, or see `he connect`",
         Meant::DefaultRoute => b"`default` is written as the prefix 0.0.0.0/0 or ::/0",
-        Meant::IpOutput =>
-            b"`ip` prints this: `he host` writes the addresses and routes of this machine as lines of a race",
+        Meant::IpOutput => b"`ip` prints this: write the lines that `he host` prints",
         Meant::Device =>
             b"write the interface's number, not its name: `ip address` prints `2: eth0`",
         Meant::Unit => b"write `20`, not `20ms`: times are in milliseconds, without a unit",

@@ -63,7 +63,7 @@ fn general_sentence(kind: TextKind) -> &'static str {
         TextKind::Header => NO_HEADER,
         TextKind::Word => "unknown keyword, or the wrong number of words",
         TextKind::Number => "a number is one to ten digits without leading zeros",
-        TextKind::Address => "not a valid address, or one that may not stand here",
+        TextKind::Address => "not a valid address, or not allowed here",
         TextKind::Prefix => "not a valid prefix or source",
         TextKind::Repeated => "something is given twice that may be given once",
         TextKind::Range => "a number is out of its range",

@@ -217,10 +217,10 @@ fn address_flaw(family: Family, line: &[u8], text: &[u8]) -> Option<Sentence> {
         return None;
     }
     if is_none {
-        return Some(Sentence::Plain("`none` stands alone, in place of the addresses"));
+        return Some(Sentence::Plain("`none` is written without addresses"));
     }
     Some(Sentence::Plain(match (family, read_ip(text)) {
-        (Family::V6, Some(_)) => "an IPv4 address stands on the a line, not on the aaaa line",
+        (Family::V6, Some(_)) => "IPv4 addresses belong on the `a` line",
         (Family::V4, Some(_)) => "IPv6 addresses belong on the `aaaa` line",
         (Family::V6, None) => "this is no IPv6 address",
         (Family::V4, None) => "this is no IPv4 address",

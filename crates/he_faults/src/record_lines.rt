@@ -254,9 +254,9 @@ fn given_above(word: RecordWord) -> &'static str {
         RecordWord::At => "the record has a time above",
         RecordWord::To => "the record has a host and a port above",
         RecordWord::From => "the record has a client above",
-        RecordWord::Lookup => "the look-up of this family stands above",
+        RecordWord::Lookup => "this family has a `lookup` line above",
         RecordWord::Attempt | RecordWord::Untried => "this address has a line above",
-        _ => "the end of the client stands above",
+        _ => "the client's own result is above",
     }
 }
 

@@ -20,11 +20,11 @@ fn given_above(word: Word) -> &'static str {
     match word {
         Word::Set => "the race has this setting above",
         Word::Policy => "the table has a row of this prefix above",
-        Word::Source => "the host has a source with this address above",
-        Word::Route => "the host has a route of this prefix above",
-        Word::Rtt => "the round trip time of this address stands above",
+        Word::Source => "a source with this address is above",
+        Word::Route => "a route with this prefix is above",
+        Word::Rtt => "this address has an `rtt` line above",
         Word::Used => "this address has a `used` line above",
-        _ => "the outcome for this address stands above",
+        _ => "this address has a `connect` line above",
     }
 }
 
@@ -63,10 +63,7 @@ fn find_answer(place: Place<'_>, word: Word) -> Option<(usize, Sentence)> {
         }
     }
     let at = find_twin(place.line)?;
-    Some((
-        at,
-        Sentence::Plain("this address stands in the answer already"),
-    ))
+    Some((at, Sentence::Plain("this address is in the answer already")))
 }
 
 // The place of the first address of an answer that is earlier in the answer too.

@@ -240,8 +240,8 @@ fn ask_host<R: Net + AllocGlobal>(
     Ok(found)
 }
 
-/// Appends the lines of this machine, and a remark for each thing that is left out or is a guess, and for each file
-/// that exists but can't be read.
+/// Appends the `source` and `route` lines of this machine, and a remark for each thing that is left out or is a guess,
+/// and for each file that exists but can't be read.
 ///
 /// # Errors
 ///

@@ -5,7 +5,7 @@ use std::alloc::AllocFailed;
 use std::io;
 use thiserror::Error;
 
-/// Why the lines of this machine are not written.
+/// Why this machine's source and route lines are not written.
 #[derive(Clone, Copy, Debug, PartialEq, Eq, Error)]
 pub enum MachineFault {
     /// `/proc/net/route` or `/proc/net/fib_trie` can't be read.

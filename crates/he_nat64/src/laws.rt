@@ -2,7 +2,7 @@
 
 ghost use Rattle.he_nat64.specs.Laws.{EmbeddedIsExtracted, ExtractedIsEmbedded, PrefixIsShown};
 
-/// What a prefix embeds is extracted again, and all other bits are zero. Runs nothing.
+/// An address that a prefix embeds is extracted again, and all other bits are zero. Runs nothing.
 pub fn embedded_is_extracted()
     ensures { EmbeddedIsExtracted }
 {}

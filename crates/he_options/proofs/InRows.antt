@@ -46,7 +46,7 @@ label_more texts row next words label labels is same joins before =
     let made : label ≡ label_in texts row = joins ∙ joined (codes " ") words ∙ ap (join_by (λ word. word) (codes " ")) same in
     let more : map (label_in texts) (range_with_len 0 next) ≡ map (label_in texts) (range_with_len 0 row) ++ label_in texts row ∷ [] =
     ap (λ n. map (label_in texts) (range_with_len 0 n)) (is ∙ plus row) ∙ map-range_with_len_more (label_in texts) 0 row row (omega arith) in
-    ap (λ list. list ++ label ∷ []) before ∙ ap (λ last. first_labels row texts ++ last ∷ []) made ∙ sym (ap (λ list. codes "as they stand" ∷ list) more)
+    ap (λ list. list ++ label ∷ []) before ∙ ap (λ last. first_labels row texts ++ last ∷ []) made ∙ sym (ap (λ list. codes "as recorded" ∷ list) more)
 
 pub lent_or : (word : Option (Bor (List ℕ))) (otherwise : Bor (List ℕ)) → (unwrap_or word otherwise).now ≡ unwrap_or (option_map (λ w. w.now) word) otherwise.now
 lent_or None otherwise = refl

@@ -33,7 +33,7 @@ row_count (text ∷ more) = max (length (numbers_in (list_of text))) (row_count 
 abbrev pub AsksRow : List (List ℕ) → ℕ → ChangeValues → Type 0
 AsksRow texts row = AsksSettings (map (text_in row) texts) None
 
--- the races as they stand, and then so many rows
+-- the recorded settings, and then `count` rows
 abbrev pub AreFirstRows : ℕ → List (List ℕ) → List ChangeValues → Type 0
 AreFirstRows count texts [] = ⊥
 AreFirstRows count texts (first ∷ rows) =
@@ -48,7 +48,7 @@ abbrev pub label_in : List (List ℕ) → ℕ → List ℕ
 label_in texts row = join_by (λ text. text) (codes " ") (map (text_in row) texts)
 
 abbrev pub first_labels : ℕ → List (List ℕ) → List (List ℕ)
-first_labels count texts = codes "as they stand" ∷ map (label_in texts) (range_with_len 0 count)
+first_labels count texts = codes "as recorded" ∷ map (label_in texts) (range_with_len 0 count)
 
 abbrev pub labels_of : List (List ℕ) → List (List ℕ)
 labels_of texts = first_labels (row_count texts) texts

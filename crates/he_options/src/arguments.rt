@@ -11,7 +11,7 @@ use he_addr::Memory;
 use std::alloc::Global;
 use std::str::FromStr;
 
-/// The name that stands for standard input, or for standard output.
+/// The name for standard input or standard output.
 pub const STANDARD: &str = "-";
 
 /// The help of the files that a command reads.
@@ -64,7 +64,7 @@ pub fn value<'a>(alloc: Global, id: &'a str, name: &'a str, help: &'a str) -> Ar
     Arg::new(alloc, id).long(id).value_name(name).help(help)
 }
 
-/// A word that stands on the line by its place.
+/// An operand.
 pub fn word<'a>(alloc: Global, id: &'a str, name: &'a str, help: &'a str) -> Arg<'a> {
     Arg::new(alloc, id).value_name(name).help(help)
 }

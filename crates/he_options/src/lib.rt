@@ -13,7 +13,7 @@
 //! - The port is the number that the word says, or the name of a service by its form (`specs/Ports`). The text of a
 //!   resolver names an address, at port 53, or one with a port other than 0 (`specs/Resolvers`); a time is as `5s`,
 //!   `500ms`, or a number alone (`specs/Times`).
-//! - Help is told from words that are wrong and from want of memory (`specs/Refusals`).
+//! - Help, wrong words and lack of memory are distinguished (`specs/Refusals`).
 //! - A word as a terminal may show it has no character that controls one (`specs/Shown`).
 //!
 //! Only tested: which words clap takes, and what help and faults say.

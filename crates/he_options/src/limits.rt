@@ -1,6 +1,6 @@
 //! The limits of the command line.
 
-/// The least, the default and the most workers. The default stands as clap reads it, too.
+/// The least, the default and the most workers. The default also as the text that clap reads.
 pub const LEAST_WORKERS: u16 = 1;
 
 pub const DEFAULT_WORKERS: u16 = 4;

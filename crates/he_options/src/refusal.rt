@@ -49,7 +49,7 @@ pub enum OptionFault {
     Check,
     #[error("'--json' goes with `-z`, and not with `--record -`: nothing else may have standard output")]
     Json,
-    #[error("invalid value for '--listen <ADDR:PORT>': expected an address and a port, as 127.0.0.1:1080 or [::1]:1080")]
+    #[error("invalid value for '--listen <ADDR:PORT>': expected an address and a port, as 127.0.0.1:1080, [::1]:1080 or localhost:1080, or a port, as 1080 or :1080")]
     Listen,
     #[error("invalid value for '--allow <NETWORK>': expected a prefix with no bit set past its length, as 192.0.2.0/24")]
     Network,

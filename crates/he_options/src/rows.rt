@@ -24,7 +24,7 @@ pub struct Rows {
     pub labels: Vec<String>,
 }
 
-/// The rows of a comparison: the races as they stand, and the settings that the line gives, one row for each number of
+/// The rows of a comparison: the recorded settings, and the settings that the line gives, one row for each number of
 /// a list.
 ///
 /// # Errors
@@ -41,7 +41,7 @@ pub fn rows_of(alloc: Global, matches: &ArgMatches<'_>) -> Result<Rows, Refusal>
     let mut changes = Vec::new(alloc);
     let mut labels = Vec::new(alloc);
     push(Changes::none(), &mut changes)?;
-    push(String::from_str(alloc, "as they stand")?, &mut labels)?;
+    push(String::from_str(alloc, "as recorded")?, &mut labels)?;
     for row in 0..row_count(texts)? {
         let made = texts_in(alloc, row, texts)?;
         let words = words_of(alloc, made.as_slice())?;

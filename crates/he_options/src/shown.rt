@@ -22,7 +22,7 @@ pub fn shown(alloc: Global, text: &str) -> Result<String, Memory>
     Ok(made)
 }
 
-/// The same of a text of several lines, which stay lines; a backslash stays one.
+/// A text of several lines, shown in this way; lines stay lines, and a backslash stays one.
 ///
 /// # Errors
 ///

@@ -12,10 +12,10 @@ use clap::ArgMatches;
 use he_timeline::Changes;
 use std::alloc::Global;
 
-/// What is done with a text of races.
+/// A command over texts of races.
 #[derive(Clone, Copy)]
 pub enum Task {
-    /// To write this of each race, by at most so many workers, 1 to 64.
+    /// To write this of each race, by at most this number of workers, 1 to 64.
     Write {
         content: Content,
         workers: u16,
@@ -26,20 +26,20 @@ pub enum Task {
         is_json: bool,
         tells_races: bool,
     },
-    /// To check it, and to explain its first fault, or each after which it goes on, or to warn of its slips; as JSON,
-    /// or in lines.
+    /// To check it, and to explain its first fault, or each after which it goes on, or to warn of its likely mistakes;
+    /// as JSON, or in lines.
     Check {
         is_all: bool,
         is_json: bool,
     },
-    /// To sum its races up with those of the other texts, as JSON, as metrics or in lines, with so many of the slowest
-    /// ones.
+    /// To sum its races up with those of the other texts, as JSON, as metrics or in lines, with this number of
+    /// the slowest.
     Summarize {
         is_json: bool,
         is_metrics: bool,
         slowest: u16,
     },
-    /// The same in groups: as JSON, or in a table.
+    /// A summary in groups: as JSON, or in a table.
     Group {
         is_json: bool,
         by: By,
@@ -56,20 +56,20 @@ pub enum By {
     Host,
 }
 
-/// What is written of a race.
+/// The output for a race.
 #[derive(Clone, Copy)]
 pub enum Content {
-    /// What happens in it, as JSON or in lines.
+    /// Its events, as JSON or in lines.
     Transcript { is_json: bool },
     /// In which order its addresses are to be tried.
     Order { is_json: bool },
     /// Why it went as it did, as JSON.
     ExplanationJson,
-    /// The same for a person to read.
+    /// Its story, for a person to read.
     Story,
-    /// Its picture, of so many columns.
+    /// Its picture, in this many columns.
     Picture { is_ascii: bool, width: u16 },
-    /// The same as an SVG image.
+    /// A picture of it as an SVG image.
     Image,
     /// Its part of a page.
     Section,

@@ -12,7 +12,7 @@ use he_addr::read_number;
 
 const TIMEOUT: &str = "--timeout";
 
-/// The milliseconds, 1 to the most, that an option has, of which a number alone counts units of so many milliseconds;
+/// The milliseconds, 1 to the most, that an option has, of which a number alone counts units of `unit` milliseconds;
 /// None where the line has no such option.
 ///
 /// # Errors

@@ -6,15 +6,15 @@ use Rattle.std.specs.Global.{Global}
 use Rattle.he_addr.specs.declared.ip.Family.{Family}
 use Rattle.he_addr.specs.declared.ip.Family.TheVariants as families
 use Rattle.he_addr.specs.declared.ip.Ip.{Ip}
-use Rattle.he_connect.specs.Embedded.{MayEmbed}
+use Rattle.he_setup.specs.Embedding.{MayEmbed}
 use Rattle.he_connect.specs.Origins.{AnswersBy, ComesFor, Origins}
-use Rattle.he_connect.specs.Races.{IsSetUp}
-use Rattle.he_connect.specs.Start.{with_families}
-use Rattle.he_connect.specs.declared.fault.ConnectFault.{ConnectFault}
-use Rattle.he_connect.specs.declared.request.ConnectRequest.{ConnectRequest}
-use Rattle.he_connect.specs.declared.request.Families.{Families}
-use Rattle.he_connect.specs.declared.request.Families.TheVariants as tried
-use Rattle.he_connect.specs.declared.setup.Setup.{Setup}
+use Rattle.he_setup.specs.Races.{IsSetUp}
+use Rattle.he_setup.specs.Start.{with_families}
+use Rattle.he_setup.specs.declared.fault.ConnectFault.{ConnectFault}
+use Rattle.he_setup.specs.declared.request.ConnectRequest.{ConnectRequest}
+use Rattle.he_setup.specs.declared.request.Families.{Families}
+use Rattle.he_setup.specs.declared.request.Families.TheVariants as tried
+use Rattle.he_setup.specs.declared.setup.Setup.{Setup}
 use Rattle.he_course.specs.Addresses.{all_attributes_of, preferred}
 use Rattle.he_course.specs.Course.{IsCourse}
 use Rattle.he_course.specs.declared.course.Course.{Course}

@@ -1,8 +1,8 @@
 -- The record of a round: the answers of the host, and the outcome of each address.
 use Rattle.std.specs.Prelude.{ℕ, ◌≡◌, Bool, List, [], ◌∷◌, Option, Some, None, Result, Ok, Err}
-use Rattle.he_connect.specs.Recorded.{IsFactsFor}
-use Rattle.he_connect.specs.declared.recorded.KnownFacts.{KnownFacts}
-use Rattle.he_connect.specs.declared.request.ConnectRequest.{ConnectRequest}
+use Rattle.he_setup.specs.Recorded.{IsFactsFor}
+use Rattle.he_setup.specs.declared.recorded.KnownFacts.{KnownFacts}
+use Rattle.he_setup.specs.declared.request.ConnectRequest.{ConnectRequest}
 use Rattle.he_inputs.specs.Recorded.{IsRecordedAs}
 use Rattle.he_probe.specs.declared.probe.ProbeRow.{ProbeRow}
 use Rattle.he_probing.specs.Rows.{failures_of}

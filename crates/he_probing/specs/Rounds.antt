@@ -1,10 +1,10 @@
 -- A round of probes of a host.
 use Rattle.std.specs.Prelude.{◌≡◌, ◌≤◌, Bool, true, List, map}
-use Rattle.he_connect.specs.Embedded.{MayEmbed}
+use Rattle.he_setup.specs.Embedding.{MayEmbed}
 use Rattle.he_connect.specs.Origins.{AnswersBy, ComesFor, Origins}
-use Rattle.he_connect.specs.Races.{Begins}
-use Rattle.he_connect.specs.declared.request.ConnectRequest.{ConnectRequest}
-use Rattle.he_connect.specs.declared.request.Families.{Families}
+use Rattle.he_setup.specs.Races.{Begins}
+use Rattle.he_setup.specs.declared.request.ConnectRequest.{ConnectRequest}
+use Rattle.he_setup.specs.declared.request.Families.{Families}
 use Rattle.he_course.specs.Course.{IsCourse}
 use Rattle.he_live.specs.declared.endpoint.Endpoint.{Endpoint}
 use Rattle.he_timeline.specs.Building.{unrecorded}

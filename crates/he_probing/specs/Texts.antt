@@ -58,14 +58,14 @@ connection_text winner end =
 -- the milliseconds that a client loses, if it loses any
 abbrev pub lost_text : Option ℕ → List ℕ
 lost_text None = []
-lost_text (Some ticks) = if nat_lt 0 ticks then codes " and loses " ++ decimal ticks else []
+lost_text (Some ticks) = if nat_lt 0 ticks then codes ", " ++ (decimal ticks ++ codes " of them lost") else []
 
 -- the fastest address, if it is sooner than the client's connection
 abbrev pub fastest_text : Option Fastest → ℕ → List ℕ
 fastest_text None end = []
 fastest_text (Some fastest) end =
     if nat_lt fastest.ticks end
-    then codes ": " ++ (printed fastest.ip ++ (codes " takes " ++ decimal fastest.ticks))
+    then codes "; " ++ (printed fastest.ip ++ (codes " alone would take " ++ decimal fastest.ticks))
     else []
 
 -- the tick at which the client's race ends
@@ -101,10 +101,11 @@ moment_before (Some moment) = moment_text moment ++ codes " "
 abbrev pub heading_text : List ℕ → ℕ → Option Moment → List ℕ
 heading_text host port at = moment_before at ++ (host ++ (codes " port " ++ decimal port))
 
--- how many of the rows connect
+-- how many of the rows connect, or that there are none
 abbrev pub summary_text : List AddressRow → List ℕ
 summary_text rows =
-    codes ": " ++ (decimal (count_by has_connected rows) ++ (codes " of " ++ (decimal (length rows)
+    if length rows == 0 then codes ": no address\n"
+    else codes ": " ++ (decimal (count_by has_connected rows) ++ (codes " of " ++ (decimal (length rows)
     ++ (if length rows == 1 then codes " address connects\n" else codes " addresses connect\n"))))
 
 -- the heading and the verdict, in one line

@@ -25,7 +25,7 @@
 //! All this holds if the calls return: they wait for the system.
 //!
 //! Tested only: that no address has two rows; the table, the metrics and the counts of several rounds; the reasons of
-//! failures, the time, and what is tested only in `he_connect` and `he_live`.
+//! failures, the time, and what is tested only in `he_setup`, `he_connect` and `he_live`.
 #![tactic(auto)]
 
 mod columns;

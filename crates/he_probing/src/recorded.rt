@@ -5,15 +5,15 @@ ghost use Rattle.he_probing.specs.Rows.{failure_of, is_failed_attempt};
 
 use crate::rows::AddressRow;
 use he_addr::Memory;
-use he_connect::{ConnectRequest, FamilyFaults, KnownFacts, facts_for};
 use he_record::Moment;
 use he_record::nat64::Nat64Prefix;
 use he_recording::{AttemptFailure, ServerFailure, Target, text_of};
+use he_setup::{ConnectRequest, FamilyFaults, KnownFacts, facts_for};
 use he_timeline::{Outcome, Timeline};
 use std::alloc::Global;
 use std::mem::drop;
 
-/// What is known of a round beside its timeline.
+/// The facts known of a round beside its timeline.
 #[derive(Clone, Copy)]
 pub struct RoundNotes<'n> {
     /// The time of tick 0.

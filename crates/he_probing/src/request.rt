@@ -1,6 +1,6 @@
 //! The request of a round of probes.
 
-use he_connect::ConnectRequest;
+use he_setup::ConnectRequest;
 
 /// The most milliseconds between the starts of two attempts, and the most that an attempt has.
 pub const MAX_PACE: u64 = 5_000;

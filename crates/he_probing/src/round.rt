@@ -1,6 +1,6 @@
 //! A round of probes.
 ghost use Rattle.std.specs.Prelude.{◌≡◌, ◌≤◌, ◌+◌, ◌*◌, IfOk, length};
-ghost use Rattle.he_connect.specs.Races.{KnowsHost};
+ghost use Rattle.he_setup.specs.Races.{KnowsHost};
 ghost use Rattle.he_turns.specs.declared.limits.TheConstants.{MAX_POLL_TICK};
 ghost use Rattle.he_probing.specs.Rounds.{IsInRange, IsJudged, IsRound, IsRoundFrom};
 
@@ -11,16 +11,17 @@ use crate::request::RoundRequest;
 use crate::rows::{AddressRow, addresses_of, rows_of};
 use crate::verdict::{Verdict, verdict_of};
 use he_addr::{Ip, Memory};
-use he_connect::{
-    ConnectFault, FamilyFaults, LookupFaults, Nat64, OwnMachine, RaceAnswers, Setup, Telling,
-    is_by_nat64, look_up, nat64_prefixes, set_up_any, write_untranslated,
-};
+use he_connect::{RaceAnswers, Telling, look_up};
 use he_course::Course;
 use he_live::{Endpoint, ProbeRequest, Steps, gather_on, probe_on};
 use he_record::Moment;
 use he_recording::moment_now;
 use he_resolver::SystemResolver;
 use he_settings::NamesFault;
+use he_setup::{
+    ConnectFault, FamilyFaults, LookupFaults, Nat64, OwnMachine, Setup, is_by_nat64,
+    nat64_prefixes, set_up_any, write_untranslated,
+};
 use he_timeline::Timeline;
 use he_timeline::limits::MAX_ATTEMPTS;
 use std::alloc::{AllocGlobal, Global};

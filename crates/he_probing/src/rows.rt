@@ -5,10 +5,10 @@ ghost use Rattle.he_probe.specs.Probing.{row_ip};
 ghost use Rattle.he_probing.specs.Rows.{has_connected, preferred_ip, probe_of};
 
 use he_addr::{Ip, Memory};
-use he_connect::{Nat64, embedded_host};
 use he_course::Preferred;
 use he_live::{Reason, Steps};
 use he_probe::ProbeRow;
+use he_setup::{Nat64, embedded_host};
 use he_timeline::Outcome;
 use std::alloc::Global;
 

@@ -83,11 +83,14 @@ pub fn heading_of(
     Ok(text)
 }
 
-// How many of the rows connect.
+// How many of the rows connect, or that there are none.
 #[tactic(auto, using(std::proofs::lemmas::List::append_assoc))]
 fn write_summary(rows: &[AddressRow], text: &mut Vec<u8>) -> Result<(), Memory>
     ensures { OnOk result (text.new.items ≡ text.old.items ++ summary_text rows.now) }
 {
+    if rows.len() == 0 {
+        return write_words(b": no address\n", text);
+    }
     let noun: &'static [u8] = if rows.len() == 1 {
         b" address connects\n"
     } else {
@@ -256,7 +259,11 @@ fn write_lost(lost: Option<u64>, text: &mut Vec<u8>) -> Result<(), Memory>
 {
     match lost {
         Some(lost) if lost > 0 => {
-            let parts: [Piece; 2] = [Part::Words(b" and loses "), Part::Number(lost)];
+            let parts: [Piece; 3] = [
+                Part::Words(b", "),
+                Part::Number(lost),
+                Part::Words(b" of them lost"),
+            ];
             write_parts(&parts, text)
         }
         _ => Ok(()),
@@ -270,9 +277,9 @@ fn write_fastest(fastest: Option<Fastest>, end: u64, text: &mut Vec<u8>) -> Resu
     match fastest {
         Some(fastest) if fastest.ticks < end => {
             let parts: [Piece; 4] = [
-                Part::Words(b": "),
+                Part::Words(b"; "),
                 Part::Ip(fastest.ip),
-                Part::Words(b" takes "),
+                Part::Words(b" alone would take "),
                 Part::Number(fastest.ticks),
             ];
             write_parts(&parts, text)

@@ -21,7 +21,7 @@ pub enum Verdict {
     /// A client waits for an address of the family that doesn't connect. The numbers are those of the family's
     /// addresses that don't connect, and of all of them.
     Broken(Family, usize, usize),
-    /// So many addresses of all don't connect, and a client waits for none of them.
+    /// This number of the addresses don't connect, and a client waits for none of them.
     SomeFail(usize, usize),
     /// Each address connects.
     AllFine,

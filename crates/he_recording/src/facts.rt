@@ -1,4 +1,4 @@
-//! What a client knows of its race beside the race itself.
+//! The facts that a client knows of its race beside the race itself.
 
 ghost use Rattle.he_recording.specs.Alone.{IsAlone};
 
@@ -29,7 +29,7 @@ pub struct AttemptFailure {
     pub reason: AttemptReason,
 }
 
-/// What a record says of a race.
+/// The facts of a race that its record has.
 #[derive(Clone, Copy)]
 pub struct Facts<'t> {
     /// The time of tick 0.

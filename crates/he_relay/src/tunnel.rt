@@ -130,7 +130,7 @@ impl<A: AsyncRead + AsyncWrite, B: AsyncRead + AsyncWrite> Tunnel<A, B> {
         &self.client
     }
 
-    /// Whether the server has ended its way, and all its bytes are written to the client, which was told of their end.
+    /// Whether the server has ended its way, and all its bytes and their end are passed on to the client.
     pub fn is_answered(&self) -> bool
         ensures { IsTrue result → IsOver self.now.back }
     {

@@ -88,10 +88,10 @@ pub enum HostFault {
     #[error("too many sources or routes")]
     TooMany,
     /// This source, the first such one, has the address of an earlier source.
-    #[error("source {0} has an address that stands earlier")]
+    #[error("source {0} repeats an earlier address")]
     RepeatedSource(usize),
     /// This route, the first such one, has the prefix of an earlier route.
-    #[error("route {0} has a prefix that stands earlier")]
+    #[error("route {0} repeats an earlier prefix")]
     RepeatedRoute(usize),
     /// This source, the first such one, has an unusable address, or a prefix length or interface out of range.
     #[error("source {0} is out of range")]

@@ -62,7 +62,7 @@ pub enum PolicyFault {
     #[error("policy has no row or too many")]
     Size,
     /// This row, the first such one, has the prefix of an earlier row.
-    #[error("policy row {0} has a prefix that stands earlier")]
+    #[error("policy row {0} repeats an earlier prefix")]
     Repeated(usize),
     /// No row is `::/0`.
     #[error("policy has no ::/0")]

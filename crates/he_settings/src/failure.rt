@@ -31,7 +31,7 @@ pub enum Failure {
     Code(u16),
     /// The answer has no address, and the server is neither authoritative for the name nor recursive (AA and RA are
     /// 0).
-    #[error("knows no more than other servers")]
+    #[error("is not responsible for the name and does not ask other servers")]
     Lame,
     /// The answer can't be read.
     #[error("answered what can't be read")]

@@ -49,7 +49,7 @@ pub enum NamesFault {
     #[error("{0}")]
     Unreadable(FileFault),
     /// This machine doesn't have the name server's interface.
-    #[error("this machine has no interface as after '%' of the name server: `ip link` lists them")]
+    #[error("the interface after '%' of the name server does not exist: `ip link` lists those that do")]
     Interface,
     /// The process or the machine has no descriptor left.
     #[error("too many open files")]

@@ -192,7 +192,7 @@ fn not_looked_up_words(reason: LookupReason) -> Pieces {
     }
 }
 
-// What a name server that was given up did.
+// The fault of a name server that was given up.
 fn by_server_words(reason: ServerReason) -> Pieces {
     match reason {
         ServerReason::Silent => &[b" (", b" did not answer)"],

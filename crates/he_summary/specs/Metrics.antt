@@ -50,7 +50,7 @@ times_metric sums =
 abbrev pub delays_metric : ℕ → List ℕ
 delays_metric waited =
     codes "\n# TYPE he_resolution_delays counter"
-    ++ (codes "\n# HELP he_resolution_delays Races that waited out the Resolution Delay."
+    ++ (codes "\n# HELP he_resolution_delays Races whose IPv4 attempt started without the AAAA answer."
     ++ (members_text ((codes "\nhe_resolution_delays_total ", waited) ∷ []) ++ codes "\n"))
 
 abbrev pub attempts_metric : Totals → List ℕ

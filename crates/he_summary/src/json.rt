@@ -18,7 +18,7 @@ use he_print::write_string;
 use he_record::LookupReason;
 use std::alloc::Allocator;
 
-// What tallies are of.
+// The rows of tallies.
 #[derive(Clone, Copy)]
 pub(crate) enum Rows {
     Addresses,

@@ -8,7 +8,7 @@ pub fn losses_add_up()
     ensures races { LossesAddUp }
 {}
 
-/// What the milliseconds of all races went into is together what the races took.
+/// The milliseconds of all races, each by its owner, are together the time that the races took.
 pub fn sums_add_up()
     ensures { SumsAddUp }
 {}

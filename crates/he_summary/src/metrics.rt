@@ -130,7 +130,7 @@ fn write_delays<A: Allocator + Copy>(waited: u64, text: &mut Vec<u8, A>) -> Resu
 {
     text.extend_from_slice(b"\n# TYPE he_resolution_delays counter")?;
     text.extend_from_slice(
-        b"\n# HELP he_resolution_delays Races that waited out the Resolution Delay.",
+        b"\n# HELP he_resolution_delays Races whose IPv4 attempt started without the AAAA answer.",
     )?;
     write_members(&[Member(b"\nhe_resolution_delays_total ", waited)], text)?;
     text.extend_from_slice(b"\n")?;

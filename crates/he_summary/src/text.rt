@@ -102,7 +102,7 @@ fn push_why<A: Allocator>(counts: Counts, text: &mut Vec<Part<Said>, A>) -> Resu
     )
 }
 
-// What separates a reason from the ones before it.
+// The separator of a reason from the ones before it.
 fn after(earlier: u64) -> &'static [u8] {
     if earlier == 0 { b": " } else { b", " }
 }

@@ -65,7 +65,7 @@ pub enum Kind {
     Lookup(Family, LookupReason),
 }
 
-/// What the milliseconds of a race went into (he_course).
+/// The owner of a race's milliseconds (he_course).
 #[derive(Clone, Copy, Debug, PartialEq, Eq)]
 pub enum Share {
     All,
@@ -81,7 +81,7 @@ pub enum Share {
 pub enum Value {
     /// The time to connect, in milliseconds.
     Time,
-    /// What of it went into this, in milliseconds.
+    /// The part of it that this owns, in milliseconds.
     OfIt(Share),
     /// The time after which a race was given up, in milliseconds.
     GivenUp,

@@ -16,7 +16,7 @@ use std::{fs, io};
 // The byte that ends a name.
 const NAME_END: u8 = 0;
 
-// What is wrong with a list.
+// A list's fault.
 #[derive(Clone, Copy)]
 pub(crate) enum ListFault {
     Empty,

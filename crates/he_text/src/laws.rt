@@ -47,8 +47,8 @@ pub fn written_reads_back()
     ensures { (race : Race) → IsRace race → RaceInRange race → IsRaceText (timeline_text race) race }
 {}
 
-/// What `write_timeline` appends is read back by `read_race` as an equal timeline, whatever follows it. Looks at the
-/// timeline's parts and changes nothing.
+/// The lines that `write_timeline` appends are read back by `read_race` as an equal timeline, whatever follows it.
+/// Looks at the timeline's parts and changes nothing.
 pub fn timeline_reads_back<A: Allocator + Copy>(timeline: &Timeline<A>)
     ensures { IsRaceText (timeline_text timeline.now) timeline.now }
 {
