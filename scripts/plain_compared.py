@@ -40,7 +40,7 @@ def rows_of(words):
     """The settings of each row, and the words for them: none, then one for each number of a list."""
     lists = {word.split("=")[0]: word.split("=")[1].split(",") for word in words}
     count = max(len(numbers) for numbers in lists.values())
-    rows = [("as they stand", {})]
+    rows = [("as recorded", {})]
     for row in range(count):
         chosen = {name: numbers[row] if len(numbers) > 1 else numbers[0] for name, numbers in lists.items()}
         label = " ".join(f"{name}={number}" for name, number in chosen.items())
@@ -93,4 +93,4 @@ def written_for(races, rows, is_json, tells_races):
 def written(races, changes):
     """What `he compare` writes for these races and settings, which have no list."""
     label = " ".join(f"{name}={number}" for name, number in changes.items())
-    return written_for(races, [("as they stand", {}), (label, changes)], False, False)
+    return written_for(races, [("as recorded", {}), (label, changes)], False, False)

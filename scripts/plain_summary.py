@@ -339,7 +339,7 @@ def as_metrics(summary):
                [*quantiles, ("_sum", seconds(sum(times))), ("_count", len(times))]),
         metric("he_time_seconds", "counter", "Time of all races, by what it went into.", into),
         metric("he_attempts", "counter", "Connection attempts.", [("_total", summary.attempts)]),
-        metric("he_resolution_delays", "counter", "Races that waited out the Resolution Delay.",
+        metric("he_resolution_delays", "counter", "Races whose IPv4 attempt started without the AAAA answer.",
                [("_total", summary.waited)]),
         "# EOF\n"))
 

@@ -41,7 +41,8 @@ PARTS = {
     "examples": "examples lines page documents documents_parallel manual installed architecture edits "
                 "captures captures_records library library_lines library_clients fuzz",
     "network": "session hosts hosts_bytes live names names_files connect connect_relay nat64 nat64_names probe "
-               "proxy proxy_clients proxy_log proxy_load proxy_names proxy_strangers proxy_http proxy_programs",
+               "proxy proxy_socks proxy_clients proxy_log proxy_load proxy_names proxy_strangers proxy_http proxy_drawn "
+               "proxy_programs",
     "hostile": "hostile refused refused_nat64 faults",
 }
 # Those that look at no time and share nothing run side by side, before the others, the longest first.
@@ -382,14 +383,14 @@ def silent(address, port=0):
         yield listener, held
 
 
-def in_tcp_table(port, state, column):
+def in_tcp_table(port, state, column, table="tcp"):
     """How many IPv4 sockets of all programs have the port in that column (1: theirs, 2: the other's) and the state."""
-    lines = [line.split() for line in pathlib.Path("/proc/net/tcp").read_text().splitlines()[1:]]
+    lines = [line.split() for line in pathlib.Path("/proc/net", table).read_text().splitlines()[1:]]
     return sum(line[column].endswith(f":{port:04X}") and line[3] == state for line in lines)
 
 
-def is_listening(port):
-    return in_tcp_table(port, "0A", 1) > 0
+def is_listening(port, address="127.0.0.1"):
+    return in_tcp_table(port, "0A", 1, "tcp6" if ":" in address else "tcp") > 0
 
 
 # A network of a part's own: addresses that answer, others that are silent, a link, and names of a file of hosts

@@ -76,7 +76,7 @@ SERVERS = {
 FAILURES = (
     ("servfail", "name server AT: SERVFAIL", 0), ("refused servfail", "name server AT: REFUSED", 0),
     ("bare", "name server AT: REFUSED", 0), ("notimp", "name server AT: NOTIMP", 0),
-    ("formerr", "name server AT: FORMERR", 0), ("lame", "name server AT: knows no more than other servers", 0),
+    ("formerr", "name server AT: FORMERR", 0), ("lame", "name server AT: is not responsible for the name and does not ask other servers", 0),
     ("badvers", "name server AT: BADVERS", 0), ("code-19", "name server AT: response code 19", 0),
     ("code-2048", "name server AT: response code 2048", 0),
     *((kind, "name server AT: answered what can't be read", 0)
@@ -318,7 +318,7 @@ def check_zone_of_resolver():
         proxy.ask("both.test.", 9, seconds=5)
         tell(kind_of(server.seen[0][1]) in (A, AAAA) if server.seen else False, "he proxy asks it", proxy.said())
     done = look_up("both.test", "--resolver", "fe80::77%none")
-    wanted = "he: this machine has no interface as after '%' of the name server: `ip link` lists them\n"
+    wanted = "he: the interface after '%' of the name server does not exist: `ip link` lists those that do\n"
     tell(done.returncode == 1 and done.stderr == wanted, "an interface that is not there", done.stderr)
     told = "he: invalid value for '--resolver <RESOLVER>': "
     for text, why in (("2001:db8::1%here", "2001:db8::1 is not link-local and has no interface: write it without '%'"),

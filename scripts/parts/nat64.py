@@ -1,7 +1,7 @@
-"""Connects by a built program's `he connect` on a machine with only IPv6, whose network has a NAT64 (RFC 6146) for
-64:ff9b::/96 and for a /64 prefix, and looks at what comes of it.
+"""Connects by a built program's `he connect` and `he proxy` on a machine with only IPv6, whose network has a NAT64 (RFC
+6146) for 64:ff9b::/96 and for /64 prefixes, and looks at what comes of it.
 
-needs: /dev/net/tun, for a translator of its own
+needs: /dev/net/tun, for a translator of its own; `nsenter` for a client of another machine
 """
 import contextlib
 import ctypes
@@ -13,15 +13,21 @@ import socket
 import struct
 import tempfile
 import threading
+import time
 
 import support
-from support import (A, AAAA, NXDOMAIN, OPTIONS, REFUSED, TIMEOUT, NameServer, NotTried, addresses, greet, in_thread, kind_of,
-                     labels_of, message, must, replayed, timed)
+from parts import proxy_strangers
+from parts.proxy import SOON, Proxy, destination, get, socks, tunnel
+from support import (A, AAAA, NXDOMAIN, OPTIONS, REFUSED, TIMEOUT, NameServer, NotTried, addresses, comes, greet, in_thread,
+                     kind_of, labels_of, message, must, replayed, timed)
 
 HE = OPTIONS.program
 HOME = "2001:db8:1e::1"  # this machine
 SERVER, PRIVATE, VPN = "203.0.113.80", "10.9.8.7", "198.51.100.7"
+GLOBAL = "11.0.1.80"  # an address that is in no registry for a special purpose
+HOSTS = SERVER, PRIVATE, GLOBAL
 WELL_KNOWN, LONG = "64:ff9b::/96", "2001:db8:122:344::/64"
+WIDE = "2a00:9:122:344::/64"  # a prefix that is in no such registry either
 DOWN = "[::1]:9"  # where no name server is
 SETUP = f"""
 ip link set lo up
@@ -81,7 +87,7 @@ class Translator:
         # The address by which the servers see this machine, and the host, by the host's IPv6 address.
         self.hosts = {socket.inet_pton(socket.AF_INET6, embedded(prefix, host)):
                       (socket.inet_aton(f"192.0.2.{64 + number}"), socket.inet_aton(host))
-                      for number, prefix in enumerate(prefixes) for host in (SERVER, PRIVATE)}
+                      for number, prefix in enumerate(prefixes) for host in HOSTS}
         self.six = open_tun("six")
         support.run("ip", "link", "set", "six", "up")
         for prefix in prefixes:
@@ -99,9 +105,9 @@ class Translator:
             raise NotTried("no network of the servers")
         self.four = open_tun("four")
         for line in ("link set lo up", "link set four up", "address add 192.0.2.1/24 dev four",
-                     *(f"address add {host}/32 dev lo" for host in (SERVER, PRIVATE))):
+                     *(f"address add {host}/32 dev lo" for host in HOSTS)):
             support.run("ip", *line.split())
-        self.listeners = [support.listener_at(host, 4430) for host in (SERVER, PRIVATE)]
+        self.listeners = [support.listener_at(host, 4430) for host in HOSTS]
         for listener in self.listeners:
             support.accept_all(listener, greet)
         ready.set()
@@ -141,9 +147,10 @@ class Discovering(NameServer):
     those of its label."""
 
     NAMES = {"four": [SERVER], "both": [HOME, SERVER], "none": [], "own": ["127.0.0.1"], "private": [PRIVATE],
-             "shy": [], "mute": [SERVER]}
+             "shy": [], "mute": [SERVER], "global": [GLOBAL]}
 
-    def __init__(self, *prefixes):
+    def __init__(self, *prefixes, ttl=60, wait=0):
+        self.ttl, self.wait = ttl, wait
         self.names = self.NAMES | {"ipv4only": [embedded(prefix, host) for prefix in prefixes
                                                 for host in ("192.0.0.170", "192.0.0.171")]}
         self.mute = set()  # what is not answered, each as its label and its type
@@ -151,13 +158,13 @@ class Discovering(NameServer):
 
     def replies(self, query, _):
         label = labels_of(query)[0]
-        if (label, kind_of(query)) in self.mute:
+        if label == "silent" or (label, kind_of(query)) in self.mute:
             return []
         if (label, kind_of(query)) == ("shy", A):
             return [(0, message(query, code=REFUSED))]
         if label not in self.names:
             return [(0, message(query, code=NXDOMAIN))]
-        return [(0, message(query, addresses(kind_of(query), *self.names[label])))]
+        return [(self.wait, message(query, addresses(kind_of(query), *self.names[label], ttl=self.ttl)))]
 
     def asked(self):
         """The queries, each as its label and its type."""
@@ -185,7 +192,7 @@ def translator():
     if not os.path.exists("/dev/net/tun"):
         raise NotTried("no /dev/net/tun")
     if not TRANSLATORS:
-        TRANSLATORS.append(Translator(WELL_KNOWN, LONG))
+        TRANSLATORS.append(Translator(WELL_KNOWN, LONG, WIDE))
     return TRANSLATORS[0]
 
 
@@ -217,8 +224,13 @@ def check_literal():
 
 def is_by_nat64(run, host, at, prefix):
     """Whether the record of a run says that the host was raced at this address, embedded by this prefix."""
-    return (re.search(rf"(?m)^record to {host} 4430\nrecord lookup a nat64\nrecord nat64 {prefix}$", run.record)
-            and re.search(rf"(?m)^aaaa \d+ {at}\na 0 none$", run.record))
+    return is_record_by_nat64(run.record, host, at, prefix)
+
+
+def is_record_by_nat64(record, host, at, prefix):
+    return (re.search(rf"(?m)^record to {host} 4430\n(record from .*\n)?record lookup a nat64\nrecord nat64 {prefix}$",
+                      record)
+            and re.search(rf"(?m)^aaaa \d+ {at}\na 0 none$", record))
 
 
 def check_name():
@@ -359,3 +371,152 @@ def check_own():
             undo.callback(support.run, "ip", "address", "del", f"{VPN}/32", "dev", "here")
             run = Run("--set", "limit=1000", "--resolver", server.at, VPN, 4430)
             run.must(run.status == 3 and not server.asked())
+
+
+def check_forbidden():
+    """A literal that the kernel forbids is not embedded where it has a way to the IPv4 internet."""
+    with Discovering(WELL_KNOWN) as server, contextlib.ExitStack() as undo:
+        for made in (["address", "{}", "192.0.2.9/24", "dev", "here"],
+                     ["route", "{}", "default", "via", "192.0.2.1", "dev", "here"], ["route", "{}", "prohibit", SERVER]):
+            support.run("ip", *(word.format("add") for word in made))
+            undo.callback(support.run, "ip", *(word.format("del") for word in made))
+        run = Run("--set", "limit=1000", "--resolver", server.at, SERVER, 4430)
+        run.must(run.status == 3 and f": {SERVER} prohibited after " in run.told and not server.asked())
+
+
+# By the proxy
+
+
+def greeted(proxy, host):
+    """What a program gets that connects to a host by SOCKS 5, and one that does so by HTTP CONNECT."""
+    code, told = proxy.ask(host, 4430, 6)
+    with proxy.connect() as client:
+        return code, told, tunnel(client, host, 4430), get(client, 6)
+
+
+def check_proxy():
+    """The proxy reaches an IPv4 literal, and a name without IPv6 addresses, as `he connect` does, and its records say
+    so. It asks for the prefix once."""
+    translator()
+    for prefix in (WELL_KNOWN, LONG):
+        at = embedded(prefix, SERVER)
+        with Discovering(prefix) as server, Proxy("--resolver", server.at) as proxy:
+            for host, asked in [(SERVER, [("ipv4only", AAAA)]), ("four.test", [("four", AAAA), ("four", A)]),
+                                (SERVER, []), ("four.test", [])]:
+                server.seen.clear()
+                got = greeted(proxy, host)
+                must(got == (0, b"hello\n", 200, b"hello\n"), host, got, proxy.said())
+                must(server.asked() == asked, host, server.asked())
+            files = [file.read_text() for file in proxy.files()]
+            must(len(files) == 8, files)
+            for text, host in zip(files, [SERVER] * 2 + ["four.test"] * 2):
+                must(is_record_by_nat64(text, host, at, prefix) and at in replayed(text), text)
+            must(proxy.ask(at, 4430, 6) == (0, b"hello\n"), proxy.said())
+            must(comes(lambda: len(proxy.lines()) == 9, SOON), proxy.said())
+            must(all(f" winner={at} " in line and f" ipv4={SERVER} " in line for line in proxy.lines()), proxy.said())
+            page = proxy.answer(f"GET / HTTP/1.1\r\nHost: 127.0.0.1:{proxy.port}\r\n\r\n".encode()).decode()
+            must(f"{at} is {SERVER} (NAT64)" in page and f"the network's NAT64 prefix is {prefix}" in page, page)
+
+
+def check_proxy_ttl():
+    """The proxy keeps the prefix no longer than its TTL."""
+    translator()
+    with Discovering(WELL_KNOWN, ttl=1) as server, Proxy("--resolver", server.at) as proxy:
+        for wait, queries in ((0, 1), (2.1, 2)):
+            time.sleep(wait)
+            must(proxy.ask(SERVER, 4430, 6) == (0, b"hello\n"), proxy.said())
+            must(server.asked() == [("ipv4only", AAAA)] * queries, server.asked())
+
+
+@timed
+def check_proxy_none_kept():
+    """That there is no prefix is kept for 5 seconds, and no longer if the proxy is asked meanwhile."""
+    with Discovering() as server, Proxy("--resolver", server.at) as proxy:
+        for wait, queries in ((0, 1), (3, 1), (3, 2)):
+            time.sleep(wait)
+            must(proxy.ask(SERVER, 4430)[0] == 3, proxy.said())
+            must(server.asked() == [("ipv4only", AAAA)] * queries, server.asked())
+
+
+def check_proxy_at_once():
+    """Races that begin at once ask for the prefix once; and none waits for a race that does not ask for it yet."""
+    translator()
+    with Discovering(WELL_KNOWN, wait=0.3) as server, Proxy("--resolver", server.at) as proxy:
+        with contextlib.ExitStack() as held:
+            stuck = held.enter_context(proxy.connect())
+            stuck.sendall(b"\5\1\0\5\1\0" + destination("silent.test", 4430))
+            must(comes(lambda: ("silent", AAAA) in server.asked(), SOON), server.asked())
+            got = []
+            threads = [in_thread(lambda: got.append(proxy.ask(SERVER, 4430, 6, SOON))) for _ in range(5)]
+            for thread in threads:
+                thread.join(SOON)
+        must(got == [(0, b"hello\n")] * 5, got, proxy.said())
+        must(server.asked().count(("ipv4only", AAAA)) == 1, server.asked())
+
+
+def check_proxy_own():
+    """The proxy asks neither for A nor for the prefix for a name that has an IPv6 address, nor for loopback."""
+    with Discovering(WELL_KNOWN) as server, Proxy("--resolver", server.at) as proxy:
+        for host, at, asked in [("both.test", HOME, [("both", AAAA)]), ("127.0.0.1", "127.0.0.1", [])]:
+            with support.listener_at(at) as listener:
+                support.accept_all(listener, greet)
+                server.seen.clear()
+                must(proxy.ask(host, listener.getsockname()[1], 6) == (0, b"hello\n"), host, proxy.said())
+                must(server.asked() == asked, server.asked())
+
+
+def check_proxy_none():
+    """Without a NAT64 the proxy's reply is that there is no network, and so it is where no prefix may embed the host;
+    if the prefix is not known, that there is no host. The log says why."""
+    translator()
+
+    def replies(proxy, host, code, status, why):
+        with proxy.connect() as client:
+            got = proxy.ask(host, 4430)[0], tunnel(client, host, 4430)
+        must(got == (code, status), host, got, proxy.said())
+        said = f" host={host} port=4430 "
+        must(comes(lambda: len([line for line in proxy.lines() if said in line and f" fault={why} " in line]) == 2, SOON),
+             proxy.lines())
+        must("record nat64" not in proxy.files()[-1].read_text(), proxy.files()[-1].read_text())
+
+    with Discovering() as server, Proxy("--resolver", server.at) as proxy:
+        replies(proxy, SERVER, 3, 502, "no-network")
+        replies(proxy, "four.test", 3, 502, "no-network")
+        replies(proxy, "none.test", 4, 502, "no-address")
+        must(proxy.ask("lacks.test", 4430)[0] == 4, proxy.said())
+        must(comes(lambda: " fault=no-such-name " in proxy.said(), SOON), proxy.said())
+    with Proxy("--resolver", DOWN) as proxy:
+        replies(proxy, SERVER, 4, 502, "dns-failed")
+    with Discovering(WELL_KNOWN) as server, Proxy("--resolver", server.at) as proxy:
+        must(proxy.ask(PRIVATE, 4430)[0] == 3, proxy.said())
+        must(comes(lambda: " fault=no-network " in proxy.said(), SOON), proxy.said())
+
+
+class Stranger(proxy_strangers.Stranger):
+    """A machine with only IPv6."""
+    HERE = f"address add {proxy_strangers.NEAR_SIX}/64 dev near nodad", "link set near up"
+    THERE = f"address add {proxy_strangers.FAR_SIX}/64 dev far nodad", "link set far up"
+
+
+def check_proxy_stranger():
+    """A client of another machine reaches the IPv4 hosts behind a prefix that it may reach by IPv4, and no other, also
+    where it asks for their IPv6 addresses; one of this machine, or with --allow-private, reaches private ones too."""
+    translator()
+    near = proxy_strangers.NEAR_SIX
+    allowed = "--allow", "2a00:1:2:3::/64"
+    for prefix, private in ((WELL_KNOWN, 3), (WIDE, 2)):  # 64:ff9b::/96 has no private addresses (RFC 6052 section 3.1)
+        hosts = [(GLOBAL, 0), ("global.test", 0), (PRIVATE, private), ("private.test", private), (SERVER, 2),
+                 ("four.test", 2), (embedded(prefix, GLOBAL), 0), (embedded(prefix, PRIVATE), 2),
+                 (embedded(prefix, SERVER), 2)]
+        with Stranger() as stranger, Discovering(prefix) as server:
+            with Proxy("--resolver", server.at, *allowed, at=near) as proxy:
+                for host, code in hosts:
+                    got = stranger.asks(proxy, host, 4430, near)
+                    must(got == code, prefix, host, got, proxy.said())
+                refused = [code for _, code in hosts].count(2)
+                must(comes(lambda: proxy.said().count(" fault=forbidden ") == refused, SOON), proxy.said())
+                with socket.create_connection((near, proxy.port), TIMEOUT) as client:
+                    must(socks(client, SERVER, 4430) == 0, "a program of this machine", proxy.said())
+            with Proxy("--resolver", server.at, *allowed, "--allow-private", at=near) as proxy:
+                for host in (SERVER, *([PRIVATE] if prefix == WIDE else [])):
+                    must(stranger.asks(proxy, host, 4430, near) == 0, host, proxy.said())

@@ -107,8 +107,9 @@ def check_verdicts():
             if winner:
                 ip, end, lost = client_in(probe.record)
                 probe.must(ip == winner and (lost > 0) == (names is six), ip, lost)
-                wanted += f"A client connects to {ip} after {end} ms" + (f" and loses {lost}" if lost else "")
-            probe.must(probe.status == status and re.sub(r": \S+ takes \d+$", "", probe.blocks[0][-1]) == wanted, wanted)
+                wanted += f"A client connects to {ip} after {end} ms" + (f", {lost} of them lost" if lost else "")
+            verdict = re.sub(r"; \S+ alone would take \d+$", "", probe.blocks[0][-1])
+            probe.must(probe.status == status and verdict == wanted, wanted)
             quiet = Probe("-q", *words, names.at, "some.zone", port)
             quiet.must(quiet.output.startswith(f"some.zone port {port}: {wanted[:20]}") and quiet.output.count("\n") == 1)
             quiet.must(quiet.status == status)
@@ -118,13 +119,16 @@ def check_verdicts():
 
 
 def check_literals():
-    """An address has a row of its own, in either spelling, and nobody is asked for it."""
+    """An address has a row of its own, in either spelling, and nobody is asked for it; of the family that is left out
+    there is no row."""
     with serving(greet) as port, Zone() as names:
         for host, ip, word, status in [(FOUR, FOUR, "connected", 0), (f"[{SIX}]", SIX, "refused", 3)]:
             probe = Probe("--resolver", names.at, host, port)
             probe.must([(row[0], row[3]) for row in probe.rows()] == [(ip, word)] and probe.status == status)
             probe.must(probe.output.startswith(f"{host} port {port}: ") and "record lookup" not in probe.record)
         must(not names.seen, "the name server was asked for an address")
+    other = Probe("-6", FOUR, 80)
+    other.must(other.status == 3 and other.output == f"{FOUR} port 80: no address\nNothing connects\n")
 
 
 def check_lookup():

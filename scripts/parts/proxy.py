@@ -47,11 +47,12 @@ class Proxy:
             path.parent.mkdir(parents=True, exist_ok=True)
             path.write_text("race 1\nend\n")
         kept = ["--record", self.records] if self.keeps else []
-        words = [HE, "proxy", "--listen", f"{self.at}:{self.port}", *kept, *self.words]
+        at = f"[{self.at}]" if ":" in self.at else self.at
+        words = [HE, "proxy", "--listen", f"{at}:{self.port}", *kept, *self.words]
         with open(self.told, "wb") as told:
             self.running = subprocess.Popen([str(word) for word in words], stdin=subprocess.DEVNULL,
                                             stdout=subprocess.DEVNULL, stderr=told, preexec_fn=self.limits)
-        must(support.is_up(self.running, lambda: support.is_listening(self.port)),
+        must(support.is_up(self.running, lambda: support.is_listening(self.port, self.at)),
              f"the proxy does not listen: {self.said()!r}")
         return self
 
@@ -269,7 +270,7 @@ def check_refusals():
     """Other requests are refused by their protocol's reply."""
     with Proxy() as proxy:
         for given, wanted in [
-            (b"\4\1\0\x50\x7f\0\0\1user\0", rb"\x00\x5b.{6}"),
+            (b"\4\2\0\x50\x7f\0\0\1user\0", rb"\x00\x5b\0{6}"),
             (b"\5\1\2", rb"\x05\xff"),
             (b"\5\1\0\5\2\0" + destination(FOUR, 80), rb"\x05\x00\x05\x07.{8}"),
             (b"\5\1\0\5\1\0\x09\0\0\0\0\0\x50", rb"\x05\x00\x05\x08.{8}"),
@@ -437,14 +438,23 @@ def check_log():
             must(abs(time.time() - when.timestamp()) < 60, words, line)
 
 
+# Texts that name no place to listen at.
+NO_PLACES = (f"{FOUR}:0", FOUR, "::1:1080", "[::1]", "0", ":0", "localhost:0", "65536", ":65536", "localhost:65536",
+             "localhost", ":", "", "+1080", "1080 ", "01080", "0x438", "socks", "localhost:socks", "*:1080", "here:1080",
+             "localhost:1080:", "localhost::1080")
+
+
 def check_starts():
     """An address that is taken, or that is not loopback without --allow, is refused at the start, with the reason."""
     with support.listener_at(FOUR) as taken:
         port = taken.getsockname()[1]
         for words, status, wanted in [
             (["--listen", f"{FOUR}:{port}"], 1, rf"he: .*{re.escape(FOUR)}:{port}.*\n"),
+            (["--listen", port], 1, rf"he: .*{re.escape(FOUR)}:{port}.*\n"),
+            (["--listen", f"localhost:{port}"], 1, rf"he: .*{re.escape(FOUR)}:{port}.*\n"),
             (["--listen", f"{WIDE_FOUR}:{unused_port()}"], 1, r"he: .*--allow.*\n"),
-            (["--listen", f"{FOUR}:0"], 2, r"he: .*"), (["--listen", FOUR], 2, r"he: .*"),
+            (["--listen", f":{unused_port()}"], 1, r"he: .*--allow.*\n"),
+            *((["--listen", word], 2, r"he: .*--listen.*") for word in NO_PLACES),
             (["--allow", "192.0.2.1/24"], 2, r"he: .*"), (["--max-clients", "0"], 2, r"he: .*"),
             (["--record", "/proc/no"], 1, r"he: .*/proc/no.*\n"),
         ]:
@@ -502,6 +512,32 @@ def check_most():
         late.settimeout(SOON)
         clients[0].close()
         must(get(late, 2) == b"\5\0", "the fourth is not served")
+
+
+def check_most_per_client():
+    """As many sessions of one address as --max-per-client says run at once: another one is closed at once and logged,
+    clients of other addresses are served, and so is the address once a session ends."""
+    with Proxy("--max-per-client", 2) as proxy, serving(echo) as port, contextlib.ExitStack() as held:
+        clients = [held.enter_context(proxy.connect()) for _ in range(2)]
+        must([socks(client, FOUR, port) for client in clients] == [0, 0], "two of one address", proxy.said())
+        for _ in range(2):
+            with proxy.connect() as late:
+                late.settimeout(SOON)
+                with contextlib.suppress(ConnectionError):
+                    late.sendall(b"\5\1\0")
+                    must(late.recv(2) == b"", "a third is served")
+        with socket.create_connection((FOUR, proxy.port), TIMEOUT, source_address=("127.0.0.9", 0)) as other:
+            must(socks(other, FOUR, port) == 0, "another address is not served", proxy.said())
+        clients[0].close()
+
+        def is_served():
+            with contextlib.suppress(OSError), proxy.connect() as again:
+                return socks(again, FOUR, port) == 0
+            return False
+
+        must(comes(is_served), "not served once a session has ended", proxy.said())
+        lines = [line for line in proxy.said().splitlines() if line.endswith(" end=too-many")]
+        must(len(lines) == 1 and " client=127.0.0.1:" in lines[0], "one line", proxy.said())
 
 
 @timed

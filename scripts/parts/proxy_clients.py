@@ -16,7 +16,7 @@ import subprocess
 import time
 
 import support
-from parts.proxy import ALL, HE, SOON, Proxy, all_of, destination, echo, get, head_of, socks, tunnel
+from parts.proxy import ALL, DEFAULT_PORT, HE, SOON, Proxy, all_of, destination, echo, get, head_of, socks, tunnel
 from support import (FOUR, TIMEOUT, WIDE_FOUR, comes, greet, must, serving, set_to_reset, timed, unused_port)
 
 SETUP = support.NETWORK
@@ -316,20 +316,67 @@ def check_where_it_came():
 
 
 def listening_at(pid):
-    """The addresses at which a process listens, as `ss` has them."""
-    rows = support.run("ss", "-Hltnp").stdout.splitlines()
+    """The addresses at which a process listens, as `ss` has them in its network: `*` is :: if IPv4 clients come too."""
+    rows = support.run("nsenter", f"--net=/proc/{pid}/ns/net", "ss", "-Hltnp").stdout.splitlines()
     return sorted(row.split()[3] for row in rows if f"pid={pid}," in row)
+
+
+def must_listen(words, wanted, inside=()):
+    """A proxy with these words listens at these addresses and no other."""
+    support.needs("ss", "nsenter")
+    command = [str(word) for word in (*inside, HE, "proxy", "-q", *words)]
+    with subprocess.Popen(command, stdout=subprocess.DEVNULL, stderr=subprocess.PIPE, text=True) as running:
+        try:
+            comes(lambda: running.poll() is not None or len(listening_at(running.pid)) >= len(wanted), SOON)
+            found = listening_at(running.pid) if running.poll() is None else running.stderr.read()
+        finally:
+            running.kill()
+    must(found == wanted, words, found)
 
 
 def check_default_places():
     """Without --listen it listens at the loopback addresses and no other."""
-    support.needs("ss")
-    with subprocess.Popen([HE, "proxy", "-q"], stdout=subprocess.DEVNULL, stderr=subprocess.DEVNULL) as running:
-        try:
-            must(comes(lambda: len(listening_at(running.pid)) == 2), listening_at(running.pid))
-            must(listening_at(running.pid) == ["127.0.0.1:1080", "[::1]:1080"], listening_at(running.pid))
-        finally:
-            running.kill()
+    must_listen([], ["127.0.0.1:1080", "[::1]:1080"])
+
+
+def check_port_alone():
+    """A port alone and localhost are both loopback addresses, and a port after a colon is all addresses."""
+    port, second = unused_port(), unused_port()
+    loopback = [f"{FOUR}:{port}", f"[::1]:{port}"]
+    for words, wanted in (([port], loopback), ([f"localhost:{port}"], loopback), ([f":{port}"], [f"*:{port}"]),
+                          ([f"[::1]:{second}", port], sorted([*loopback, f"[::1]:{second}"]))):
+        listen = [word for each in words for word in ("--listen", each)]
+        must_listen([*listen, "--allow", "192.0.2.0/24"], wanted)
+
+
+# Runs a command in a network without IPv6.
+WITHOUT_SIX = "unshare", "-n", "sh", "-ec", """ip link set lo up
+echo 1 > /proc/sys/net/ipv6/conf/all/disable_ipv6
+exec "$0" "$@"
+"""
+
+
+def check_without_six():
+    """On a machine without IPv6 the loopback addresses are the IPv4 one; an IPv6 address that is named is a fault."""
+    if support.run(*WITHOUT_SIX, "true").returncode:
+        raise support.NotTried("no network without IPv6 can be made")
+    port = unused_port()
+    for words, at in (([], DEFAULT_PORT), (["--listen", port], port), (["--listen", f"localhost:{port}"], port)):
+        must_listen(words, [f"{FOUR}:{at}"], WITHOUT_SIX)
+    done = support.run(*WITHOUT_SIX, HE, "proxy", "--listen", f"[::1]:{port}", timeout=SOON)
+    must(done.returncode == 1 and f"[::1]:{port}" in done.stderr, done.returncode, done.stderr)
+
+
+def check_allowed_at_all():
+    """At all addresses an IPv4 client is served where --allow has its IPv4 network, and no other is."""
+    for allow, code in ((f"{WIDE_FOUR}/32", 0), ("192.0.2.0/24", None)):
+        port, found = unused_port(), None
+        with serving(greet) as to, Proxy("--listen", f":{port}", "--allow", allow):
+            must(comes(lambda: is_reached(FOUR, port), SOON), "does not listen at all addresses")
+            with contextlib.suppress(OSError), \
+                    socket.create_connection((WIDE_FOUR, port), SOON, source_address=(WIDE_FOUR, 0)) as client:
+                found = socks(client, FOUR, to)
+        must(found == code, allow, f"{found}, not {code}")
 
 
 def check_two_places():

@@ -33,18 +33,21 @@ GLOBAL = ("11.0.1.9", "192.0.1.9", "64:ff9b::b00:109", "2002:b00:109::1", "2a00:
 class Stranger:
     """Another machine: this process can make sockets there."""
 
+    # What is set up of the link between both, here and there.
+    HERE = (f"address add {NEAR}/24 dev near", f"address add {NEAR_SIX}/64 dev near nodad", "link set near up",
+            f"-4 route add default via {FAR}", "-6 route add default dev near")
+    THERE = ("link set lo up", f"address add {FAR}/24 dev far", f"address add {FAR_SIX}/64 dev far nodad",
+             "link set far up")
+
     def __enter__(self):
         needs("unshare", "nsenter")
         self.idle = subprocess.Popen(["unshare", "-n", "sleep", "600"])
         here = os.readlink("/proc/self/ns/net")
         self.net = f"/proc/{self.idle.pid}/ns/net"
         must(comes(lambda: os.readlink(self.net) != here), "no namespace of its own")
-        for words in (f"link add near type veth peer name far netns {self.idle.pid}", f"address add {NEAR}/24 dev near",
-                      f"address add {NEAR_SIX}/64 dev near nodad", "link set near up",
-                      f"-4 route add default via {FAR}", "-6 route add default dev near"):
+        for words in (f"link add near type veth peer name far netns {self.idle.pid}", *self.HERE):
             run("ip", *words.split(), check=True)
-        for words in ("link set lo up", f"address add {FAR}/24 dev far", f"address add {FAR_SIX}/64 dev far nodad",
-                      "link set far up"):
+        for words in self.THERE:
             run("nsenter", f"--net={self.net}", "ip", *words.split(), check=True)
         return self
 
