@@ -45,7 +45,8 @@ make live HE=FILE          runs live races of a built program, and looks from th
 make names HE=FILE         looks names up by a built program, from name servers of its own, right ones and wrong ones
 make session HE=FILE       runs the sessions of README.md and docs/SESSION.md in a network of its own
 make connect HE=FILE       connects by a built program in full: transfers of 100 MB, 1,000 connections under faults
-make proxy HE=FILE         connects through `he proxy` in full: curl, git and nc, 10,000 sessions under faults
+make proxy HE=FILE         connects through `he proxy` in full: curl, git and nc, 10,000 sessions under faults, 100,000
+                           drawn beginnings of clients
 make fuzz SECONDS=60 SEED=1 HE=FILE
                            compares a built program with that implementation, on random texts
 make page HE=FILE          reads pages that a built program draws as a browser would
