@@ -41,7 +41,8 @@ MESSAGE = re.compile(rb"HTTP/1\.1 (\d{3}) ([A-Za-z ]+)\r\nContent-Type: ([^\r\n]
 PAGES = (b"application/x-ns-proxy-autoconfig", b"text/html; charset=utf-8")
 CONNECTED = b"HTTP/1.1 200 Connection established\r\n\r\n"
 SOCKS = re.compile(rb"\x05\x00\x05([\x00-\x05\x07\x08])\x00(\x01.{6}|\x04.{18})", re.S)
-KINDS = ("none", "short", "forwarded", "page", "refused", "tunnel", "SOCKS", "refused by SOCKS")
+OLD_GRANTED = b"\x00\x5a" + bytes(6)  # by SOCKS 4
+KINDS = ("none", "short", "forwarded", "page", "refused", "tunnel", "SOCKS 4", "SOCKS", "refused by SOCKS")
 SHORT = (b"", b"\x05\xff", b"\x05\x00", b"\x00\x5b" + bytes(6))  # no reply, one to a greeting, one to SOCKS 4
 
 
@@ -67,6 +68,8 @@ def kind_of_reply(reply):
         return "page" if reply.startswith(b"HTTP/1.1 200 ") else "refused"
     if reply.startswith(CONNECTED):
         return "tunnel" if reply == CONNECTED + ANSWER else None
+    if reply.startswith(OLD_GRANTED):
+        return "SOCKS 4" if reply == OLD_GRANTED + ANSWER else None
     found = SOCKS.match(reply)
     if found and found[1] == b"\0":
         return "SOCKS" if reply[found.end():] == ANSWER else None
@@ -108,6 +111,18 @@ def socks_in(given):
     return name, struct.unpack("!H", port)[0], after
 
 
+def old_in(given):
+    """The host, the port and what follows, of a request of SOCKS 4 or 4A, whose texts have at most 255 octets."""
+    user, is_ended, after = given[8:].partition(b"\0")
+    if given[:2] != b"\4\1" or not is_ended or len(user) > 255:
+        return None
+    port, address = struct.unpack("!H4s", given[2:8])
+    if address[:3] != bytes(3) or not address[3]:
+        return socket.inet_ntoa(address), port, after
+    name, is_ended, after = after.partition(b"\0")
+    return (name.decode("latin-1"), port, after) if is_ended and len(name) <= 255 else None
+
+
 def http_in(given):
     """The host and the port of a request of HTTP, and what follows its head."""
     found = re.match(rb"(\S+) (\S+) HTTP/1\.[01]\r?\n(?:.*\n)*?\r?\n", given)
@@ -128,7 +143,7 @@ def authority_of(given):
 
 def target_of(given):
     """The host and the port that a beginning asks for, and what follows its request; None where it asks for none."""
-    return socks_in(given) if given[:1] == b"\5" else http_in(given)
+    return {b"\4": old_in, b"\5": socks_in}.get(given[:1], http_in)(given)
 
 
 # Beginnings
@@ -141,6 +156,7 @@ def seeds(proxy, port):
     for host in (FOUR, NAME, HOST, f"::ffff:{FOUR}", "::1", "no.test"):
         yield b"\5\1\0\5\1\0" + destination(host, port) + b"early octets"
         yield b"\5\3\0\1\2\5\1\0" + destination(host, port)
+        yield b"\4\1" + struct.pack("!H", port) + b"\0\0\0\1user\0" + host.encode() + b"\0early octets"
         name = f"[{host}]" if ":" in host else host
         at_name = f"{name}:{port}".encode()
         yield b"CONNECT %s HTTP/1.1\r\nHost: %s\r\nUser-Agent: x/1\r\n\r\n\x16\3\1early" % (at_name, at_name)
@@ -264,7 +280,7 @@ def wrong_of(given, port, came):
     target = target_of(given)
     if not target or not is_here(target[0]) or target[1] != port:
         return "it does not name the server"
-    if given[:1] == b"\5" or re.match(rb"CONNECT ", given):
+    if re.match(rb"[\4\5]|CONNECT ", given):
         return None if came == target[2] else "not what follows its request"
     return wrong_with(came, authority_of(given))
 
@@ -317,7 +333,9 @@ def check_drawn():
     with (unittest.mock.patch.dict(os.environ, CHECKED), Names(FOUR) as names, serving(server) as port,
           serving(other),
           Proxy("--resolver", names.at, "--set", "limit=5000", "--max-records", 200) as proxy):
+        idle = proxy.descriptors()
         must_serve(proxy, port)
+        comes(lambda: proxy.descriptors() <= idle, SOON)  # (the sessions end a little later)
         held, before, began = proxy.descriptors(), proxy.seconds_used(), time.monotonic()
         asking, memories = send_all(proxy, server, port, told)
         took, mean = time.monotonic() - began, (proxy.seconds_used() - before) / DRAWN
