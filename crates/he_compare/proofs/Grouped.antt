@@ -9,8 +9,8 @@ use Rattle.std.proofs.lemmas.Bool.Decides.{nat_tests}
 use Rattle.std.proofs.lemmas.List.{append-nil, get_or-drop, get_or-take, length-drop, length-take-le, take-append-drop}
 use Rattle.std.proofs.lemmas.List.Elements.{All-append, All-cons, All-filter, All-head, All-tail, All-weaker, Contains-append_right, filter-append, filter_agree, filter_passes}
 use Rattle.std.proofs.lemmas.List.Sorted.{All-permutation, IsPermutation-sym}
-use Rattle.he_summary.specs.Totals.{AreTotals}
-use Rattle.he_summary.specs.declared.kept.Kept.{Kept}
+use Rattle.he_totals.specs.Totals.{AreTotals}
+use Rattle.he_totals.specs.declared.kept.Kept.{Kept}
 use Rattle.he_compare.specs.Groups.{AreGroups, Division, IsCounted, key_of, members}
 use Rattle.he_compare.specs.declared.groups.Group.{Group}
 

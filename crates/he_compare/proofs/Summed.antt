@@ -4,8 +4,8 @@ use Rattle.std.specs.List.{Contains, filter, slice_index_or, sum_by}
 use Rattle.std.proofs.lemmas.Bool.{eq-eqb, ne_eqb}
 use Rattle.std.proofs.lemmas.List.Elements.{All-head, All-tail}
 use Rattle.std.proofs.lemmas.List.Sums.{sum_by-cons}
-use Rattle.he_summary.proofs.Sums.{sum_alike, sum_both, sum_none}
-use Rattle.he_summary.specs.declared.kept.Kept.{Kept}
+use Rattle.he_totals.proofs.Sums.{sum_alike, sum_both, sum_none}
+use Rattle.he_totals.specs.declared.kept.Kept.{Kept}
 use Rattle.he_compare.specs.Groups.{Ascend, Division, GroupsAddUp, key_of, members}
 use Rattle.he_compare.specs.declared.groups.Group.{Group}
 

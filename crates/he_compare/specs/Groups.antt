@@ -8,13 +8,13 @@ use Rattle.he_print.specs.Parts.{States}
 use Rattle.he_print.specs.declared.part.Fact.{Fact}
 use Rattle.he_print.specs.declared.part.Fact.TheVariants as facts
 use Rattle.he_summary.specs.Json.{totals_json}
-use Rattle.he_summary.specs.Totals.{AreTotals, is_kind}
+use Rattle.he_totals.specs.Totals.{AreTotals, is_kind}
 use Rattle.he_summary.specs.Written.{HasWords, name_at}
 use Rattle.he_summary.specs.declared.figures.Form.{Form}
 use Rattle.he_summary.specs.declared.figures.Form.TheVariants as forms
-use Rattle.he_summary.specs.declared.kept.Kept.{Kept}
-use Rattle.he_summary.specs.declared.totals.Kind.TheVariants.{WonBy}
-use Rattle.he_summary.specs.declared.totals.Totals.{Totals}
+use Rattle.he_totals.specs.declared.kept.Kept.{Kept}
+use Rattle.he_totals.specs.declared.totals.Kind.TheVariants.{WonBy}
+use Rattle.he_totals.specs.declared.totals.Totals.{Totals}
 use Rattle.he_compare.specs.Hours.{hour_of, hour_text}
 use Rattle.he_compare.specs.Rows.{mean_facts, share_cell, times_facts}
 use Rattle.he_compare.specs.declared.grouping.By.{By}

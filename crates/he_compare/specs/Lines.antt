@@ -4,9 +4,9 @@ use Rattle.he_print.specs.declared.part.Fact.{Fact}
 use Rattle.he_print.specs.declared.part.Fact.TheVariants as facts
 use Rattle.he_summary.specs.Written.{TellsEach, place_facts}
 use Rattle.he_summary.specs.declared.figures.Form.{Form}
-use Rattle.he_summary.specs.declared.kept.Ending.{Ending}
-use Rattle.he_summary.specs.declared.kept.Ending.TheVariants as endings
-use Rattle.he_summary.specs.declared.kept.Kept.{Kept}
+use Rattle.he_totals.specs.declared.kept.Ending.{Ending}
+use Rattle.he_totals.specs.declared.kept.Ending.TheVariants as endings
+use Rattle.he_totals.specs.declared.kept.Kept.{Kept}
 use Rattle.he_compare.specs.Verdicts.{finish_of, own_after, verdict_of}
 use Rattle.he_compare.specs.declared.lines.Told.{Told}
 use Rattle.he_compare.specs.declared.lines.Told.TheVariants as told

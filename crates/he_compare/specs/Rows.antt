@@ -4,10 +4,10 @@ use Rattle.std.specs.Option.{option_map_or}
 use Rattle.he_print.specs.declared.part.Fact.{Fact}
 use Rattle.he_print.specs.declared.part.Fact.TheVariants as facts
 use Rattle.he_summary.specs.Figures.{share, total_of}
-use Rattle.he_summary.specs.Totals.{AreTotals}
-use Rattle.he_summary.specs.Tries.{saturated}
-use Rattle.he_summary.specs.declared.kept.Kept.{Kept}
-use Rattle.he_summary.specs.declared.times.Spread.{Spread}
+use Rattle.he_totals.specs.Totals.{AreTotals}
+use Rattle.he_totals.specs.Tries.{saturated}
+use Rattle.he_totals.specs.declared.kept.Kept.{Kept}
+use Rattle.he_totals.specs.declared.times.Spread.{Spread}
 use Rattle.he_compare.specs.Verdicts.{counts_of, verdicts_on}
 use Rattle.he_compare.specs.declared.row.Row.{Row}
 use Rattle.he_compare.specs.declared.row.Said.{Said}

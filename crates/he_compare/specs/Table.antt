@@ -4,7 +4,7 @@ use Rattle.he_print.specs.declared.part.Fact.{Fact}
 use Rattle.he_summary.specs.Written.{TellsEach}
 use Rattle.he_summary.specs.declared.figures.Form.{Form}
 use Rattle.he_summary.specs.declared.figures.Form.TheVariants as forms
-use Rattle.he_summary.specs.declared.kept.Kept.{Kept}
+use Rattle.he_totals.specs.declared.kept.Kept.{Kept}
 use Rattle.he_compare.specs.Rows.{IsRow, object_facts, row_facts}
 use Rattle.he_compare.specs.declared.row.Row.{Row}
 use Rattle.he_compare.specs.declared.row.Said.{Said}

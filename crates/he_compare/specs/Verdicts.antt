@@ -1,8 +1,8 @@
 -- The effect of other settings on races.
 use Rattle.std.specs.Prelude.{ℕ, ◌==◌, ◌++◌, if◌then◌else◌, Bool, true, false, List, [], ◌∷◌, count_by, nat_lt, Option, Some, None}
-use Rattle.he_summary.specs.Totals.{value_of}
-use Rattle.he_summary.specs.declared.kept.Kept.{Kept}
-use Rattle.he_summary.specs.declared.totals.Value.TheVariants.{Time}
+use Rattle.he_totals.specs.Totals.{value_of}
+use Rattle.he_totals.specs.declared.kept.Kept.{Kept}
+use Rattle.he_totals.specs.declared.totals.Value.TheVariants.{Time}
 use Rattle.he_compare.specs.declared.verdict.Finish.{Finish}
 use Rattle.he_compare.specs.declared.verdict.Finish.TheVariants as finishes
 use Rattle.he_compare.specs.declared.verdict.Verdict.{Verdict}

@@ -4,8 +4,8 @@ use Rattle.std.specs.List.{fold}
 use Rattle.he_print.specs.declared.part.Fact.{Fact}
 use Rattle.he_print.specs.declared.part.Fact.TheVariants as facts
 use Rattle.he_summary.specs.Written.{Tells}
-use Rattle.he_summary.specs.declared.kept.Kept.{Kept}
-use Rattle.he_summary.specs.declared.totals.Totals.{Totals}
+use Rattle.he_totals.specs.declared.kept.Kept.{Kept}
+use Rattle.he_totals.specs.declared.totals.Totals.{Totals}
 use Rattle.he_compare.specs.Groups.{AreGroups, Division, label_of}
 use Rattle.he_compare.specs.declared.groups.Group.{Group}
 use Rattle.he_compare.specs.declared.row.Said.{Said}

@@ -10,7 +10,8 @@ use crate::groups::{Group, groups_of};
 use crate::row::{Said, push_mean, push_share, push_times};
 use he_addr::Memory;
 use he_print::{Part, push_parts, write_parts, write_string};
-use he_summary::{Form, Kept, Totals, write_totals};
+use he_summary::{Form, write_totals};
+use he_totals::{Kept, Totals};
 use std::alloc::Allocator;
 
 /// Appends a table of the groups of these races: a row for each group that has a race, in order. As JSON each row is

@@ -4,8 +4,9 @@ ghost use Rattle.he_compare.specs.Groups.{division_of, family_key, family_text, 
 
 use crate::hours::{hour_of, push_hour};
 use he_addr::{Family, Memory};
-use he_summary::totals::{Kind, is_kind};
-use he_summary::{Kept, name_of};
+use he_summary::name_of;
+use he_totals::Kept;
+use he_totals::totals::{Kind, is_kind};
 use std::alloc::Allocator;
 
 /// The group number of the races whose file name has no hour: greater than any hour.

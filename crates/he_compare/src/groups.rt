@@ -6,7 +6,7 @@ ghost use Rattle.he_compare.specs.Groups.{AreGroups, division_of, key_of};
 
 use crate::grouping::{Grouping, key_of};
 use he_addr::Memory;
-use he_summary::{Kept, Totals};
+use he_totals::{Kept, Totals};
 use std::alloc::Allocator;
 
 /// A group of races: its number, and the totals of its races.

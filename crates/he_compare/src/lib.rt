@@ -1,6 +1,6 @@
 //! Comparisons: races with their own and with other settings.
 //!
-//! The races are those that he_summary keeps ([`Races`](he_summary::Races)), each with its own settings in the first
+//! The races are those that he_summary keeps ([`Races`](he_totals::Races)), each with its own settings in the first
 //! row, and with changed settings in further rows. [`write_table`] writes a row for each: the times to connect, the
 //! attempts per race, the share that IPv6 won, and the number of races of each verdict ([`Verdict`]). [`write_lines`]
 //! writes a line for each race and row.

@@ -11,7 +11,8 @@ ghost use Rattle.he_compare.specs.declared.verdict.Finish.TheVariants.{NotWon};
 use crate::verdict::{Finish, Verdict, own_after};
 use he_addr::{Family, Ip, Memory};
 use he_print::{Part, push_parts, write_parts};
-use he_summary::{Ending, Form, Kept, name_of, place_parts, write_name};
+use he_summary::{Form, name_of, place_parts, write_name};
+use he_totals::{Ending, Kept};
 use std::alloc::Allocator;
 
 /// The meaning of a word of a line.

@@ -10,7 +10,7 @@ use crate::verdict::{Verdicts, counts_of, verdicts_on};
 use he_addr::Memory;
 use he_print::{Part, push_parts};
 use he_summary::figures::{share, total_of};
-use he_summary::{Kept, Spread, Totals};
+use he_totals::{Kept, Spread, Totals};
 use std::alloc::Allocator;
 
 /// The counts of the races with the settings of a row.

@@ -8,7 +8,8 @@ ghost use Rattle.he_compare.specs.Table.{IsTable, told_facts};
 use crate::row::{Row, Said, push_object, push_row};
 use he_addr::Memory;
 use he_print::{Part, write_parts};
-use he_summary::{Form, Kept, write_name};
+use he_summary::{Form, write_name};
+use he_totals::Kept;
 use std::alloc::Allocator;
 
 const HEADING: &[u8] =

@@ -4,8 +4,8 @@ ghost use Rattle.he_compare.specs.Verdicts.{counts_of, finish_of, is_like, own_a
 ghost use Rattle.he_compare.specs.declared.verdict.Finish.TheVariants.{NotWon};
 
 use he_addr::Memory;
-use he_summary::Kept;
-use he_summary::totals::{Value, value_of};
+use he_totals::Kept;
+use he_totals::totals::{Value, value_of};
 use std::alloc::Allocator;
 
 /// The effect of other settings on a race.

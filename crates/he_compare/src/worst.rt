@@ -11,7 +11,7 @@ use crate::groups::{Group, groups_of};
 use crate::row::Said;
 use he_addr::Memory;
 use he_print::{Part, push_parts, write_parts};
-use he_summary::{Kept, Totals};
+use he_totals::{Kept, Totals};
 use std::alloc::Allocator;
 
 /// Appends a line on the worst of the groups of these races, after these words, if there is more than one: the one

@@ -1,23 +1,10 @@
--- One item more of a loop that makes a list or a text.
+-- One item more of a loop that makes a text.
 use Rattle.std.proofs.Common.{ℕ, ◌≡◌, ◌+◌, ◌-◌, ◌<◌, ◌≤◌, ◌++◌, ◌∙◌, List, [], ◌∷◌, length, drop, get_or, map, min, take, ap, refl, subst, sym, append_assoc, arith}
 use Rattle.std.specs.Borrow.{Bor}
 use Rattle.std.specs.List.{flat_map}
 use Rattle.std.proofs.lemmas.List.{append-nil, drop_all, drop_more, length-map, map-append}
 use Rattle.he_summary.specs.Written.{after_comma, hosts_text, more_text}
 use Rattle.he_summary.proofs.Joined.{joined}
-
--- what is made so far, and what the rest makes, is the whole
-pub mapped_on : {X Y Z : Type 0} (seen : Y → Z) (f : X → Z) (xs : List X) (i : ℕ) (d : X) (old new : List Y) (y : Y) (whole : List Z) → i < length xs → new ≡ old ++ y ∷ []
-    → seen y ≡ f (get_or xs i d) → map seen old ++ map f (drop i xs) ≡ whole → map seen new ++ map f (drop (i + 1) xs) ≡ whole
-mapped_on {X} {Y} {Z} seen f xs i d old new y whole lt pushed same is =
-    ap (λ (ys : List Y). map seen ys ++ map f (drop (i + 1) xs)) pushed
-    ∙ ap (λ (zs : List Z). zs ++ map f (drop (i + 1) xs)) (map-append seen old (y ∷ []))
-    ∙ append_assoc (map seen old) (seen y ∷ []) (map f (drop (i + 1) xs))
-    ∙ ap (λ (z : Z). map seen old ++ z ∷ map f (drop (i + 1) xs)) same
-    ∙ ap (λ (rest : List X). map seen old ++ map f rest) (sym (drop_more xs i d lt)) ∙ is
-
-pub mapped_all : {X Y Z : Type 0} (seen : Y → Z) (f : X → Z) (xs : List X) (i : ℕ) (new : List Y) (whole : List Z) → length xs ≤ i → map seen new ++ map f (drop i xs) ≡ whole → map seen new ≡ whole
-mapped_all {X} {Y} {Z} seen f xs i new whole le is = sym (append-nil (map seen new)) ∙ ap (λ (rest : List X). map seen new ++ map f rest) (sym (drop_all i xs le)) ∙ is
 
 -- what is written so far, and what the rest writes, is the whole
 pub named_on : {X Y : Type 0} (f : Y → List ℕ) (seen : X → Y) (xs : List X) (i : ℕ) (d : X) (old new whole : List ℕ) → i < length xs → new ≡ old ++ f (seen (get_or xs i d))

@@ -7,9 +7,9 @@ use Rattle.he_print.specs.declared.part.Fact.{Fact}
 use Rattle.he_print.specs.declared.part.Part.{Part}
 use Rattle.he_addr.specs.declared.ip.Ip.{Ip}
 use Rattle.he_summary.specs.Written.{AreSlowest, HasWords, Tells, TellsAddress, TellsAddresses, TellsEach, TellsSlowest, slow_facts}
-use Rattle.he_summary.specs.declared.tallies.Tally.{Tally}
+use Rattle.he_totals.specs.declared.tallies.Tally.{Tally}
 use Rattle.he_summary.specs.declared.figures.Form.{Form}
-use Rattle.he_summary.specs.declared.kept.Kept.{Kept}
+use Rattle.he_totals.specs.declared.kept.Kept.{Kept}
 
 -- the text of parts states their facts
 pub told_parts : {S : Type 0} (none parts : List (Part S)) (told : List (Fact S)) (old new : List ℕ) → none ≡ [] → flat_map fact_of parts ≡ flat_map fact_of none ++ told

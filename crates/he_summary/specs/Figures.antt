@@ -8,18 +8,18 @@ use Rattle.he_course.specs.declared.accounts.Times.{Times}
 use Rattle.he_print.specs.declared.part.Fact.{Fact}
 use Rattle.he_print.specs.declared.part.Fact.TheVariants as facts
 use Rattle.he_record.specs.declared.reasons.LookupReason.TheVariants as reasons
-use Rattle.he_summary.specs.declared.kept.Kept.{Kept}
-use Rattle.he_summary.specs.declared.tallies.Tally.{Tally}
+use Rattle.he_totals.specs.declared.kept.Kept.{Kept}
+use Rattle.he_totals.specs.declared.tallies.Tally.{Tally}
 use Rattle.he_summary.specs.declared.text.Said.{Said}
 use Rattle.he_summary.specs.declared.text.Said.TheVariants.{Attempts, Are, Most, NotWon, Races, Within, Went}
-use Rattle.he_summary.specs.declared.times.Spread.{Spread}
-use Rattle.he_summary.specs.declared.totals.Counts.{Counts}
-use Rattle.he_summary.specs.declared.totals.Kind.{Kind}
-use Rattle.he_summary.specs.declared.totals.Kind.TheVariants as kinds
-use Rattle.he_summary.specs.declared.totals.Share.TheVariants as shares
-use Rattle.he_summary.specs.declared.totals.Totals.{Totals}
-use Rattle.he_summary.specs.declared.totals.Value.TheVariants as values
-use Rattle.he_summary.specs.Totals.{is_kind}
+use Rattle.he_totals.specs.declared.times.Spread.{Spread}
+use Rattle.he_totals.specs.declared.totals.Counts.{Counts}
+use Rattle.he_totals.specs.declared.totals.Kind.{Kind}
+use Rattle.he_totals.specs.declared.totals.Kind.TheVariants as kinds
+use Rattle.he_totals.specs.declared.totals.Share.TheVariants as shares
+use Rattle.he_totals.specs.declared.totals.Totals.{Totals}
+use Rattle.he_totals.specs.declared.totals.Value.TheVariants as values
+use Rattle.he_totals.specs.Totals.{is_kind}
 
 -- the share of `of` that a number is, in thousandths, rounded to the nearest; at most all
 abbrev pub share : ℕ → ℕ → ℕ

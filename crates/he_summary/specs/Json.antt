@@ -11,16 +11,16 @@ use Rattle.he_record.specs.declared.reasons.LookupReason.TheVariants as reasons
 use Rattle.he_print.specs.Escaping.{string_text}
 use Rattle.he_summary.specs.Figures.{greatest_of, total_of}
 use Rattle.he_summary.specs.Members.{members_text}
-use Rattle.he_summary.specs.Totals.{is_kind}
+use Rattle.he_totals.specs.Totals.{is_kind}
 use Rattle.he_summary.specs.declared.json.Rows.{Rows}
 use Rattle.he_summary.specs.declared.json.Rows.TheVariants as rows
-use Rattle.he_summary.specs.declared.kept.Kept.{Kept}
-use Rattle.he_summary.specs.declared.tallies.Tally.{Tally}
-use Rattle.he_summary.specs.declared.times.Spread.{Spread}
-use Rattle.he_summary.specs.declared.totals.Counts.{Counts}
-use Rattle.he_summary.specs.declared.totals.Kind.{Kind}
-use Rattle.he_summary.specs.declared.totals.Kind.TheVariants as kinds
-use Rattle.he_summary.specs.declared.totals.Totals.{Totals}
+use Rattle.he_totals.specs.declared.kept.Kept.{Kept}
+use Rattle.he_totals.specs.declared.tallies.Tally.{Tally}
+use Rattle.he_totals.specs.declared.times.Spread.{Spread}
+use Rattle.he_totals.specs.declared.totals.Counts.{Counts}
+use Rattle.he_totals.specs.declared.totals.Kind.{Kind}
+use Rattle.he_totals.specs.declared.totals.Kind.TheVariants as kinds
+use Rattle.he_totals.specs.declared.totals.Totals.{Totals}
 
 abbrev pub counts_json : Counts → List ℕ
 counts_json counts =

@@ -1,13 +1,5 @@
 pub mod Figures
-pub mod Hosts
 pub mod Json
-pub mod Kept
-pub mod Laws
 pub mod Members
 pub mod Metrics
-pub mod Steps
-pub mod Summed
-pub mod Times
-pub mod Totals
-pub mod Tries
 pub mod Written

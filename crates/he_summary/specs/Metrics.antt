@@ -3,9 +3,9 @@ use Rattle.std.specs.Prelude.{ℕ, ◌++◌, List, [], ◌∷◌, codes, Option,
 use Rattle.he_course.specs.declared.accounts.Times.{Times}
 use Rattle.he_summary.specs.Figures.{total_of}
 use Rattle.he_summary.specs.Members.{all_seconds_text, members_text}
-use Rattle.he_summary.specs.declared.times.Spread.{Spread}
-use Rattle.he_summary.specs.declared.totals.Counts.{Counts}
-use Rattle.he_summary.specs.declared.totals.Totals.{Totals}
+use Rattle.he_totals.specs.declared.times.Spread.{Spread}
+use Rattle.he_totals.specs.declared.totals.Counts.{Counts}
+use Rattle.he_totals.specs.declared.totals.Totals.{Totals}
 
 abbrev pub races_metric : Counts → List ℕ
 races_metric counts =

@@ -11,23 +11,23 @@ use Rattle.he_print.specs.declared.part.Fact.{Fact}
 use Rattle.he_print.specs.declared.part.Fact.TheVariants as facts
 use Rattle.he_course.specs.declared.accounts.Times.{Times}
 use Rattle.he_summary.specs.Figures.{server_facts, tally_facts, text_facts}
-use Rattle.he_summary.specs.Hosts.{AreNamed, Named, hosts_in}
+use Rattle.he_totals.specs.Hosts.{AreNamed, Named, hosts_in}
 use Rattle.he_summary.specs.Json.{summary_json}
 use Rattle.he_summary.specs.Metrics.{metrics_text}
-use Rattle.he_summary.specs.Kept.{Run, kept_of}
-use Rattle.he_summary.specs.Summed.{all_servers, all_tries, host_of, pairs_of}
-use Rattle.he_summary.specs.Totals.{AreTotals, is_kind, time_of}
-use Rattle.he_summary.specs.Tries.{AreFailing}
+use Rattle.he_totals.specs.Kept.{Run, kept_of}
+use Rattle.he_totals.specs.Summed.{all_servers, all_tries, host_of, pairs_of}
+use Rattle.he_totals.specs.Totals.{AreTotals, is_kind, time_of}
+use Rattle.he_totals.specs.Tries.{AreFailing}
 use Rattle.he_summary.specs.declared.figures.Form.{Form}
 use Rattle.he_summary.specs.declared.figures.Form.TheVariants as forms
 use Rattle.he_summary.specs.declared.text.Said.{Said}
-use Rattle.he_summary.specs.declared.kept.Ending.{Ending}
-use Rattle.he_summary.specs.declared.kept.Ending.TheVariants as endings
-use Rattle.he_summary.specs.declared.kept.Kept.{Kept}
-use Rattle.he_summary.specs.declared.kept.Place.{Place}
-use Rattle.he_summary.specs.declared.tallies.Tally.{Tally}
-use Rattle.he_summary.specs.declared.totals.Kind.TheVariants.{Won}
-use Rattle.he_summary.specs.declared.totals.Totals.{Totals}
+use Rattle.he_totals.specs.declared.kept.Ending.{Ending}
+use Rattle.he_totals.specs.declared.kept.Ending.TheVariants as endings
+use Rattle.he_totals.specs.declared.kept.Kept.{Kept}
+use Rattle.he_totals.specs.declared.kept.Place.{Place}
+use Rattle.he_totals.specs.declared.tallies.Tally.{Tally}
+use Rattle.he_totals.specs.declared.totals.Kind.TheVariants.{Won}
+use Rattle.he_totals.specs.declared.totals.Totals.{Totals}
 
 -- a text that states these facts, among words, has been appended
 abbrev pub Tells : {S : Type 0} → List (Fact S) → List ℕ → List ℕ → Type 0

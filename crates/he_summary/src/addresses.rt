@@ -2,14 +2,14 @@
 ghost use Rattle.std.specs.Prelude.{ℕ, ◌≡◌, ◌++◌, List, map, OnOk};
 ghost use Rattle.std.specs.List.{flat_map};
 ghost use Rattle.he_summary.specs.Figures.{tally_facts};
-ghost use Rattle.he_summary.specs.Hosts.{hosts_in};
+ghost use Rattle.he_totals.specs.Hosts.{hosts_in};
 ghost use Rattle.he_summary.specs.Written.{HasWords, Tells, TellsAddress, TellsAddresses, after_comma, hosts_text, more_text};
 
-use crate::hosts::Hosts;
-use crate::tallies::Tally;
 use crate::text::{Said, WIDTH};
 use he_addr::{Ip, Memory, write_ip, write_number};
 use he_print::{Part, push_parts, write_parts};
+use he_totals::hosts::Hosts;
+use he_totals::tallies::Tally;
 use std::alloc::Allocator;
 
 // The widest address has 39 characters.

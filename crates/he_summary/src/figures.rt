@@ -2,7 +2,7 @@
 ghost use Rattle.std.specs.Prelude.{◌≡◌, ◌<◌};
 ghost use Rattle.he_summary.specs.Figures.{greatest_of, share, total_of};
 
-use crate::times::Spread;
+use he_totals::times::Spread;
 
 /// The form of a report.
 #[derive(Clone, Copy, Debug, PartialEq, Eq)]

@@ -2,20 +2,20 @@
 ghost use Rattle.std.specs.Prelude.{◌≡◌, ◌++◌, codes, map, OnOk};
 ghost use Rattle.std.specs.List.{flat_map};
 ghost use Rattle.he_summary.specs.declared.json.Rows.TheVariants.{Servers};
-ghost use Rattle.he_summary.specs.Hosts.{hosts_in};
+ghost use Rattle.he_totals.specs.Hosts.{hosts_in};
 ghost use Rattle.he_summary.specs.Json.{all_lookups_json, attempts_json, clients_json, counts_json, hosts_json, lookups_json, lookups_of, numbers_json, percentiles_json, record_json, spread_json, spreads_json, strings_json, summary_json, sums_json, tallies_json, tally_json, totals_json};
 
 use crate::figures::{greatest_of, total_of};
-use crate::hosts::Hosts;
-use crate::kept::Kept;
 use crate::members::{Member, write_members};
-use crate::tallies::Tally;
-use crate::times::Spread;
-use crate::totals::{Counts, Kind, Totals, count};
 use he_addr::{Family, Ip, Memory, write_ip};
 use he_course::Times;
 use he_print::write_string;
 use he_record::LookupReason;
+use he_totals::hosts::Hosts;
+use he_totals::kept::Kept;
+use he_totals::tallies::Tally;
+use he_totals::times::Spread;
+use he_totals::totals::{Counts, Kind, Totals, count};
 use std::alloc::Allocator;
 
 // The rows of tallies.

@@ -1,9 +1,7 @@
 //! Summaries of many races.
 //!
-//! [`Races`] reads inputs of timelines, one after the other, and keeps a small record of each race ([`Kept`]) for
-//! each row of settings ([`Changes`](he_timeline::Changes)): a summary has one row, a comparison (he_compare)
-//! several. The times of a record are those of the race's account (he_course). The report counts these records and
-//! sums their times up ([`Totals`]), in a few lines, in one JSON object or as metrics:
+//! The report on the races that he_totals keeps ([`Races`](he_totals::Races)): their counts, and the sums of their
+//! times, in a few lines, in one JSON object or as metrics:
 //!
 //! ```text
 //! 2000 races: 1890 connected (94.5 %), 110 not: 20 timed out, 90 all addresses failed
@@ -33,43 +31,23 @@
 //!          7         0         7  192.0.2.77
 //! ```
 //!
-//! Proved, whatever the inputs: the records are those of the transcripts and accounts of all races of the inputs with
-//! each row's settings, each input up to its first fault, which is the result (`specs/Kept`, `specs/Summed`). A
-//! percentile is the least number within which that percentage lies (`specs/Times`); each count and each sum is one
-//! over the records (`specs/Totals`); no attempt to an untried address counts as failed or as one without an answer.
-//! The addresses are the ten whose attempts own the most time, the name servers the ten that most often did not
-//! answer (`specs/Tries`), the slowest races the first of the won ones by time (`specs/Written`). What the attempts
-//! to all addresses own and what was lost with nothing left to try is what all races lost ([`laws`]). An object and
-//! metrics are those of `specs/Json` and `specs/Metrics`, byte for byte, up to the slowest races. A text states its
-//! numbers, each with its meaning, in the order of `specs/Figures`, and the hosts of each address (`specs/Hosts`); the
-//! words between are free.
+//! Proved, whatever the inputs: the slowest races are the first of the won ones by time (`specs/Written`). An object
+//! and metrics are those of `specs/Json` and `specs/Metrics`, byte for byte, up to the slowest races. A text states
+//! its numbers, each with its meaning, in the order of `specs/Figures`, and the hosts of each address
+//! (`specs/Written`); the words between are free.
 //!
 //! Not proved: that a call succeeds if memory is granted.
 #![tactic(auto)]
 
-mod adding;
 mod addresses;
 pub mod figures;
-mod hosts;
 pub mod json;
-pub mod kept;
-pub mod laws;
 mod members;
 mod metrics;
-pub mod races;
-pub mod tallies;
 pub mod text;
-pub mod times;
-pub mod totals;
-mod tried;
 mod writing;
 
 pub use figures::Form;
 pub use json::write_totals;
-pub use kept::{Ending, Kept, Loss, Place};
-pub use races::Races;
-pub use tallies::Tally;
 pub use text::Said;
-pub use times::Spread;
-pub use totals::{Counts, Totals};
-pub use writing::{name_of, place_parts, write_name};
+pub use writing::{name_of, place_parts, write, write_name};

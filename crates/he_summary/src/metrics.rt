@@ -5,10 +5,10 @@ ghost use Rattle.he_summary.specs.Metrics.{attempts_metric, connect_metric, dela
 
 use crate::figures::total_of;
 use crate::members::{Member, write_all_seconds, write_members};
-use crate::times::Spread;
-use crate::totals::{Counts, Totals};
 use he_addr::Memory;
 use he_course::Times;
+use he_totals::times::Spread;
+use he_totals::totals::{Counts, Totals};
 use std::alloc::Allocator;
 
 // Appends the metrics, up to the end.

@@ -3,19 +3,19 @@ ghost use Rattle.std.specs.Prelude.{◌≡◌, ◌++◌, OnOk};
 ghost use Rattle.std.specs.List.{flat_map};
 ghost use Rattle.he_print.specs.Parts.{fact_of};
 ghost use Rattle.he_summary.specs.declared.text.Said.TheVariants.{Are, Within};
-ghost use Rattle.he_summary.specs.declared.totals.Kind.TheVariants.{Waited};
-ghost use Rattle.he_summary.specs.declared.totals.Value.TheVariants.{GivenUp};
+ghost use Rattle.he_totals.specs.declared.totals.Kind.TheVariants.{Waited};
+ghost use Rattle.he_totals.specs.declared.totals.Value.TheVariants.{GivenUp};
 ghost use Rattle.he_summary.specs.Figures.{attempt_facts, client_facts, client_kinds, counted_facts, family_facts, first_facts, lookup_kinds, nonzero, number_facts, row_facts, rows_facts, server_facts, share_facts, some_facts, some_share_facts, text_facts, totals_facts, went_facts, why_facts};
 
 use crate::figures::{greatest_of, share, total_of};
-use crate::kept::Kept;
-use crate::tallies::Tally;
-use crate::times::Spread;
-use crate::totals::{Counts, Kind, Share, Totals, Value, count};
 use he_addr::{Family, Ip, Memory};
 use he_course::Times;
 use he_print::{Part, push_parts};
 use he_record::LookupReason;
+use he_totals::kept::Kept;
+use he_totals::tallies::Tally;
+use he_totals::times::Spread;
+use he_totals::totals::{Counts, Kind, Share, Totals, Value, count};
 use std::alloc::Allocator;
 
 /// The meaning of a number.

@@ -4,93 +4,91 @@ ghost use Rattle.std.specs.List.{flat_map};
 ghost use Rattle.std.specs.List.Sorted.{IsSortedByKey};
 ghost use Rattle.he_print.specs.Parts.{fact_of};
 ghost use Rattle.he_summary.specs.Figures.{server_facts, text_facts};
-ghost use Rattle.he_summary.specs.Hosts.{hosts_in};
-ghost use Rattle.he_summary.specs.Kept.{Run};
-ghost use Rattle.he_summary.specs.Summed.{HasSummed};
-ghost use Rattle.he_summary.specs.Totals.{is_kind};
+ghost use Rattle.he_totals.specs.Hosts.{hosts_in};
+ghost use Rattle.he_totals.specs.Kept.{Run};
+ghost use Rattle.he_totals.specs.Summed.{HasSummed};
+ghost use Rattle.he_totals.specs.Totals.{is_kind};
 ghost use Rattle.he_summary.specs.Written.{AreSlowest, HasWords, IsReport, IsText, IsWritten, Tells, TellsEach, TellsSlowest, name_at, place_facts, slow_facts, slow_key, slowest_first};
-ghost use Rattle.he_summary.specs.declared.totals.Kind.TheVariants.{Won};
+ghost use Rattle.he_totals.specs.declared.totals.Kind.TheVariants.{Won};
 
 use crate::addresses::write_addresses;
 use crate::figures::Form;
-use crate::hosts::Hosts;
 use crate::json::write_summary;
-use crate::kept::{Ending, Kept, Place};
 use crate::metrics::write_metrics;
-use crate::races::Races;
-use crate::tallies::Tally;
 use crate::text::{Said, push_servers, push_text};
-use crate::totals::{Kind, Totals, Value, is_kind, value_of};
 use he_addr::{Ip, Memory};
 use he_print::{Part, push_parts, write_parts, write_string};
+use he_totals::hosts::Hosts;
+use he_totals::kept::{Ending, Kept, Place};
+use he_totals::races::Races;
+use he_totals::tallies::Tally;
+use he_totals::totals::{Kind, Totals, Value, is_kind, value_of};
 use std::alloc::Allocator;
 use std::cmp::Reverse;
 
-impl<A: Allocator + Copy> Races<A> {
-    /// Appends a summary with the `slowest` slowest races, each with the name of its file: `names` has these by
-    /// place, in text as a terminal may show them; a file without a name is `-`.
-    ///
-    /// # Errors
-    ///
-    /// `Memory` if an allocation was refused. A first part of the summary may then have been appended.
-    pub fn write(
-        &self,
-        form: Form,
-        slowest: usize,
-        names: &[String],
-        text: &mut Vec<u8, A>,
-    ) -> Result<(), Memory>
-        ensures { (runs : List Run) → HasSummed self.now runs
-            → OnOk result (IsWritten form runs slowest text.old.items text.new.items) }
-    {
-        let totals = Totals::of(self.alloc, self.kept())?;
-        let failing = self.failing()?;
-        let servers = self.failing_servers()?;
-        let tables = (failing.as_slice(), servers.as_slice());
-        self.write_report(form, totals, tables, text)?;
-        self.write_rest(form, slowest, names, text)
-    }
+/// Appends a summary of the races with the `slowest` slowest ones, each with the name of its file: `names` has these
+/// by place, in text as a terminal may show them; a file without a name is `-`.
+///
+/// # Errors
+///
+/// `Memory` if an allocation was refused. A first part of the summary may then have been appended.
+pub fn write<A: Allocator + Copy>(
+    races: &Races<A>,
+    form: Form,
+    slowest: usize,
+    names: &[String],
+    text: &mut Vec<u8, A>,
+) -> Result<(), Memory>
+    ensures { (runs : List Run) → HasSummed races.now runs
+        → OnOk result (IsWritten form runs slowest text.old.items text.new.items) }
+{
+    let totals = Totals::of(*text.allocator(), races.kept())?;
+    let failing = races.failing()?;
+    let servers = races.failing_servers()?;
+    let tables = (failing.as_slice(), servers.as_slice());
+    write_report(races, form, totals, tables, text)?;
+    write_rest(races, form, slowest, names, text)
+}
 
-    // Appends the report, up to the slowest races.
-    fn write_report(
-        &self,
-        form: Form,
-        totals: Totals,
-        tables: (&[(Ip, Tally)], &[(Ip, Tally)]),
-        text: &mut Vec<u8, A>,
-    ) -> Result<(), Memory>
-        ensures { OnOk result (IsReport form totals self.now.kept (tables.entry.0.now, tables.entry.1.now)
-            (hosts_in self.now.hosts) text.old.items text.new.items) }
-    {
-        match form {
-            Form::Text => write_text(totals, self.kept(), tables, &self.hosts, text),
-            Form::Json => write_summary(totals, self.kept(), tables, &self.hosts, text),
-            Form::Metrics => write_metrics(totals, text),
-        }
+// Appends the report, up to the slowest races.
+fn write_report<A: Allocator + Copy>(
+    races: &Races<A>,
+    form: Form,
+    totals: Totals,
+    tables: (&[(Ip, Tally)], &[(Ip, Tally)]),
+    text: &mut Vec<u8, A>,
+) -> Result<(), Memory>
+    ensures { OnOk result (IsReport form totals races.now.kept (tables.entry.0.now, tables.entry.1.now)
+        (hosts_in races.now.hosts) text.old.items text.new.items) }
+{
+    match form {
+        Form::Text => write_text(totals, races.kept(), tables, races.tried_hosts(), text),
+        Form::Json => write_summary(totals, races.kept(), tables, races.tried_hosts(), text),
+        Form::Metrics => write_metrics(totals, text),
     }
+}
 
-    // Appends the `slowest` slowest races, and the end.
-    fn write_rest(
-        &self,
-        form: Form,
-        slowest: usize,
-        names: &[String],
-        text: &mut Vec<u8, A>,
-    ) -> Result<(), Memory>
-        ensures { OnOk result (TellsSlowest form slowest self.now.kept text.old.items text.new.items) }
-    {
-        let end: &[u8] = match form {
-            Form::Text => b"",
-            Form::Json => b"}\n",
-            Form::Metrics => b"# EOF\n",
-        };
-        if slowest > 0 {
-            let slow = slowest_of(self.alloc, self.kept(), slowest)?;
-            write_slowest(self.alloc, form, slow.as_slice(), names, text)?;
-        }
-        text.extend_from_slice(end)?;
-        Ok(())
+// Appends the `slowest` slowest races, and the end.
+fn write_rest<A: Allocator + Copy>(
+    races: &Races<A>,
+    form: Form,
+    slowest: usize,
+    names: &[String],
+    text: &mut Vec<u8, A>,
+) -> Result<(), Memory>
+    ensures { OnOk result (TellsSlowest form slowest races.now.kept text.old.items text.new.items) }
+{
+    let end: &[u8] = match form {
+        Form::Text => b"",
+        Form::Json => b"}\n",
+        Form::Metrics => b"# EOF\n",
+    };
+    if slowest > 0 {
+        let slow = slowest_of(*text.allocator(), races.kept(), slowest)?;
+        write_slowest(form, slow.as_slice(), names, text)?;
     }
+    text.extend_from_slice(end)?;
+    Ok(())
 }
 
 fn write_text<A: Allocator + Copy>(
@@ -169,7 +167,6 @@ fn sort_slowest<A: Allocator>(won: &mut Vec<Kept, A>)
 }
 
 fn write_slowest<A: Allocator + Copy>(
-    alloc: A,
     form: Form,
     slow: &[Kept],
     names: &[String],
@@ -185,7 +182,7 @@ fn write_slowest<A: Allocator + Copy>(
     let mut before = begin;
     for race in slow {
         write_name(form, before, name_of(race.place.file, names), b"", text)?;
-        write_slow(alloc, form, race, text)?;
+        write_slow(form, race, text)?;
         before = between;
     }
     text.extend_from_slice(end)?;
@@ -223,14 +220,13 @@ pub fn write_name<A: Allocator>(
 
 // Appends the figures of a slow race, after the name of its file.
 fn write_slow<A: Allocator + Copy>(
-    alloc: A,
     form: Form,
     race: &Kept,
     text: &mut Vec<u8, A>,
 ) -> Result<(), Memory>
     ensures { OnOk result (Tells (slow_facts form race.now) text.old.items text.new.items) }
 {
-    let mut parts = Vec::new(alloc);
+    let mut parts = Vec::new(*text.allocator());
     push_slow(form, race, &mut parts)?;
     write_parts(parts.as_slice(), text)
 }

@@ -25,9 +25,9 @@ use Rattle.he_streaming.specs.Rounds.{WritesText}
 use Rattle.he_streaming.specs.Stream.{PutsSome, TellsSome}
 use Rattle.he_streaming.proofs.Further.{round_failed}
 use Rattle.he_streaming.proofs.RaceTexts.{AreTold-append, told_at}
-use Rattle.he_summary.specs.Steps.{AddsRace}
-use Rattle.he_summary.specs.Summed.{Sums}
-use Rattle.he_summary.proofs.Walked.{all_added, none_read, one_more}
+use Rattle.he_totals.specs.Steps.{AddsRace}
+use Rattle.he_totals.specs.Summed.{Sums}
+use Rattle.he_totals.proofs.Walked.{all_added, none_read, one_more}
 use Rattle.he_tasks.specs.Pages.{HasPut, IsPart, PutsAll, PutsParts, PutsRaces, PutsSections, PutsSure}
 use Rattle.he_tasks.specs.Streams.{Gave, GaveSoFar, TookAll, TookPart, TookRounds, TookRoundsPart}
 

@@ -20,15 +20,15 @@ use Rattle.he_stream.specs.declared.stream.InputStream as inputs
 use Rattle.he_stream.specs.declared.stream.OutputStream as outputs
 use Rattle.he_inputs.specs.RaceStreams.{StreamState}
 use Rattle.he_summary.specs.Figures.{greatest_of}
-use Rattle.he_summary.specs.Steps.{HasRead}
-use Rattle.he_summary.specs.Summed.{HasAdded, Sums}
-use Rattle.he_summary.specs.Times.{IsSpread}
-use Rattle.he_summary.specs.Totals.{AreTotals}
-use Rattle.he_summary.specs.declared.kept.Ending.{Ending}
-use Rattle.he_summary.specs.declared.kept.Ending.TheVariants as endings
-use Rattle.he_summary.specs.declared.kept.Kept.{Kept}
-use Rattle.he_summary.specs.declared.times.Spread.{Spread}
-use Rattle.he_summary.specs.declared.totals.Totals.{Totals}
+use Rattle.he_totals.specs.Steps.{HasRead}
+use Rattle.he_totals.specs.Summed.{HasAdded, Sums}
+use Rattle.he_totals.specs.Times.{IsSpread}
+use Rattle.he_totals.specs.Totals.{AreTotals}
+use Rattle.he_totals.specs.declared.kept.Ending.{Ending}
+use Rattle.he_totals.specs.declared.kept.Ending.TheVariants as endings
+use Rattle.he_totals.specs.declared.kept.Kept.{Kept}
+use Rattle.he_totals.specs.declared.times.Spread.{Spread}
+use Rattle.he_totals.specs.declared.totals.Totals.{Totals}
 use Rattle.he_tasks.specs.Streams.{Gave, GaveSoFar, PutsText, TookRounds, TookRoundsPart}
 use Rattle.he_tasks.specs.declared.reports.TheConstants.{FAULT}
 

@@ -10,13 +10,13 @@ use Rattle.he_compare.specs.Worst.{IsWorst}
 use Rattle.he_compare.specs.declared.grouping.By.{By as Dividing}
 use Rattle.he_compare.specs.declared.grouping.By.TheVariants as dividing
 use Rattle.he_compare.specs.declared.verdict.Finish.TheVariants.{NotWon}
-use Rattle.he_summary.specs.Hosts.{AreNamed, Named, at_hosts}
-use Rattle.he_summary.specs.Kept.{Run, kept_of}
-use Rattle.he_summary.specs.Summed.{Adds, HasSummed, Sums, host_of}
+use Rattle.he_totals.specs.Hosts.{AreNamed, Named, at_hosts}
+use Rattle.he_totals.specs.Kept.{Run, kept_of}
+use Rattle.he_totals.specs.Summed.{Adds, HasSummed, Sums, host_of}
 use Rattle.he_summary.specs.Written.{IsWritten}
 use Rattle.he_summary.specs.declared.figures.Form.{Form}
 use Rattle.he_summary.specs.declared.figures.Form.TheVariants as forms
-use Rattle.he_summary.specs.declared.kept.Kept.{Kept}
+use Rattle.he_totals.specs.declared.kept.Kept.{Kept}
 use Rattle.he_inputs.specs.declared.stream_fault.StreamFault.{StreamFault}
 use Rattle.he_inputs.specs.declared.stream_fault.StreamFault.TheVariants.{Memory}
 use Rattle.he_options.specs.Shown.{shown}

@@ -12,7 +12,7 @@ use Rattle.he_streaming.specs.declared.race_texts.Printer.TheVariants as printer
 use Rattle.he_stream.specs.declared.stream.InputStream as inputs
 use Rattle.he_stream.specs.declared.stream.OutputStream as outputs
 use Rattle.he_inputs.specs.declared.stream_fault.StreamFault.{StreamFault}
-use Rattle.he_summary.specs.Summed.{Sums}
+use Rattle.he_totals.specs.Summed.{Sums}
 use Rattle.he_options.specs.Shown.{shown}
 use Rattle.he_options.specs.declared.texts.Content.TheVariants as asked
 use Rattle.he_options.specs.declared.texts.Content.{Content as Asked}

@@ -6,7 +6,7 @@ use Rattle.he_options.specs.declared.texts.Task.TheVariants.{Write}
 use Rattle.he_options.specs.declared.texts.Texts.{Texts}
 use Rattle.he_stream.specs.declared.stream.InputStream as inputs
 use Rattle.he_stream.specs.declared.stream.OutputStream as outputs
-use Rattle.he_summary.specs.Summed.{HasSummed, Sums}
+use Rattle.he_totals.specs.Summed.{HasSummed, Sums}
 use Rattle.he_tasks.specs.Directories.{HasFilesOf}
 use Rattle.he_tasks.specs.Listed.{IsList, WasListed}
 use Rattle.he_tasks.specs.Status.{first_fault}

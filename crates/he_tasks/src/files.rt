@@ -12,7 +12,7 @@ use he_inputs::StreamFault;
 use he_options::shown::shown;
 use he_options::{STANDARD, Task, Texts};
 use he_stream::{FromReader, InputStream, OutputStream};
-use he_summary::Races;
+use he_totals::Races;
 use std::alloc::Global;
 use std::fs;
 use std::io::Write;

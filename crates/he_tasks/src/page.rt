@@ -13,9 +13,9 @@ use he_inputs::{StreamFault, record_of};
 use he_stream::{InputStream, OutputStream};
 use he_streaming::{Content, Printer, RacePlace, TextRequest};
 use he_summary::figures::greatest_of;
-use he_summary::times::spread_of;
-use he_summary::{Ending, Kept, Place, Races, Spread};
 use he_timeline::Changes;
+use he_totals::times::spread_of;
+use he_totals::{Ending, Kept, Place, Races, Spread};
 use std::alloc::Global;
 use std::io::Write;
 use std::mem::drop;
@@ -135,7 +135,7 @@ fn tail(alloc: Global, races: &Races<Global>) -> Result<Vec<u8>, Memory>
 fn totals_of(alloc: Global, kept: &[Kept]) -> Result<Totals, Memory>
     ensures { IfOk result (ArePageTotals kept.now) }
 {
-    let counted = he_summary::Totals::of(alloc, kept)?;
+    let counted = he_totals::Totals::of(alloc, kept)?;
     let counts = counted.counts;
     let ends = spread_of(&mut ends_of(alloc, kept)?);
     Ok(Totals {

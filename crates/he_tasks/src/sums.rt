@@ -1,7 +1,7 @@
 //! The summary or the comparison of the races of all texts.
 ghost use Rattle.std.specs.Prelude.{ℕ, ◌≡◌, IfOk, List, map, OnOk, string_bytes};
-ghost use Rattle.he_summary.specs.Kept.{Run};
-ghost use Rattle.he_summary.specs.Summed.{HasSummed};
+ghost use Rattle.he_totals.specs.Kept.{Run};
+ghost use Rattle.he_totals.specs.Summed.{HasSummed};
 ghost use Rattle.he_tasks.specs.Summaries.{AreByHost, AreDivided, AreGrouped, AreLinesOf, AreWorst, AreWorstGroups, EndsTask, EndsTexts, IsSummary, IsTold, IsWorstHost, IsWorstHour, PutsSums};
 ghost use Rattle.he_options.specs.declared.texts.Task.TheVariants.{Write};
 ghost use Rattle.he_tasks.specs.Summaries.{form_of, name_in, names_in};
@@ -15,7 +15,8 @@ use he_inputs::StreamFault;
 use he_options::shown::shown;
 use he_options::{By, Content, Task, Texts};
 use he_stream::OutputStream;
-use he_summary::{Form, Kept, Races};
+use he_summary::Form;
+use he_totals::{Kept, Races};
 use std::alloc::Global;
 use std::io::Write;
 
@@ -124,7 +125,7 @@ fn tell_summary(
         → OnOk result (IsSummary form texts.now runs slowest text.old.items text.new.items) }
 {
     let names = names_in(*text.allocator(), form, texts)?;
-    races.write(form, slowest, names.as_slice(), text)?;
+    he_summary::write(races, form, slowest, names.as_slice(), text)?;
     tell_worst(form, texts, races, text)
 }
 

@@ -21,7 +21,7 @@ use he_inputs::{RaceStream, StreamFault};
 use he_options::{Content, Task, Texts};
 use he_stream::{InputStream, OutputStream};
 use he_streaming::{TextRequest, replay};
-use he_summary::Races;
+use he_totals::Races;
 use std::alloc::Global;
 use std::io::Write;
 use std::mem::drop;

@@ -2,7 +2,7 @@ use Rattle.std.proofs.Common.{IsPermutation, List, subst}
 use Rattle.std.specs.List.Sorted.{IsStableByKey}
 use Rattle.std.specs.Ordering.{nat_cmp}
 use Rattle.std.proofs.lemmas.Result.{IfOk-weaker}
-use Rattle.he_summary.specs.declared.kept.Kept.{Kept}
+use Rattle.he_totals.specs.declared.kept.Kept.{Kept}
 use Rattle.he_compare.specs.Groups.{division_of, key_of}
 use Rattle.he_compare.proofs.Grouped.{moved}
 use Rattle.he_compare.proofs.groups.groups_of.Goals as goal

@@ -2,7 +2,7 @@ use Rattle.std.proofs.Common.{ℕ, ◌≡◌, ◌+◌, ◌<◌, List, [], ◌∷
 use Rattle.std.proofs.lemmas.List.{append-nil, drop_all, drop_more}
 use Rattle.he_summary.specs.Written.{HasWords, Tells}
 use Rattle.he_summary.specs.declared.figures.Form.{Form}
-use Rattle.he_summary.specs.declared.kept.Kept.{Kept}
+use Rattle.he_totals.specs.declared.kept.Kept.{Kept}
 use Rattle.he_summary.proofs.Told.{told_before}
 use Rattle.he_compare.specs.Lines.{AreLines, line_facts, lines_facts}
 use Rattle.he_compare.specs.Verdicts.{own_after}

@@ -1,5 +1,5 @@
 use Rattle.std.proofs.Common.{List, ℕ, drop}
-use Rattle.he_summary.specs.Hosts.{hosts_in}
+use Rattle.he_totals.specs.Hosts.{hosts_in}
 use Rattle.he_summary.specs.Written.{TellsAddresses}
 use Rattle.he_summary.proofs.addresses.write_addresses.Given as goal
 

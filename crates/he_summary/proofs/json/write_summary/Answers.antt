@@ -1,7 +1,7 @@
 use Rattle.std.proofs.Common.{ℕ, ◌++◌, List, codes}
 use Rattle.std.proofs.lemmas.Result.{on_ok_weaker}
 use Rattle.he_summary.specs.declared.json.Rows.TheVariants as rows
-use Rattle.he_summary.specs.Hosts.{hosts_in}
+use Rattle.he_totals.specs.Hosts.{hosts_in}
 use Rattle.he_summary.specs.Json.{record_json, tallies_json, totals_json}
 use Rattle.he_summary.proofs.Joined.{joined}
 use Rattle.he_summary.proofs.json.write_summary.Goals as goal

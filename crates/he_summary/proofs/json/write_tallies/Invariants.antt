@@ -1,6 +1,6 @@
 use Rattle.std.proofs.Common.{◌≡◌, ◌++◌, codes, drop}
 use Rattle.std.specs.List.{flat_map}
-use Rattle.he_summary.specs.Hosts.{hosts_in}
+use Rattle.he_totals.specs.Hosts.{hosts_in}
 use Rattle.he_summary.specs.Json.{tally_json}
 use Rattle.he_summary.proofs.json.write_tallies.Given as goal
 

@@ -1,8 +1,8 @@
 use Rattle.std.proofs.Common.{rules}
 use Rattle.std.proofs.lemmas.List.Sorted.{answers_always}
 use Rattle.std.specs.Option.{unwrap_or}
-use Rattle.he_summary.specs.Totals.{time_of}
-use Rattle.he_summary.specs.declared.kept.Kept.{Kept}
+use Rattle.he_totals.specs.Totals.{time_of}
+use Rattle.he_totals.specs.declared.kept.Kept.{Kept}
 use Rattle.he_summary.proofs.writing.sort_slowest.Goals as goal
 
 pub returns-clause-sorted : goal.returns-clause-sorted

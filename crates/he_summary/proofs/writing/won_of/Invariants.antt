@@ -1,6 +1,6 @@
 use Rattle.std.proofs.Common.{◌≡◌, ◌++◌, drop, filter}
-use Rattle.he_summary.specs.Totals.{is_kind}
-use Rattle.he_summary.specs.declared.totals.Kind.TheVariants.{Won}
+use Rattle.he_totals.specs.Totals.{is_kind}
+use Rattle.he_totals.specs.declared.totals.Kind.TheVariants.{Won}
 use Rattle.he_summary.proofs.writing.won_of.Given as goal
 
 abbrev pub invariant-loop-race : goal.invariant-loop-race

@@ -9,8 +9,8 @@ use Rattle.he_inputs.specs.declared.stream_fault.StreamFault.TheVariants as faul
 use Rattle.he_inputs.proofs.RaceReadingLaws.{handed}
 use Rattle.he_record.specs.Said.{Said}
 use Rattle.he_streaming.specs.Rounds.{IsAsked, WritesText}
-use Rattle.he_summary.specs.Steps.{AddsRace}
-use Rattle.he_summary.specs.declared.kept.Place.{Place}
+use Rattle.he_totals.specs.Steps.{AddsRace}
+use Rattle.he_totals.specs.declared.kept.Place.{Place}
 use Rattle.he_tasks.specs.Pages.{HasPut, PutsParts}
 use Rattle.he_tasks.proofs.PageParts.{given_so_far, left_put, nothing_put, parts_ended, parts_failed, parts_lost, parts_over, parts_refused, race_put}
 use Rattle.he_tasks.proofs.page.put_parts.Goals as goal

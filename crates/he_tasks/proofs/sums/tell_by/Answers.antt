@@ -3,9 +3,9 @@ use Rattle.std.proofs.lemmas.Result.{on_ok_weaker}
 use Rattle.he_compare.specs.Groups.{IsGroupTable}
 use Rattle.he_compare.specs.declared.grouping.By.{By as Dividing}
 use Rattle.he_options.specs.declared.texts.Texts.{Texts}
-use Rattle.he_summary.specs.Kept.{Run, kept_of}
+use Rattle.he_totals.specs.Kept.{Run, kept_of}
 use Rattle.he_summary.specs.declared.figures.Form.{Form}
-use Rattle.he_summary.specs.declared.kept.Kept.{Kept}
+use Rattle.he_totals.specs.declared.kept.Kept.{Kept}
 use Rattle.he_tasks.specs.Summaries.{AreDivided, names_in}
 use Rattle.he_tasks.proofs.sums.tell_by.Goals as goal
 

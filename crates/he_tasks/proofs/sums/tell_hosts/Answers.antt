@@ -2,11 +2,11 @@ use Rattle.std.proofs.Common.{ℕ, ◌≡◌, ◌∙◌, List, ap, map, string_b
 use Rattle.std.proofs.lemmas.Result.{on_ok_weaker}
 use Rattle.he_compare.specs.Groups.{IsGroupTable}
 use Rattle.he_compare.specs.declared.grouping.By.TheVariants as dividing
-use Rattle.he_summary.specs.Hosts.{AreNamed, Named, at_hosts}
-use Rattle.he_summary.specs.Kept.{Run, kept_of}
-use Rattle.he_summary.specs.Summed.{host_of}
+use Rattle.he_totals.specs.Hosts.{AreNamed, Named, at_hosts}
+use Rattle.he_totals.specs.Kept.{Run, kept_of}
+use Rattle.he_totals.specs.Summed.{host_of}
 use Rattle.he_summary.specs.declared.figures.Form.{Form}
-use Rattle.he_summary.specs.declared.kept.Kept.{Kept}
+use Rattle.he_totals.specs.declared.kept.Kept.{Kept}
 use Rattle.he_tasks.specs.Summaries.{AreByHost}
 use Rattle.he_tasks.proofs.sums.tell_hosts.Goals as goal
 

@@ -2,10 +2,10 @@ use Rattle.std.proofs.Common.{ℕ, ◌≡◌, ◌∙◌, List, ap, codes, map, s
 use Rattle.std.proofs.lemmas.Result.{on_ok_weaker}
 use Rattle.he_compare.specs.Worst.{IsWorst}
 use Rattle.he_compare.specs.declared.grouping.By.TheVariants as dividing
-use Rattle.he_summary.specs.Hosts.{AreNamed, Named, at_hosts}
-use Rattle.he_summary.specs.Kept.{Run, kept_of}
-use Rattle.he_summary.specs.Summed.{host_of}
-use Rattle.he_summary.specs.declared.kept.Kept.{Kept}
+use Rattle.he_totals.specs.Hosts.{AreNamed, Named, at_hosts}
+use Rattle.he_totals.specs.Kept.{Run, kept_of}
+use Rattle.he_totals.specs.Summed.{host_of}
+use Rattle.he_totals.specs.declared.kept.Kept.{Kept}
 use Rattle.he_tasks.specs.Summaries.{IsWorstHost}
 use Rattle.he_tasks.proofs.sums.tell_worst_host.Goals as goal
 

@@ -3,9 +3,9 @@ use Rattle.std.proofs.lemmas.Result.{on_ok_weaker}
 use Rattle.he_compare.specs.Worst.{IsWorst}
 use Rattle.he_compare.specs.declared.grouping.By.TheVariants as dividing
 use Rattle.he_options.specs.declared.texts.Texts.{Texts}
-use Rattle.he_summary.specs.Kept.{Run, kept_of}
+use Rattle.he_totals.specs.Kept.{Run, kept_of}
 use Rattle.he_summary.specs.declared.figures.Form.TheVariants as forms
-use Rattle.he_summary.specs.declared.kept.Kept.{Kept}
+use Rattle.he_totals.specs.declared.kept.Kept.{Kept}
 use Rattle.he_tasks.specs.Summaries.{IsWorstHour, names_in}
 use Rattle.he_tasks.proofs.sums.tell_worst_hour.Goals as goal
 

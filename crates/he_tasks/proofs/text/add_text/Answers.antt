@@ -1,5 +1,5 @@
 use Rattle.std.proofs.Common.{◌∙◌, Option, Some, rules, subst, sym}
-use Rattle.he_summary.specs.Summed.{Sums}
+use Rattle.he_totals.specs.Summed.{Sums}
 use Rattle.he_tasks.specs.Summaries.{AddsSums}
 use Rattle.he_tasks.proofs.text.add_text.Goals as goal
 

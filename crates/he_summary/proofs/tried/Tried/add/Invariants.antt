@@ -1,9 +1,0 @@
-use Rattle.std.proofs.Common.{◌≡◌, drop, map}
-use Rattle.std.specs.List.{fold}
-use Rattle.he_summary.specs.Hosts.{with_pair}
-use Rattle.he_summary.proofs.tried.Tried.add.Given as goal
-
-abbrev pub invariant-loop-line : goal.invariant-loop-line
-invariant-loop-line g l =
-    fold with_pair l.self (map (λ line. (line.ip, l.host)) (drop l.line-index l.lines))
-    ≡ fold with_pair l.fn.self (map (λ line. (line.ip, l.host)) l.lines)

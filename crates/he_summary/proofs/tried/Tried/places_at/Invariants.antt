@@ -1,6 +1,0 @@
-use Rattle.std.proofs.Common.{◌≡◌, ◌++◌}
-use Rattle.he_summary.specs.Hosts.{places_of}
-use Rattle.he_summary.proofs.tried.Tried.places_at.Given as goal
-
-abbrev pub invariant-loop-other : goal.invariant-loop-other
-invariant-loop-other g l = l.places.items ++ places_of l.other-iterator l.ip ≡ places_of l.self l.ip

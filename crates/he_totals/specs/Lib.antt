@@ -1,0 +1,8 @@
+pub mod Hosts
+pub mod Kept
+pub mod Laws
+pub mod Steps
+pub mod Summed
+pub mod Times
+pub mod Totals
+pub mod Tries
