@@ -1,0 +1,4 @@
+pub mod Cuts
+pub mod Pairs
+pub mod Reading
+pub mod Same

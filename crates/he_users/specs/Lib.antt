@@ -1,0 +1,3 @@
+pub mod Basic
+pub mod Lines
+pub mod Users
