@@ -26,7 +26,7 @@ IsOctet octet = is_target_octet octet ≡ true
 abbrev IsUri : ℕ → Type 0
 IsUri octet = IsTrue (is_uri_byte octet)
 
-abbrev IsText : ℕ → Type 0
+abbrev pub IsText : ℕ → Type 0
 IsText octet = IsTrue (is_value_byte octet)
 
 abbrev IsLow : ℕ → Type 0
@@ -77,15 +77,15 @@ module _ (target : List ℕ) (absolute : is_absolute target ≡ true) where
       (some_if (path_in target))
 
 -- a name is a token, and a value has no control code
-abbrev IsNamed : List ℕ × List ℕ → Type 0
+abbrev pub IsNamed : List ℕ × List ℕ → Type 0
 IsNamed parts = IsToken parts.0 × AllPass is_value_byte parts.1
 
-named : (fields : List Field) → All IsField fields → All IsNamed (map name_and_value fields)
+pub named : (fields : List Field) → All IsField fields → All IsNamed (map name_and_value fields)
 named fields all =
     All-map IsNamed name_and_value fields
     (All-weaker IsField (λ field. IsNamed (name_and_value field)) (λ field is. (is.name, AllPass-trim_ows is_value_byte field.raw is.raw)) fields all)
 
-spans_named : (octets : List ℕ) (spans : List HeaderSpan) → All IsNamed (map (header_bytes octets) spans)
+pub spans_named : (octets : List ℕ) (spans : List HeaderSpan) → All IsNamed (map (header_bytes octets) spans)
     → All (λ span. IsField (kept octets span)) spans
 spans_named octets [] all = All-nil (λ span. IsField (kept octets span))
 spans_named octets (span ∷ spans) all =
@@ -102,11 +102,11 @@ host_name : IsToken (codes "Host")
 unfolding is_token_byte
 host_name = (omega arith, All-from_recursion IsTokenOctet (codes "Host") (refl, (refl, (refl, (refl, tt)))))
 
-via_name : IsToken (codes "Via")
+pub via_name : IsToken (codes "Via")
 unfolding is_token_byte
 via_name = (omega arith, All-from_recursion IsTokenOctet (codes "Via") (refl, (refl, (refl, tt))))
 
-connection_name : IsToken (codes "Connection")
+pub connection_name : IsToken (codes "Connection")
 unfolding is_token_byte
 connection_name = (
   omega arith,
@@ -117,12 +117,12 @@ connection_name = (
 digit_text : (version : ℕ) → version ≤ 1 → IsText (48 + version)
 digit_text version known = grind (arith, nat_tests)
 
-via_text : (version : ℕ) → version ≤ 1 → All IsText (32 ∷ via version)
+pub via_text : (version : ℕ) → version ≤ 1 → All IsText (32 ∷ via version)
 via_text version known =
     All-from_recursion IsText (32 ∷ via version)
     (refl, (refl, (refl, (digit_text version known, (refl, (refl, (refl, tt)))))))
 
-close_text : All IsText (32 ∷ codes "close")
+pub close_text : All IsText (32 ∷ codes "close")
 close_text = All-from_recursion IsText (32 ∷ codes "close") (refl, (refl, (refl, (refl, (refl, (refl, tt))))))
 
 own_fields : (version : ℕ) → version ≤ 1

@@ -16,7 +16,7 @@ filtered : (p : HeaderSpan → Bool) (f : HeaderSpan → Field) (b : Bool) (x : 
 filtered p f true x fields rest = ap (λ t. print_field (f x) ++ t) rest
 filtered p f false x fields rest = rest
 
-kept_lines : (p : HeaderSpan → Bool) (f : HeaderSpan → Field) (fields : List HeaderSpan)
+pub kept_lines : (p : HeaderSpan → Bool) (f : HeaderSpan → Field) (fields : List HeaderSpan)
     → flat_map (λ x. cond (p x) (print_field (f x)) []) fields ≡ flat_map print_field (map f (filter p fields))
 kept_lines p f [] = refl
 kept_lines p f (x ∷ fields) = filtered p f (p x) x fields (kept_lines p f fields)

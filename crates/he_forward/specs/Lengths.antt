@@ -1,5 +1,5 @@
 -- How the body of a request is framed (RFC 9112 section 6.3).
-use Rattle.std.specs.Prelude.{◌≡◌, ◌⊎◌, ◌<◌, ◌^◌, ◌&&◌, ◌==◌, ℕ, Bool, true, false, List, Option, Some, None, codes, length}
+use Rattle.std.specs.Prelude.{◌≡◌, ◌⊎◌, ◌<◌, ◌-◌, ◌^◌, ◌&&◌, ◌||◌, ◌==◌, not, ℕ, Bool, true, false, List, [], ◌∷◌, Option, Some, None, codes, drop, length, nat_le, take}
 use Rattle.std.specs.Char.{is_ascii_digit}
 use Rattle.std.specs.List.{list_all}
 use Rattle.std.specs.Option.{option_map}
@@ -8,6 +8,7 @@ use Rattle.httparse.specs.Spans.{span_bytes}
 use Rattle.httparse.specs.declared.spans.HeaderSpan.{HeaderSpan}
 use Rattle.he_body.specs.declared.body.Framing.{Framing}
 use Rattle.he_body.specs.declared.body.Framing.TheVariants.{Chunked, Length}
+use Rattle.he_forward.specs.Fields.{begins, lists}
 use Rattle.he_front.specs.Http.{count_named, field_named, is_named}
 
 -- Content-Length = 1*DIGIT (RFC 9110 section 8.6), of a number below 2^64
@@ -37,6 +38,30 @@ HasLength octets fields count =
 abbrev pub is_chunked : Option (List ℕ) → Bool
 is_chunked None = false
 is_chunked (Some value) = is_named (codes "chunked") value
+
+-- the text ends in a comma that only spaces and tabs follow, or none has come since such a comma
+abbrev pub ends_in_comma : Bool → List ℕ → Bool
+ends_in_comma follows [] = follows
+ends_in_comma follows (x ∷ more) = ends_in_comma (x == 44 || (follows && (x == 32 || x == 9))) more
+
+-- the transfer codings before the last one: there is one, and none of them is chunked, which a body has once at most
+-- (RFC 9112 section 7.1)
+abbrev pub are_other : List ℕ → Bool
+are_other codings = not (begins codings) && (ends_in_comma false codings && not (lists (codes "chunked") true codings))
+
+-- the last transfer coding is chunked, so that the body's length is known (RFC 9112 section 6.3), and there are others
+-- before it, none of which this proxy understands (section 6.1)
+abbrev pub is_other_coding : Option (List ℕ) → Bool
+is_other_coding None = false
+is_other_coding (Some value) =
+    nat_le 7 (length value) && (is_named (codes "chunked") (drop (length value - 7) value)
+    && are_other (take (length value - 7) value))
+
+-- one field says so, of HTTP/1.1, and none says a length
+abbrev pub has_other_coding : List ℕ → List HeaderSpan → ℕ → Bool
+has_other_coding octets fields version =
+    length_count octets fields == 0 && (coding_count octets fields == 1
+    && (version == 1 && is_other_coding (value_in octets fields (codes "transfer-encoding"))))
 
 -- the one transfer coding chunked, which only HTTP/1.1 has, and no length
 abbrev pub by_chunks : List ℕ → List HeaderSpan → ℕ → Bool

@@ -1,17 +1,19 @@
 -- Requests in absolute form, and what is forwarded of them.
-use Rattle.std.specs.Prelude.{◌≡◌, ◌⊎◌, ℕ, ◌&&◌, ◌||◌, ◌==◌, not, Bool, false, true, List, [], ◌∷◌, codes, nat_le, string_bytes, take}
+use Rattle.std.specs.Prelude.{◌≡◌, ◌⊎◌, ℕ, ◌&&◌, ◌||◌, ◌==◌, not, Bool, false, true, List, [], ◌∷◌, codes, if◌then◌else◌, nat_le, string_bytes, take}
 use Rattle.std.specs.declared.alloc.Global.{Global}
 use Rattle.std.specs.Str.{bytes_eq}
 use Rattle.httparse.specs.Grammar.{HasNoRequest, IsRequestHead, MayBecomeRequest, RequestHead, print_request}
 use Rattle.httparse.specs.Spans.{IsRequestAt, RequestOverflows, span_bytes}
 use Rattle.httparse.specs.declared.spans.HeaderSpan.{HeaderSpan}
 use Rattle.httparse.specs.declared.spans.RequestSpans.{RequestSpans}
+use Rattle.he_forward.specs.declared.forward.Fault.{Fault}
+use Rattle.he_forward.specs.declared.forward.Fault.TheVariants as faults
 use Rattle.he_forward.specs.declared.forward.Forward.{Forward}
 use Rattle.he_forward.specs.declared.forward.ReadForward.{ReadForward}
 use Rattle.he_forward.specs.declared.forward.ReadForward.TheVariants as reads
 use Rattle.he_front.specs.Http.{count_named}
 use Rattle.he_forward.specs.Forwards.{forwarded, origin}
-use Rattle.he_forward.specs.Lengths.{IsFramed}
+use Rattle.he_forward.specs.Lengths.{IsFramed, has_other_coding}
 use Rattle.he_forward.specs.Targets.{Names, authority_in, is_absolute, path_in}
 
 -- a line feed stands without a carriage return before it
@@ -60,14 +62,20 @@ pub record IsForwardOf {A : Type 0} (octets : List ℕ) (fields : List HeaderSpa
 abbrev pub IsRefused : List ℕ → List HeaderSpan → RequestSpans → Type 0
 IsRefused octets fields spans = (forward : Forward Global) → IsForwardOf octets fields spans forward → ⊥
 
+-- why not: its body has a transfer coding that the proxy does not understand, or anything else
+abbrev pub fault_of : List ℕ → List HeaderSpan → ℕ → Fault
+fault_of octets fields version = if has_other_coding octets fields version then faults.Coding else faults.Malformed
+
 -- The octets begin with a request head by the grammar, of which this is what is forwarded; or with none yet, and more
--- can complete one; or with one for which none is forwarded, or which has more than 64 fields, or with none.
+-- can complete one; or with one for which none is forwarded, and why; or with one that has more than 64 fields, or
+-- with none.
 abbrev pub Reads : {A : Type 0} → List ℕ → ReadForward A → Type 0
 Reads octets (reads.Whole forward) =
     (room : List HeaderSpan) × (spans : RequestSpans) × (request : RequestHead) × IsRequestAt octets room spans request
     × IsForwardOf octets (take spans.headers room) spans forward
 Reads octets reads.Partial = HasNoRequest octets × MayBecomeRequest octets
-Reads octets reads.Refused =
-    RequestOverflows 64 octets
+Reads octets (reads.Refused fault) =
+    ((fault ≡ faults.Malformed) × RequestOverflows 64 octets)
     ⊎ ((room : List HeaderSpan) × (spans : RequestSpans) × (request : RequestHead) × IsRequestAt octets room spans request
-    × IsRefused octets (take spans.headers room) spans)
+    × IsRefused octets (take spans.headers room) spans
+    × (fault ≡ fault_of octets (take spans.headers room) spans.version))

@@ -1,4 +1,4 @@
-// The fields of a request: which of them go on to the server.
+//! The fields of a request: which of them go on to the server.
 
 ghost use Rattle.std.specs.Prelude.{◌≡◌, All, length, true};
 ghost use Rattle.httparse.specs.Spans.{IsHeaderWithin};
@@ -20,8 +20,8 @@ pub(crate) fn stays(octets: &[u8], fields: &[HeaderSpan], field: HeaderSpan) -> 
     is_framing(name) || !(is_own(name) || is_option(octets, fields, name))
 }
 
-// Whether the field frames the body.
-fn is_framing(name: &[u8]) -> bool
+/// Whether the field frames the body.
+pub fn is_framing(name: &[u8]) -> bool
     ensures { result ≡ is_framing name.now }
 {
     is_named(name, b"content-length") || is_named(name, b"transfer-encoding")
@@ -45,8 +45,8 @@ fn has_prefix(name: &[u8]) -> bool
     name.len() >= PROXY.len() && is_named(&name[..PROXY.len()], PROXY)
 }
 
-// Whether a field Connection names this field.
-fn is_option(octets: &[u8], fields: &[HeaderSpan], name: &[u8]) -> bool
+/// Whether a field Connection names this field (RFC 9110 section 7.6.1).
+pub fn is_option(octets: &[u8], fields: &[HeaderSpan], name: &[u8]) -> bool
     requires { All (IsHeaderWithin (length octets.now)) fields.now }
     ensures { result ≡ is_option octets.now fields.now name.now }
 {
@@ -59,7 +59,7 @@ fn is_option(octets: &[u8], fields: &[HeaderSpan], name: &[u8]) -> bool
 }
 
 // Whether one of the tokens of the value is this one.
-fn lists(value: &[u8], name: &[u8]) -> bool
+pub(crate) fn lists(value: &[u8], name: &[u8]) -> bool
     ensures { result ≡ lists name.now true value.now }
 {
     let mut rest = value;
@@ -80,11 +80,11 @@ fn begins_with(text: &[u8], name: &[u8]) -> bool
     if text.len() < name.len() {
         return false;
     }
-    is_named(&text[..name.len()], name) && ends(&text[name.len()..])
+    is_named(&text[..name.len()], name) && begins(&text[name.len()..])
 }
 
 // Whether no token goes on here.
-fn ends(text: &[u8]) -> bool
+pub(crate) fn begins(text: &[u8]) -> bool
     ensures { result ≡ begins text.now }
 {
     match text.first() {

@@ -2,9 +2,9 @@
 
 ghost use Rattle.std.specs.Prelude.{◌≡◌, ◌≤◌, All, IfOk, MatchOption, false, length, take};
 ghost use Rattle.httparse.specs.Spans.{IsHeaderWithin, IsRequestOf, IsRequestWithin, IsWithin};
-ghost use Rattle.he_forward.specs.Requests.{IsForwardOf, IsRefused, Reads, has_host, has_line_feed_alone, is_counted, may_go_on};
+ghost use Rattle.he_forward.specs.Requests.{IsForwardOf, IsRefused, Reads, fault_of, has_host, has_line_feed_alone, is_counted, may_go_on};
 
-use crate::length::framing_of;
+use crate::length::{framing_of, has_other_coding};
 use crate::target::{asked_of, read_absolute};
 use crate::writing::write_head;
 use he_addr::Memory;
@@ -28,6 +28,15 @@ pub struct Forward<A: Allocator = Global> {
     pub len: usize,
 }
 
+/// Why a request is not forwarded.
+#[derive(Clone, Copy, Debug, PartialEq, Eq)]
+pub enum Fault {
+    /// It is malformed, or servers read it in different ways.
+    Malformed,
+    /// Its body has a transfer coding that this proxy does not understand (RFC 9112 section 6.1).
+    Coding,
+}
+
 /// The result of reading a request in absolute form.
 #[derive(Drop)]
 pub enum ReadForward<A: Allocator = Global> {
@@ -36,7 +45,7 @@ pub enum ReadForward<A: Allocator = Global> {
     /// The octets begin with no whole head, but more octets can complete one.
     Partial,
     /// The octets begin with none that is forwarded.
-    Refused,
+    Refused(Fault),
 }
 
 /// Reads the request in absolute form with which the octets begin, and rewrites its head for the server.
@@ -51,11 +60,14 @@ pub fn read_forward<A: Allocator + Copy>(alloc: A, octets: &[u8]) -> Result<Read
     match parse_request(octets, &mut fields) {
         Ok(Status::Complete(spans)) => match forward_of(alloc, octets, &fields, &spans) {
             Ok(Some(forward)) => Ok(ReadForward::Whole(forward)),
-            Ok(None) => Ok(ReadForward::Refused),
+            Ok(None) => {
+                let fault = fault_of(octets, &fields[..spans.headers], spans.version);
+                Ok(ReadForward::Refused(fault))
+            }
             Err(refused) => Err(refused),
         },
         Ok(Status::Partial) => Ok(ReadForward::Partial),
-        Err(_) => Ok(ReadForward::Refused),
+        Err(_) => Ok(ReadForward::Refused(Fault::Malformed)),
     }
 }
 
@@ -100,6 +112,18 @@ fn forward_of<A: Allocator + Copy>(
         framing,
         len: spans.len,
     }))
+}
+
+// Why a head with these fields is not forwarded.
+fn fault_of(octets: &[u8], fields: &[HeaderSpan], version: u8) -> Fault
+    requires { All (IsHeaderWithin (length octets.now)) fields.now }
+    ensures { result ≡ fault_of octets.now fields.now version }
+{
+    if has_other_coding(octets, fields, version) {
+        Fault::Coding
+    } else {
+        Fault::Malformed
+    }
 }
 
 // Whether it has a field Host, no line feed alone, and no count of proxies.

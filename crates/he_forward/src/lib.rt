@@ -11,15 +11,16 @@
 //! - Nothing that servers read in different ways goes on: no second field Host, Content-Length or Transfer-Encoding,
 //!   no line feed alone (`IsForwardOf` in `specs/Requests`).
 //! - `Refused`: none is forwarded for the head with which they begin (`IsRefused`), or they begin with none of at most
-//!   64 fields, whatever follows. `Partial`: they begin with no whole head, and more octets can complete one.
+//!   64 fields, whatever follows; the fault is `Coding` exactly for a head whose body has another transfer coding
+//!   before chunked (`fault_of`). `Partial`: they begin with no whole head, and more octets can complete one.
 //!
 //! Only tested: the heads of some requests, and which forms of request smuggling are refused.
 #![tactic(auto)]
 
-mod fields;
+pub mod fields;
 mod forward;
-mod length;
+pub mod length;
 mod target;
-mod writing;
+pub mod writing;
 
-pub use forward::{Forward, ReadForward, read_forward};
+pub use forward::{Fault, Forward, ReadForward, read_forward};

@@ -1,4 +1,4 @@
-// The octets for the server.
+//! The octets of a head that goes on.
 
 ghost use Rattle.std.specs.Prelude.{◌≡◌, ◌++◌, ◌∷◌, ◌≤◌, [], All, OnOk, IfOk, codes, length};
 ghost use Rattle.httparse.specs.Grammar.{print_field, print_request};
@@ -60,7 +60,8 @@ fn write_lines<A: Allocator>(
     Ok(())
 }
 
-fn via(version: u8) -> &'static [u8]
+/// The value of a field Via for a message of this minor version (RFC 9110 section 7.6.3).
+pub fn via(version: u8) -> &'static [u8]
     requires { version ≤ 1 }
     ensures { result.now ≡ via version }
 {
@@ -98,7 +99,12 @@ fn write_origin<A: Allocator>(
     }
 }
 
-fn write_line<A: Allocator>(
+/// Appends a field with this name and this value.
+///
+/// # Errors
+///
+/// `AllocError` if an allocation failed.
+pub fn write_line<A: Allocator>(
     name: &[u8],
     value: &[u8],
     out: &mut Vec<u8, A>,
