@@ -6,15 +6,16 @@ use Rattle.std.proofs.lemmas.Option.{get_or_from_slice_get, same_Some, slice_get
 use Rattle.std.specs.Borrow.{Bor}
 use Rattle.std.specs.Int.{w16, w32, w128, from_be_bytes}
 use Rattle.he_addr.specs.declared.ip.Ip.TheVariants.{V4, V6}
+use Rattle.he_front.specs.declared.socks.Method.{Method}
 use Rattle.he_front.specs.declared.socks.Refusal.{Refusal}
 use Rattle.he_front.specs.declared.socks.Refusal.TheVariants as refusals
 use Rattle.he_front.specs.declared.socks.Target.{Target}
 use Rattle.he_front.specs.declared.socks.Target.TheVariants as targets
 use Rattle.he_front.specs.Messages.{HasNone, MayBecome}
-use Rattle.he_front.specs.Socks.{HasOtherKind, IsBegun, IsEnd, IsGreeting, IsRefused, IsRequest, IsTarget, is_other, is_other_than, offers_none}
+use Rattle.he_front.specs.Socks.{HasOtherKind, IsBegun, IsEnd, IsGreeting, IsRefused, IsRequest, IsTarget, is_other, is_other_than, number_of, offers}
 
 -- an octet that stands where another one is wanted still does when more follow
-other-more : (octets more : List ℕ) (place wanted : ℕ) → is_other octets place wanted ≡ true → is_other (octets ++ more) place wanted ≡ true
+pub other-more : (octets more : List ℕ) (place wanted : ℕ) → is_other octets place wanted ≡ true → is_other (octets ++ more) place wanted ≡ true
 other-more [] more place wanted is = absurd (false≢true is)
 other-more (x ∷ octets) more zero wanted is = is
 other-more (x ∷ octets) more (suc place) wanted is = other-more octets more place wanted is
@@ -46,7 +47,7 @@ refused octets refusals.Kind other request len is = no-kind octets request.targe
 pub wanted-there : (x wanted : ℕ) → not (eqb x wanted) ≡ false → x ≡ wanted
 wanted-there x wanted is = eqb-true x wanted (not-false (eqb x wanted) is)
 
-abbrev zeros : ℕ → List ℕ
+abbrev pub zeros : ℕ → List ℕ
 zeros n = replicate n 0
 
 -- a kind of address
@@ -66,11 +67,11 @@ kind-of k known = elim (cases_Bool (eqb k 1)) [
 ]
 
 -- enough octets follow
-enough : (octets : List ℕ) (n : ℕ) → n ≤ length (octets ++ zeros n)
+pub enough : (octets : List ℕ) (n : ℕ) → n ≤ length (octets ++ zeros n)
 enough octets n = omega (arith, length-append octets (zeros n), length-replicate {A = ℕ} n 0)
 
 -- octets as a reference shows them
-abbrev shown : List ℕ → Bor (List ℕ)
+abbrev pub shown : List ℕ → Bor (List ℕ)
 shown octets = record { ref_ptr = (0, 0); now = octets }
 
 name-len : (octets : List ℕ) (l : ℕ) → 5 + l + 2 ≤ length octets → length (slice_range octets 5 (5 + l)) ≡ l
@@ -189,28 +190,28 @@ is-there (x ∷ octets) (suc place) wanted there is = is-there octets place want
 -- ---- greetings
 
 -- more octets make a greeting of what has the number of its methods
-greeting-of-two : (x n : ℕ) (rest : List ℕ) → x ≡ 5 → MayBecome IsGreeting (x ∷ n ∷ rest)
-greeting-of-two x n rest version =
+greeting-of-two : (way : Method) (x n : ℕ) (rest : List ℕ) → x ≡ 5 → MayBecome (IsGreeting way) (x ∷ n ∷ rest)
+greeting-of-two way x n rest version =
     let all = (x ∷ n ∷ rest) ++ zeros (2 + n) in (
       zeros (2 + n),
-      offers_none (slice_range all 2 (2 + n)),
+      offers (number_of way) (slice_range all 2 (2 + n)),
       2 + n,
       record { version = ap Some version; count = n; counted = refl; ends = refl; whole = enough (x ∷ n ∷ rest) (2 + n); methods = refl },
     )
 
-pub greeting-may : (octets : List ℕ) → slice_index_or octets 0 0 ≡ 5 → MayBecome IsGreeting octets
-greeting-may [] version = absurd (omega (arith, version))
-greeting-may (x ∷ []) version = let made = greeting-of-two x 0 [] version in (0 ∷ made.0, made.1, made.2, made.3)
-greeting-may (x ∷ n ∷ rest) version = greeting-of-two x n rest version
+pub greeting-may : (way : Method) (octets : List ℕ) → slice_index_or octets 0 0 ≡ 5 → MayBecome (IsGreeting way) octets
+greeting-may way [] version = absurd (omega (arith, version))
+greeting-may way (x ∷ []) version = let made = greeting-of-two way x 0 [] version in (0 ∷ made.0, made.1, made.2, made.3)
+greeting-may way (x ∷ n ∷ rest) version = greeting-of-two way x n rest version
 
-pub greeting-of-none : (octets : List ℕ) → length octets ≡ 0 → MayBecome IsGreeting octets
-greeting-of-none [] none = let made = greeting-of-two 5 0 [] refl in (5 ∷ 0 ∷ made.0, made.1, made.2, made.3)
-greeting-of-none (x ∷ octets) none = absurd (omega (arith, none))
+pub greeting-of-none : (way : Method) (octets : List ℕ) → length octets ≡ 0 → MayBecome (IsGreeting way) octets
+greeting-of-none way [] none = let made = greeting-of-two way 5 0 [] refl in (5 ∷ 0 ∷ made.0, made.1, made.2, made.3)
+greeting-of-none way (x ∷ octets) none = absurd (omega (arith, none))
 
-pub no-count : (octets : List ℕ) → length octets < 2 → HasNone IsGreeting octets
-no-count octets short offered len is = absurd (omega (arith, slice_get_within octets 1 is.count is.counted, short))
+pub no-count : (way : Method) (octets : List ℕ) → length octets < 2 → HasNone (IsGreeting way) octets
+no-count way octets short offered len is = absurd (omega (arith, slice_get_within octets 1 is.count is.counted, short))
 
-pub too-short : (octets : List ℕ) → length octets < 2 + slice_index_or octets 1 0 → HasNone IsGreeting octets
-too-short octets short offered len is =
+pub too-short : (way : Method) (octets : List ℕ) → length octets < 2 + slice_index_or octets 1 0 → HasNone (IsGreeting way) octets
+too-short way octets short offered len is =
     let count : slice_index_or octets 1 0 ≡ is.count = get_or_from_slice_get octets 1 is.count 0 is.counted in
     absurd (omega (arith, count, is.ends, is.whole, short))

@@ -3,5 +3,6 @@ mod Appended
 mod Authorities
 mod Begun
 mod Cuts
+mod GivenPasswords
 mod Named
 mod OldMessages

@@ -1,11 +1,13 @@
 pub mod Asked
 pub mod Authority
+pub mod Authorizations
 pub mod Http
 pub mod Lines
 pub mod Messages
 pub mod OldSocks
 pub mod Openings
 pub mod Pages
+pub mod Passwords
 pub mod Reading
 pub mod Replies
 pub mod Responses

@@ -18,6 +18,8 @@ IsConfigPath target = (target ≡ codes "/proxy.pac") ⊎ (target ≡ codes "/wp
 abbrev pub IsPath : Page → List ℕ → Type 0
 IsPath pages.Config target = IsConfigPath target
 IsPath pages.Races target = target ≡ codes "/"
+IsPath pages.Metrics target = target ≡ codes "/metrics"
+IsPath pages.Health target = target ≡ codes "/healthz"
 
 -- the address is 127.0.0.1, ::1 or the one that the client reached
 abbrev pub IsOwnIp : Ip → Ip → Type 0

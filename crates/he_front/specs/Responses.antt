@@ -14,8 +14,10 @@ abbrev pub phrase_of : Ended → List ℕ
 phrase_of ended.Connected = codes "Connection established"
 phrase_of ended.Kind = codes "Bad Request"
 phrase_of ended.Forbidden = codes "Forbidden"
+phrase_of ended.NoUser = codes "Proxy Authentication Required"
 phrase_of ended.Failed = codes "Internal Server Error"
 phrase_of ended.Command = codes "Not Implemented"
+phrase_of ended.Coding = codes "Not Implemented"
 phrase_of ended.NoNetwork = codes "Bad Gateway"
 phrase_of ended.NoHost = codes "Bad Gateway"
 phrase_of ended.Refused = codes "Bad Gateway"
@@ -52,13 +54,24 @@ abbrev pub refusal_text : Ended → List ℕ → List ℕ
 refusal_text end reason =
     head_text (status_of end) (phrase_of end) (codes "text/plain") (length reason + 1) ++ (reason ++ codes "\n")
 
-abbrev pub response_text : Ended → List ℕ → List ℕ
-response_text end reason = if status_of end == 200 then tunnel_text else refusal_text end reason
+-- to a client that is no user: the challenge to authenticate by the Basic scheme (RFC 9110 section 15.5.8; RFC 7617
+-- section 2), and the reason
+abbrev pub challenge_text : List ℕ → List ℕ
+challenge_text reason =
+    status_text 407 (phrase_of ended.NoUser) ++ (codes "Proxy-Authenticate: Basic realm=\"he\", charset=\"UTF-8\"\r\n"
+    ++ (media_text (codes "text/plain") ++ (len_text (length reason + 1) ++ (reason ++ codes "\n"))))
 
--- the media types of the pages
+abbrev pub response_text : Ended → List ℕ → List ℕ
+response_text end reason =
+    if status_of end == 200 then tunnel_text
+    else (if status_of end == 407 then challenge_text reason else refusal_text end reason)
+
+-- the media types of the pages; that of the counts is OpenMetrics 1.0's
 abbrev pub media_of : Page → List ℕ
 media_of pages.Config = codes "application/x-ns-proxy-autoconfig"
 media_of pages.Races = codes "text/html; charset=utf-8"
+media_of pages.Metrics = codes "application/openmetrics-text; version=1.0.0; charset=utf-8"
+media_of pages.Health = codes "text/plain"
 
 abbrev pub page_text : Page → List ℕ → List ℕ
 page_text page body = message_text 200 (codes "OK") (media_of page) body

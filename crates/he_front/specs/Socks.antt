@@ -3,24 +3,31 @@ use Rattle.std.specs.Prelude.{◌≡◌, ◌⊎◌, ℕ, ◌+◌, ◌≤◌, ◌
 use Rattle.std.specs.Int.{w16, w32, w128, from_be_bytes}
 use Rattle.std.specs.List.{list_any}
 use Rattle.he_addr.specs.declared.ip.Ip.TheVariants.{V4, V6}
+use Rattle.he_front.specs.declared.socks.Method.{Method}
+use Rattle.he_front.specs.declared.socks.Method.TheVariants as ways
 use Rattle.he_front.specs.declared.socks.Refusal.{Refusal}
 use Rattle.he_front.specs.declared.socks.Refusal.TheVariants as refusals
 use Rattle.he_front.specs.declared.socks.Request.{Request}
 use Rattle.he_front.specs.declared.socks.Target.{Target}
 use Rattle.he_front.specs.declared.socks.Target.TheVariants as targets
 
--- X'00' among the methods: NO AUTHENTICATION REQUIRED (section 3)
-abbrev pub offers_none : List ℕ → Bool
-offers_none methods = list_any (λ method. method == 0) methods
+-- X'00': NO AUTHENTICATION REQUIRED; X'02': USERNAME/PASSWORD (section 3)
+abbrev pub number_of : Method → ℕ
+number_of ways.Open = 0
+number_of ways.Password = 2
+
+-- this one is among the methods
+abbrev pub offers : ℕ → List ℕ → Bool
+offers number methods = list_any (λ method. method == number) methods
 
 -- section 3: VER, NMETHODS, METHODS
-pub record IsGreeting (octets : List ℕ) (offered : Bool) (len : ℕ) : Type 0 where
+pub record IsGreeting (way : Method) (octets : List ℕ) (offered : Bool) (len : ℕ) : Type 0 where
   pub version : slice_get octets 0 ≡ Some 5
   pub count : ℕ
   pub counted : slice_get octets 1 ≡ Some count
   pub ends : len ≡ 2 + count
   pub whole : len ≤ length octets
-  pub methods : offered ≡ offers_none (slice_range octets 2 len)
+  pub methods : offered ≡ offers (number_of way) (slice_range octets 2 len)
 
 -- section 5: the address after ATYP, which is at place 3; the address ends here
 abbrev pub IsTarget : List ℕ → Target → ℕ → Type 0

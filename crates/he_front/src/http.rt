@@ -125,7 +125,7 @@ pub fn count_named(octets: &[u8], fields: &[HeaderSpan], name: &[u8]) -> usize
 }
 
 // The span of the value of the first field with this name.
-fn value_named(octets: &[u8], fields: &[HeaderSpan], name: &[u8]) -> Option<Span>
+pub(crate) fn value_named(octets: &[u8], fields: &[HeaderSpan], name: &[u8]) -> Option<Span>
     requires { All (IsHeaderWithin (length octets.now)) fields.now }
     ensures value { option_map (span_bytes octets.now) result
         ≡ value_of name.now (map (header_bytes octets.now) fields.now) }

@@ -7,8 +7,11 @@
 //! - [`read_greeting`], [`read_request`]: a message is read exactly if the octets begin with one; `Partial` if they
 //!   don't and more octets can complete one; `Refused` if none can (`specs/Messages`, `specs/Socks`). So is the
 //!   request of SOCKS 4 by [`read_old_request`] (`specs/OldSocks`).
+//! - [`read_password`]: so is the message with a name and a password (RFC 1929; `specs/Passwords`).
 //! - [`read_head`]: so is the head of an HTTP request, by the grammar of `httparse`, with at most [`MOST_FIELDS`]
 //!   fields, and with the spans of its target and its first field Host (`specs/Http`).
+//! - [`read_authorization`]: the span of the value of the first field Proxy-Authorization of such a head
+//!   (`specs/Authorizations`).
 //! - [`request_line`]: the method and the target of any octets, for a log (`specs/Lines`).
 //! - [`read_authority`]: a target has a host and a port exactly if it is one of the grammar, and then these
 //!   (`specs/Authority`).
@@ -26,22 +29,26 @@
 
 pub mod asked;
 pub mod authority;
+pub mod authorization;
 pub mod http;
 pub mod line;
 pub mod old_socks;
 pub mod opening;
 pub mod pages;
+pub mod passwords;
 pub mod replies;
 pub mod responses;
 pub mod socks;
 
 pub use asked::Asked;
 pub use authority::{MOST_HOST, read_authority};
+pub use authorization::read_authorization;
 pub use http::{Head, MOST_FIELDS, ReadHead, read_head};
 pub use line::{RequestLine, request_line};
 pub use old_socks::{MOST_USER, read_old_request};
 pub use opening::{Opening, opening_of};
 pub use pages::{Page, page_asked};
-pub use replies::{Ended, method_reply};
+pub use passwords::{Credentials, read_password};
+pub use replies::{Ended, method_reply, password_reply};
 pub use responses::{write_advice, write_config, write_page};
-pub use socks::{Read, Refusal, Request, Target, read_greeting, read_request};
+pub use socks::{Method, Read, Refusal, Request, Target, read_greeting, read_request};

@@ -14,6 +14,10 @@ pub enum Page {
     Config,
     /// `/`: the last races.
     Races,
+    /// `/metrics`: the counts of the proxy, as OpenMetrics text.
+    Metrics,
+    /// `/healthz`: that the proxy serves.
+    Health,
 }
 
 const LOOPBACK_V4: Ip = Ip::V4(0x7f00_0001);
@@ -44,6 +48,10 @@ fn page_at(target: &[u8]) -> Option<Page>
         Some(Page::Config)
     } else if target == b"/".as_slice() {
         Some(Page::Races)
+    } else if target == b"/metrics".as_slice() {
+        Some(Page::Metrics)
+    } else if target == b"/healthz".as_slice() {
+        Some(Page::Health)
     } else {
         None
     }

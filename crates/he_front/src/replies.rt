@@ -1,14 +1,28 @@
 // How a session ended, and the reply to its client.
 
 ghost use Rattle.std.specs.Prelude.{◌≡◌, ◌∷◌, [], if◌then◌else◌};
-ghost use Rattle.he_front.specs.Replies.{code_of, old_code_of, status_of};
+ghost use Rattle.he_front.specs.Replies.{code_of, method_of, old_code_of, status_of};
 
-/// The reply to a greeting: the client proceeds without authentication, or none of its methods is acceptable (RFC
-/// 1928 section 3).
-pub fn method_reply(offers_none: bool) -> [u8; 2]
-    ensures { result ≡ 5 ∷ (if offers_none then 0 else 0xff) ∷ [] }
+use crate::socks::Method;
+
+/// The reply to a greeting: the client proceeds by this method, or none of its methods is acceptable (RFC 1928
+/// section 3).
+pub fn method_reply(method: Option<Method>) -> [u8; 2]
+    ensures { result ≡ 5 ∷ method_of method ∷ [] }
 {
-    [5, if offers_none { 0 } else { 0xff }]
+    let number = match method {
+        Some(method) => method.number(),
+        None => 0xff,
+    };
+    [5, number]
+}
+
+/// The reply to a name and a password: success, or a failure, after which the connection is closed (RFC 1929 section
+/// 2).
+pub fn password_reply(is_admitted: bool) -> [u8; 2]
+    ensures { result ≡ 1 ∷ (if is_admitted then 0 else 1) ∷ [] }
+{
+    [1, if is_admitted { 0 } else { 1 }]
 }
 
 /// How a client's request ended.
@@ -20,6 +34,8 @@ pub enum Ended {
     Failed,
     /// The target is not allowed.
     Forbidden,
+    /// The client has not shown that it is a user of the proxy.
+    NoUser,
     /// No route to the network of any address.
     NoNetwork,
     /// The host has no address, or none that could be resolved or reached.
@@ -32,6 +48,8 @@ pub enum Ended {
     Command,
     /// The address type is unknown, or the request names no valid host.
     Kind,
+    /// The body of the request has a transfer coding that is not understood.
+    Coding,
 }
 
 impl Ended {
@@ -47,8 +65,8 @@ impl Ended {
     {
         match self {
             Ended::Connected => 0,
-            Ended::Failed => 1,
-            Ended::Forbidden => 2,
+            Ended::Failed | Ended::Coding => 1,
+            Ended::Forbidden | Ended::NoUser => 2,
             Ended::NoNetwork => 3,
             Ended::NoHost | Ended::TimedOut => 4,
             Ended::Refused => 5,
@@ -72,11 +90,13 @@ impl Ended {
             Ended::Connected => 90,
             Ended::Failed
             | Ended::Forbidden
+            | Ended::NoUser
             | Ended::NoNetwork
             | Ended::NoHost
             | Ended::Refused
             | Ended::TimedOut
             | Ended::Command
+            | Ended::Coding
             | Ended::Kind => 91,
         }
     }
@@ -89,8 +109,9 @@ impl Ended {
             Ended::Connected => 200,
             Ended::Kind => 400,
             Ended::Forbidden => 403,
+            Ended::NoUser => 407,
             Ended::Failed => 500,
-            Ended::Command => 501,
+            Ended::Command | Ended::Coding => 501,
             Ended::NoNetwork | Ended::NoHost | Ended::Refused => 502,
             Ended::TimedOut => 504,
         }

@@ -2,7 +2,7 @@
 
 ghost use Rattle.std.specs.Prelude.{◌≡◌, ◌++◌, length, OnOk};
 ghost use Rattle.he_addr.specs.Printing.{printed};
-ghost use Rattle.he_front.specs.Responses.{advice_text, config_text, head_text, len_text, media_of, media_text, message_text, page_text, phrase_of, refusal_text, response_text, socket_text, status_text, tunnel_text, url_host};
+ghost use Rattle.he_front.specs.Responses.{advice_text, challenge_text, config_text, head_text, len_text, media_of, media_text, message_text, page_text, phrase_of, refusal_text, response_text, socket_text, status_text, tunnel_text, url_host};
 
 use crate::pages::Page;
 use crate::replies::Ended;
@@ -10,6 +10,8 @@ use he_addr::{Ip, Memory, write_ip, write_number};
 use std::alloc::Allocator;
 
 const OK: u16 = 200;
+
+const NO_USER: u16 = 407;
 
 impl Ended {
     fn phrase(self) -> &'static [u8]
@@ -19,8 +21,9 @@ impl Ended {
             Ended::Connected => b"Connection established",
             Ended::Kind => b"Bad Request",
             Ended::Forbidden => b"Forbidden",
+            Ended::NoUser => b"Proxy Authentication Required",
             Ended::Failed => b"Internal Server Error",
-            Ended::Command => b"Not Implemented",
+            Ended::Command | Ended::Coding => b"Not Implemented",
             Ended::NoNetwork | Ended::NoHost | Ended::Refused => b"Bad Gateway",
             Ended::TimedOut => b"Gateway Timeout",
         }
@@ -28,7 +31,7 @@ impl Ended {
 
     /// Appends the response to an HTTP client. For a CONNECT with a tunnel it has neither fields nor a body, since
     /// the octets that follow are the remote's (RFC 9110 section 9.3.6). Any other response has the reason as its
-    /// body, as a line of text.
+    /// body, as a line of text; and one that asks for a user has the challenge (RFC 9110 section 15.5.8).
     ///
     /// # Errors
     ///
@@ -40,10 +43,10 @@ impl Ended {
     ) -> Result<(), Memory>
         ensures { OnOk result (out.new.items ≡ out.old.items ++ response_text self reason.now) }
     {
-        if self.status() == OK {
-            write_tunnel(out)
-        } else {
-            self.write_refusal(reason, out)
+        match self.status() {
+            OK => write_tunnel(out),
+            NO_USER => write_challenge(reason, out),
+            _ => self.write_refusal(reason, out),
         }
     }
 
@@ -59,6 +62,21 @@ impl Ended {
         write_octets(reason, out)?;
         write_octets(b"\n", out)
     }
+}
+
+// The client may ask again with a name and a password in UTF-8 (RFC 7617 section 2).
+fn write_challenge<A: Allocator + Copy>(reason: &[u8], out: &mut Vec<u8, A>) -> Result<(), Memory>
+    ensures { OnOk result (out.new.items ≡ out.old.items ++ challenge_text reason.now) }
+{
+    write_status(NO_USER, Ended::NoUser.phrase(), out)?;
+    write_octets(
+        b"Proxy-Authenticate: Basic realm=\"he\", charset=\"UTF-8\"\r\n",
+        out,
+    )?;
+    write_media(b"text/plain", out)?;
+    write_len(reason.len() + 1, out)?;
+    write_octets(reason, out)?;
+    write_octets(b"\n", out)
 }
 
 fn write_tunnel<A: Allocator + Copy>(out: &mut Vec<u8, A>) -> Result<(), Memory>
@@ -89,6 +107,8 @@ fn media_of(page: Page) -> &'static [u8]
     match page {
         Page::Config => b"application/x-ns-proxy-autoconfig",
         Page::Races => b"text/html; charset=utf-8",
+        Page::Metrics => b"application/openmetrics-text; version=1.0.0; charset=utf-8",
+        Page::Health => b"text/plain",
     }
 }
 

@@ -3,13 +3,11 @@
 ghost use Rattle.std.specs.Prelude.{◌≡◌, ◌<◌, ◌≤◌, IfNone, IfSome, length};
 ghost use Rattle.std.specs.Int.{w16, w32, w128, from_be_bytes};
 ghost use Rattle.he_front.specs.Messages.{Reads};
-ghost use Rattle.he_front.specs.Socks.{IsBegun, IsEnd, IsGreeting, IsRefused, IsRequest, IsTarget, is_other, offers_none};
+ghost use Rattle.he_front.specs.Socks.{IsBegun, IsEnd, IsGreeting, IsRefused, IsRequest, IsTarget, is_other, number_of, offers};
 
 use he_addr::Ip;
 
 const VERSION: u8 = 5;
-
-const NO_AUTHENTICATION: u8 = 0;
 
 pub(crate) const CONNECT: u8 = 1;
 
@@ -48,6 +46,26 @@ pub enum Refusal {
     Kind,
 }
 
+/// How a client shows that it may use a proxy (RFC 1928 section 3).
+#[derive(Clone, Copy, Debug, PartialEq, Eq)]
+pub enum Method {
+    /// X'00': not at all.
+    Open,
+    /// X'02': by a name and a password (RFC 1929).
+    Password,
+}
+
+impl Method {
+    pub(crate) fn number(self) -> u8
+        ensures { result ≡ number_of self }
+    {
+        match self {
+            Method::Open => 0,
+            Method::Password => 2,
+        }
+    }
+}
+
 /// The target of a request to connect.
 #[derive(Clone, Copy, Debug, PartialEq, Eq)]
 pub enum Target<'o> {
@@ -65,9 +83,9 @@ pub struct Request<'o> {
     pub port: u16,
 }
 
-/// Reads the greeting with which the octets begin: whether the client offers no authentication (section 3).
-pub fn read_greeting(octets: &[u8]) -> Read<bool>
-    ensures { Reads IsGreeting octets.now result }
+/// Reads the greeting with which the octets begin: whether the client offers this method (section 3).
+pub fn read_greeting(octets: &[u8], method: Method) -> Read<bool>
+    ensures { Reads (IsGreeting method) octets.now result }
 {
     if octets.is_empty() {
         return Read::Partial;
@@ -82,13 +100,13 @@ pub fn read_greeting(octets: &[u8]) -> Read<bool>
     if octets.len() < end {
         return Read::Partial;
     }
-    Read::Whole(offers_none(&octets[2..end]), end)
+    Read::Whole(offers(&octets[2..end], method.number()), end)
 }
 
-fn offers_none(methods: &[u8]) -> bool
-    ensures { result ≡ offers_none methods.now }
+fn offers(methods: &[u8], number: u8) -> bool
+    ensures { result ≡ offers number methods.now }
 {
-    methods.iter().any(|method| *method == NO_AUTHENTICATION)
+    methods.iter().any(|method| *method == number)
 }
 
 /// Reads the request with which the octets begin (section 4).
