@@ -8,9 +8,11 @@ pub not_connected : (ended : Ended) → (ended ≡ ends.Connected → ⊥) → I
 not_connected ends.Connected other = other refl
 not_connected ends.Failed other = tt
 not_connected ends.Forbidden other = tt
+not_connected ends.NoUser other = tt
 not_connected ends.NoNetwork other = tt
 not_connected ends.NoHost other = tt
 not_connected ends.Refused other = tt
 not_connected ends.TimedOut other = tt
 not_connected ends.Command other = tt
 not_connected ends.Kind other = tt
+not_connected ends.Coding other = tt

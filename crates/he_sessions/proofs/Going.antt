@@ -1,5 +1,5 @@
 -- How a session goes from one state to the next.
-use Rattle.std.proofs.Common.{◌≡◌, ℕ, Bool, true, false, List, [], ◌++◌, take, drop, refl, sym, ap, ◌∙◌, subst, inr, arith, append_assoc, append-nil}
+use Rattle.std.proofs.Common.{◌≡◌, ℕ, List, [], ◌++◌, take, drop, refl, sym, ap, ◌∙◌, subst, inr, arith, append_assoc, append-nil}
 use Rattle.std.proofs.lemmas.List.{take-append-drop}
 use Rattle.std.specs.Prelude.{Option, Result}
 use Rattle.std.specs.declared.alloc.Global.{Global}
@@ -8,19 +8,24 @@ use Rattle.tokio.specs.Io.Moved.{Passes}
 use Rattle.futures.specs.declared.future.Future.{Ghosts as FutureOf}
 use Rattle.he_front.specs.declared.asked.Asked.{Asked}
 use Rattle.he_front.specs.declared.replies.Ended.{Ended}
+use Rattle.he_front.specs.declared.replies.Ended.TheVariants as ends
 use Rattle.he_relay.specs.Tunnels.{IsBegun, MovesBoth}
 use Rattle.he_relay.specs.Ways.{held}
 use Rattle.he_relay.specs.declared.sockets.Cut.{Cut}
 use Rattle.he_relay.specs.declared.tunnel.Tunnel.{Tunnel}
+use Rattle.he_users.specs.declared.users.Users.{Users}
 use Rattle.he_sessions.proofs.Talking.{talks_as, talks_heard, talks_more, talks_written}
 use Rattle.he_sessions.specs.Asks.{IsFailure, greets, protocol_of}
 use Rattle.he_sessions.specs.Follows.{Follows}
 use Rattle.he_sessions.specs.Replies.{IsReply}
-use Rattle.he_sessions.specs.Sessions.{HasAsked, IsAnswering, IsAsking, IsAt, IsClosing, IsGreetedAfter, IsLast, IsRelaying, IsStep, MayAnswer}
+use Rattle.he_sessions.specs.Sessions.{HasAsked, IsAnswering, IsAsking, IsAt, IsClosing, IsLast, IsRelaying, IsStep, MayAnswer}
 use Rattle.he_sessions.specs.Talks.{HasGreeted, Talks, welcome}
 use Rattle.he_sessions.specs.Went.{Hears, Lingers, Went, nothing, read, wrote}
 use Rattle.he_sessions.specs.declared.asking.Ask.TheVariants as asks
 use Rattle.he_sessions.specs.declared.asking.Protocol.{Protocol}
+use Rattle.he_sessions.specs.declared.asking.Protocol.TheVariants as protocols
+use Rattle.he_sessions.specs.declared.asking.Stage.{Stage}
+use Rattle.he_sessions.specs.declared.asking.Stage.TheVariants as stages
 use Rattle.he_sessions.specs.declared.asking.Wanted.{Wanted}
 use Rattle.he_sessions.specs.declared.ending.Ending.{Ending}
 use Rattle.he_sessions.specs.declared.ending.Ending.TheVariants as endings
@@ -36,7 +41,7 @@ use Rattle.he_sessions.specs.declared.states.State.{State}
 
 -- what comes after a state that comes after another one comes after that
 pub follows_on : {F S : Type 0} (a b c : State F S) → Follows a b → Follows b c → Follows a c
-follows_on a b c p q = (omega arith, omega arith, omega arith)
+follows_on a b c p q = (omega arith, omega arith, omega arith, omega arith)
 
 -- its client is served where it stays the same one
 pub served : {Q : Type 0} (serves : Q → SocketAddr → Type 0) (old new : Asker Q) → new ≡ old → serves old.racer.now old.address
@@ -46,12 +51,21 @@ served {Q} serves old new same is = subst (λ (a : Asker Q). serves a.racer.now 
 -- a refusal after what the client was told before
 pub refused_last : (protocol : Protocol) (ended : Ended) (reply said : List ℕ) → IsFailure ended → IsReply protocol ended reply
     → IsLast endings.Refused said (welcome (greets protocol) ++ reply)
-refused_last protocol ended reply said failure is = inr (record {
+refused_last protocol ended reply said failure is = inr (inr (record {
   protocol = protocol;
   ended = ended;
   failure = failure;
   told_of = record { reply = reply; replied = is; whole = refl };
-})
+}))
+
+-- that the server gave no response
+pub no_response_last : (reply said : List ℕ) → IsReply protocols.Http ends.Refused reply → IsLast endings.NoResponse said ([] ++ reply)
+no_response_last reply said is = inr (inr (record {
+  protocol = protocols.Http;
+  ended = ends.Refused;
+  failure = tt;
+  told_of = record { reply = reply; replied = is; whole = refl };
+}))
 
 module _ {K Q S F P : Type 0} (racer : RacerOf Q S F P) (race : FutureOf F (Result (Won S) Ended)) (reads writes : Passes S) (cuts : S → Cut → Type 0) where
   -- two steps, one after the other
@@ -75,10 +89,10 @@ module _ {K Q S F P : Type 0} (racer : RacerOf Q S F P) (race : FutureOf F (Resu
 
 module _ {S : Type 0} (reads writes : Passes S) (first : S) where
   -- where all is written that the client was to be told, it was told this
-  pub spoken : (asking : Asking S) (protocol : Protocol) → asking.reply.items ≡ [] → greets protocol ≡ asking.was_greeted
-      → (at : IsAsking reads writes first asking)
+  pub spoken : (users : Users) (asking : Asking S) (protocol : Protocol) → asking.reply.items ≡ [] → greets protocol ≡ asking.stage
+      → (at : IsAsking reads writes first users asking)
       → Talks reads writes first (at.greeting ++ asking.come.items) asking.client [] (welcome (greets protocol))
-  spoken asking protocol written greeted at =
+  spoken users asking protocol written greeted at =
       talks_as reads writes first _ _ _ _ _ _ _ _ refl refl written (ap welcome (sym greeted)) at.talks
 
   -- the reply is of this protocol
@@ -89,34 +103,19 @@ module _ {S : Type 0} (reads writes : Passes S) (first : S) where
       subst (λ (p : Protocol). Talks reads writes first said client [] (welcome (greets p))) (sym same) talks
 
   -- before any greeting it has said what has come, and was told nothing
-  pub silent : (asking : Asking S) → asking.reply.items ≡ [] → asking.was_greeted ≡ false
-      → IsAsking reads writes first asking
+  pub silent : (users : Users) (asking : Asking S) → asking.reply.items ≡ [] → asking.stage ≡ stages.New
+      → IsAsking reads writes first users asking
       → Talks reads writes first asking.come.items asking.client [] []
-  silent asking written new at =
-      let none : at.greeting ≡ [] = subst (λ (b : Bool). HasGreeted b at.greeting) new at.greeted in
+  silent users asking written new at =
+      let none : at.greeting ≡ [] = subst (λ (s : Stage). HasGreeted users s at.greeting) new at.greeted in
       talks_as reads writes first _ _ _ _ _ _ _ _ (ap (λ xs. xs ++ asking.come.items) none) refl written (ap welcome new) at.talks
 
-  -- the answer to the greeting is written next
-  pub is_greeted : (asking next : Asking S) (len : ℕ) → MayAnswer asking (asks.Greeting len) → IsGreetedAfter len asking next
-      → IsAsking reads writes first asking → IsAsking reads writes first next
-  is_greeted asking next len may after at =
-      let said : asking.come.items ≡ take len asking.come.items ++ next.come.items =
-      sym (take-append-drop len asking.come.items) ∙ ap (λ xs. take len asking.come.items ++ xs) (sym after.rest) in
-      record {
-        greeting = take len asking.come.items;
-        greeted = subst (λ (b : Bool). HasGreeted b (take len asking.come.items)) (sym after.greeted)
-            (record { come = asking.come.items; len = len; begins = may.asks.1; front = refl });
-        talks = talks_as reads writes first _ _ _ _ _ _ _ _ said (sym after.client) (sym after.reply)
-            (ap welcome (sym after.greeted))
-            (talks_more reads writes first _ _ _ (welcome true) (silent asking may.told may.asks.0 at));
-      }
-
   -- the server was asked for, and what came after the request came early
-  pub has_asked : (asking : Asking S) (wanted : Wanted) (target : Asked Global) (len : ℕ) (early : List ℕ)
-      → MayAnswer asking (asks.Server wanted target len) → early ≡ drop len asking.come.items
-      → IsAsking reads writes first asking
-      → HasAsked reads writes first target asking.client early wanted
-  has_asked asking wanted target len early may rest at =
+  pub has_asked : (users : Users) (asking : Asking S) (wanted : Wanted) (target : Asked Global) (len : ℕ) (early : List ℕ)
+      → MayAnswer users asking (asks.Server wanted target len) → early ≡ drop len asking.come.items
+      → IsAsking reads writes first users asking
+      → HasAsked reads writes first users target asking.client early wanted
+  has_asked users asking wanted target len early may rest at =
       let request = take len asking.come.items in
       let said : at.greeting ++ asking.come.items ≡ (at.greeting ++ request) ++ early =
       ap (λ xs. at.greeting ++ xs) (sym (take-append-drop len asking.come.items) ∙ ap (λ xs. request ++ xs) (sym rest))
@@ -125,29 +124,29 @@ module _ {S : Type 0} (reads writes : Passes S) (first : S) where
         asks = at.greeting ++ request;
         asked = record {
           greeting = at.greeting;
-          greeted = subst (λ (b : Bool). HasGreeted b at.greeting) (sym may.asks.0) at.greeted;
+          greeted = subst (λ (s : Stage). HasGreeted users s at.greeting) (sym may.asks.0) at.greeted;
           request = request;
-          requested = record { come = asking.come.items; len = len; begins = may.asks.1; front = refl };
+          requested = record { come = asking.come.items; len = len; begins = (may.asks.1, may.asks.2); front = refl };
           whole = refl;
         };
-        talks = talks_as reads writes first _ _ _ _ _ _ _ _ said refl refl refl (spoken asking (protocol_of wanted) may.told may.asks.0 at);
+        talks = talks_as reads writes first _ _ _ _ _ _ _ _ said refl refl refl (spoken users asking (protocol_of wanted) may.told may.asks.0 at);
       }
 
   -- more came early
-  pub early_heard : (asked : Asked Global) (old new : S) (early more : List ℕ) (wanted : Wanted) → Hears reads old new early more
-      → HasAsked reads writes first asked old early wanted → HasAsked reads writes first asked new more wanted
-  early_heard asked old new early more wanted hears has = record {
+  pub early_heard : (users : Users) (asked : Asked Global) (old new : S) (early more : List ℕ) (wanted : Wanted) → Hears reads old new early more
+      → HasAsked reads writes first users asked old early wanted → HasAsked reads writes first users asked new more wanted
+  early_heard users asked old new early more wanted hears has = record {
     asks = has.asks;
     asked = has.asked;
     talks = talks_heard reads writes first has.asks early more old new _ _ hears has.talks;
   }
 
   -- it was accepted, and nothing has come from it yet
-  pub is_new : (asking : Asking S) → asking.client ≡ first → asking.come.items ≡ [] → asking.was_greeted ≡ false
-      → asking.reply.items ≡ [] → IsAsking reads writes first asking
-  is_new asking same none new silence = record {
+  pub is_new : (users : Users) (asking : Asking S) → asking.client ≡ first → asking.come.items ≡ [] → asking.stage ≡ stages.New
+      → asking.reply.items ≡ [] → IsAsking reads writes first users asking
+  is_new users asking same none new silence = record {
     greeting = [];
-    greeted = subst (λ (b : Bool). HasGreeted b []) (sym new) refl;
+    greeted = subst (λ (s : Stage). HasGreeted users s []) (sym new) refl;
     talks = talks_as reads writes first _ _ _ _ _ _ _ _ (sym none) (sym same) (sym silence) (ap welcome (sym new))
         (record { told = []; went = nothing; whole = refl });
   }
@@ -179,11 +178,11 @@ module _ {S : Type 0} (reads writes : Passes S) (first : S) where
   }
 
   -- the tunnel is opened between the client and the connection that its race gave
-  pub is_opened : (MayEnd : Result (Won S) Ended → Type 0) (asked : Asked Global) (result : Option (Result Winner Ended)) (answering : Answering S) (tunnel : Tunnel S S) → answering.reply.items ≡ []
+  pub is_opened : (users : Users) (MayEnd : Result (Won S) Ended → Type 0) (asked : Asked Global) (result : Option (Result Winner Ended)) (answering : Answering S) (tunnel : Tunnel S S) → answering.reply.items ≡ []
       → IsBegun answering.client answering.won.stream answering.early.items tunnel
-      → IsAnswering reads writes first MayEnd asked result answering
-      → IsRelaying reads writes first MayEnd asked result tunnel
-  is_opened MayEnd asked result answering tunnel written (is_client, is_server, there, back, whole) at =
+      → IsAnswering reads writes first users MayEnd asked result answering
+      → IsRelaying reads writes first users MayEnd asked result tunnel
+  is_opened users MayEnd asked result answering tunnel written (is_client, is_server, there, back, whole) at =
       let early : held tunnel.there ≡ answering.early.items = there.0 in
       let none : held tunnel.back ≡ [] = back.0 in
       record {
@@ -201,15 +200,15 @@ module _ {S : Type 0} (reads writes : Passes S) (first : S) where
       }
 
   -- the same tunnel
-  pub is_relaying : (MayEnd : Result (Won S) Ended → Type 0) (asked : Asked Global) (result : Option (Result Winner Ended)) (old new : Tunnel S S)
-      → new ≡ old → IsRelaying reads writes first MayEnd asked result old → IsRelaying reads writes first MayEnd asked result new
-  is_relaying MayEnd asked result old new same at =
-      subst (λ (t : Tunnel S S). IsRelaying reads writes first MayEnd asked result t) (sym same) at
+  pub is_relaying : (users : Users) (MayEnd : Result (Won S) Ended → Type 0) (asked : Asked Global) (result : Option (Result Winner Ended)) (old new : Tunnel S S)
+      → new ≡ old → IsRelaying reads writes first users MayEnd asked result old → IsRelaying reads writes first users MayEnd asked result new
+  is_relaying users MayEnd asked result old new same at =
+      subst (λ (t : Tunnel S S). IsRelaying reads writes first users MayEnd asked result t) (sym same) at
 
   -- octets went both ways
-  pub is_relayed : (MayEnd : Result (Won S) Ended → Type 0) (asked : Asked Global) (result : Option (Result Winner Ended)) (is_at_end : S → Type 0) (old new : Tunnel S S) → MovesBoth reads writes is_at_end reads writes is_at_end old new
-      → IsRelaying reads writes first MayEnd asked result old → IsRelaying reads writes first MayEnd asked result new
-  is_relayed MayEnd asked result is_at_end old new moves at =
+  pub is_relayed : (users : Users) (MayEnd : Result (Won S) Ended → Type 0) (asked : Asked Global) (result : Option (Result Winner Ended)) (is_at_end : S → Type 0) (old new : Tunnel S S) → MovesBoth reads writes is_at_end reads writes is_at_end old new
+      → IsRelaying reads writes first users MayEnd asked result old → IsRelaying reads writes first users MayEnd asked result new
+  is_relayed users MayEnd asked result is_at_end old new moves at =
       let there = moves.there in
       let back = moves.back in
       let said : (at.asks ++ (at.sent ++ held old.there)) ++ there.got ≡ at.asks ++ ((at.sent ++ there.put) ++ held new.there) =

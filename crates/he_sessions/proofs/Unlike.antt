@@ -1,18 +1,16 @@
 -- A refusal is told from a success by its first octets.
 use Rattle.std.proofs.Common.{◌≡◌, ◌≢◌, ◌⊎◌, ℕ, ◌+◌, ◌/◌, ◌%◌, ◌^◌, ◌<◌, ◌≤◌, List, [], ◌∷◌, ◌++◌, decimal, get_or, refl, sym, ap, ◌∙◌, inl, inr, arith}
 use Rattle.std.proofs.lemmas.Fmt.{decimal_digit, decimal_step}
-use Rattle.std.specs.declared.alloc.Global.{Global}
 use Rattle.he_front.specs.Replies.{code_of, old_code_of}
 use Rattle.he_front.specs.Responses.{head_text, response_text, status_text}
-use Rattle.he_front.specs.declared.asked.Asked.{Asked}
 use Rattle.he_front.specs.declared.replies.Ended.{Ended}
 use Rattle.he_front.specs.declared.replies.Ended.TheVariants as ends
+use Rattle.he_front.specs.declared.socks.Method.TheVariants as ways
 use Rattle.he_sessions.specs.Asks.{IsFailure}
 use Rattle.he_sessions.specs.Laws.{NoRefusalSucceeds}
-use Rattle.he_sessions.specs.Talks.{AsksBy, IsToldOf, IsTurnedAway}
+use Rattle.he_sessions.specs.Talks.{IsToldOf, IsTurnedAway}
 use Rattle.he_sessions.specs.declared.asking.Protocol.{Protocol}
 use Rattle.he_sessions.specs.declared.asking.Protocol.TheVariants as protocols
-use Rattle.he_sessions.specs.declared.asking.Wanted.TheVariants as wanteds
 
 -- the octet at this place
 abbrev at : List ℕ → ℕ → ℕ
@@ -25,23 +23,27 @@ code_fails : (ended : Ended) → IsFailure ended → code_of ended ≢ 0
 code_fails ends.Connected failure same = failure
 code_fails ends.Failed failure same = omega arith
 code_fails ends.Forbidden failure same = omega arith
+code_fails ends.NoUser failure same = omega arith
 code_fails ends.NoNetwork failure same = omega arith
 code_fails ends.NoHost failure same = omega arith
 code_fails ends.TimedOut failure same = omega arith
 code_fails ends.Refused failure same = omega arith
 code_fails ends.Command failure same = omega arith
 code_fails ends.Kind failure same = omega arith
+code_fails ends.Coding failure same = omega arith
 
 old_code_fails : (ended : Ended) → IsFailure ended → old_code_of ended ≢ 90
 old_code_fails ends.Connected failure same = failure
 old_code_fails ends.Failed failure same = omega arith
 old_code_fails ends.Forbidden failure same = omega arith
+old_code_fails ends.NoUser failure same = omega arith
 old_code_fails ends.NoNetwork failure same = omega arith
 old_code_fails ends.NoHost failure same = omega arith
 old_code_fails ends.TimedOut failure same = omega arith
 old_code_fails ends.Refused failure same = omega arith
 old_code_fails ends.Command failure same = omega arith
 old_code_fails ends.Kind failure same = omega arith
+old_code_fails ends.Coding failure same = omega arith
 
 -- a number of three digits
 three_digits : (n : ℕ) → 10 ≤ n → n < 2 ^ 64 → 10 ≤ n / 10 → n / 10 < 2 ^ 64 → n / 10 / 10 < 10
@@ -60,57 +62,81 @@ unfolding head_text status_text
 http_failure ends.Connected failure reason = absurd failure
 http_failure ends.Failed failure reason = (refl, λ e. clash 53 50 (omega arith) (rw (three_digits 500 (omega arith) (omega arith) (omega arith) (omega arith) (omega arith)) at e))
 http_failure ends.Forbidden failure reason = (refl, λ e. clash 52 50 (omega arith) (rw (three_digits 403 (omega arith) (omega arith) (omega arith) (omega arith) (omega arith)) at e))
+http_failure ends.NoUser failure reason = (refl, λ e. clash 52 50 (omega arith) (rw (three_digits 407 (omega arith) (omega arith) (omega arith) (omega arith) (omega arith)) at e))
 http_failure ends.NoNetwork failure reason = (refl, λ e. clash 53 50 (omega arith) (rw (three_digits 502 (omega arith) (omega arith) (omega arith) (omega arith) (omega arith)) at e))
 http_failure ends.NoHost failure reason = (refl, λ e. clash 53 50 (omega arith) (rw (three_digits 502 (omega arith) (omega arith) (omega arith) (omega arith) (omega arith)) at e))
 http_failure ends.TimedOut failure reason = (refl, λ e. clash 53 50 (omega arith) (rw (three_digits 504 (omega arith) (omega arith) (omega arith) (omega arith) (omega arith)) at e))
 http_failure ends.Refused failure reason = (refl, λ e. clash 53 50 (omega arith) (rw (three_digits 502 (omega arith) (omega arith) (omega arith) (omega arith) (omega arith)) at e))
 http_failure ends.Command failure reason = (refl, λ e. clash 53 50 (omega arith) (rw (three_digits 501 (omega arith) (omega arith) (omega arith) (omega arith) (omega arith)) at e))
 http_failure ends.Kind failure reason = (refl, λ e. clash 52 50 (omega arith) (rw (three_digits 400 (omega arith) (omega arith) (omega arith) (omega arith) (omega arith)) at e))
+http_failure ends.Coding failure reason = (refl, λ e. clash 53 50 (omega arith) (rw (three_digits 501 (omega arith) (omega arith) (omega arith) (omega arith) (omega arith)) at e))
 
--- a success after the answer to a greeting, of HTTP, or of SOCKS 4
+-- a success after the answer to a greeting, after those to a greeting and a password, of HTTP, or of SOCKS 4
 abbrev Succeeds : List ℕ → Type 0
 Succeeds octets =
     ((at octets 0 ≡ 5) × (at octets 1 ≡ 0) × (at octets 3 ≡ 0))
-    ⊎ (((at octets 0 ≡ 72) × (at octets 9 ≡ 50)) ⊎ ((at octets 0 ≡ 0) × (at octets 1 ≡ 90)))
+    ⊎ (((at octets 0 ≡ 5) × (at octets 1 ≡ 2) × (at octets 3 ≡ 0) × (at octets 5 ≡ 0))
+    ⊎ (((at octets 0 ≡ 72) × (at octets 9 ≡ 50)) ⊎ ((at octets 0 ≡ 0) × (at octets 1 ≡ 90))))
 
-succeeds : (protocol : Protocol) (asked : Asked Global) (asks told more : List ℕ) → AsksBy (wanteds.Tunnel protocol) asked asks
-    → IsToldOf protocol ends.Connected told → Succeeds (told ++ more)
-succeeds protocols.OldSocks asked asks told more by of = inr (inr (rw (of.whole, of.replied) (refl, refl)))
-succeeds protocols.Socks asked asks told more by of = inl (rw (of.whole, of.replied) (refl, refl, refl))
-succeeds protocols.Http asked asks told more by of = inr (inl (rw (of.whole, of.replied.1) (http_success of.replied.0 more)))
+succeeds : (protocol : Protocol) (told more : List ℕ) → IsToldOf protocol ends.Connected told → Succeeds (told ++ more)
+succeeds protocols.OldSocks told more of = inr (inr (inr (rw (of.whole, of.replied) (refl, refl))))
+succeeds (protocols.Socks ways.Open) told more of = inl (rw (of.whole, of.replied) (refl, refl, refl))
+succeeds (protocols.Socks ways.Password) told more of = inr (inl (rw (of.whole, of.replied) (refl, refl, refl, refl)))
+succeeds protocols.Http told more of = inr (inr (inl (rw (of.whole, of.replied.1) (http_success of.replied.0 more))))
 
 fails : (protocol : Protocol) (ended : Ended) (told : List ℕ) → IsFailure ended → IsToldOf protocol ended told → Succeeds told → ⊥
 fails protocols.OldSocks ended told failure of (inl (first, second, fourth)) =
     let e : ◌≡◌ {A = ℕ} 0 5 = sym (ap (λ xs. at xs 0) (of.whole ∙ of.replied)) ∙ first in omega arith
-fails protocols.OldSocks ended told failure of (inr (inl (first, status))) =
+fails protocols.OldSocks ended told failure of (inr (inl (first, second, fourth, sixth))) =
+    let e : ◌≡◌ {A = ℕ} 0 5 = sym (ap (λ xs. at xs 0) (of.whole ∙ of.replied)) ∙ first in omega arith
+fails protocols.OldSocks ended told failure of (inr (inr (inl (first, status)))) =
     let e : ◌≡◌ {A = ℕ} 0 72 = sym (ap (λ xs. at xs 0) (of.whole ∙ of.replied)) ∙ first in omega arith
-fails protocols.OldSocks ended told failure of (inr (inr (first, code))) =
+fails protocols.OldSocks ended told failure of (inr (inr (inr (first, code)))) =
     old_code_fails ended failure (sym (ap (λ xs. at xs 1) (of.whole ∙ of.replied)) ∙ code)
-fails protocols.Socks ended told failure of (inl (first, second, fourth)) =
+fails (protocols.Socks ways.Open) ended told failure of (inl (first, second, fourth)) =
     code_fails ended failure (sym (ap (λ xs. at xs 3) (of.whole ∙ ap (λ xs. 5 ∷ 0 ∷ xs) of.replied)) ∙ fourth)
-fails protocols.Socks ended told failure of (inr (inl (first, status))) =
+fails (protocols.Socks ways.Open) ended told failure of (inr (inl (first, second, fourth, sixth))) =
+    let e : ◌≡◌ {A = ℕ} 0 2 = sym (ap (λ xs. at xs 1) of.whole) ∙ second in omega arith
+fails (protocols.Socks ways.Open) ended told failure of (inr (inr (inl (first, status)))) =
     let e : ◌≡◌ {A = ℕ} 5 72 = sym (ap (λ xs. at xs 0) of.whole) ∙ first in omega arith
-fails protocols.Socks ended told failure of (inr (inr (first, code))) =
+fails (protocols.Socks ways.Open) ended told failure of (inr (inr (inr (first, code)))) =
+    let e : ◌≡◌ {A = ℕ} 5 0 = sym (ap (λ xs. at xs 0) of.whole) ∙ first in omega arith
+fails (protocols.Socks ways.Password) ended told failure of (inl (first, second, fourth)) =
+    let e : ◌≡◌ {A = ℕ} 2 0 = sym (ap (λ xs. at xs 1) of.whole) ∙ second in omega arith
+fails (protocols.Socks ways.Password) ended told failure of (inr (inl (first, second, fourth, sixth))) =
+    code_fails ended failure (sym (ap (λ xs. at xs 5) (of.whole ∙ ap (λ xs. 5 ∷ 2 ∷ 1 ∷ 0 ∷ xs) of.replied)) ∙ sixth)
+fails (protocols.Socks ways.Password) ended told failure of (inr (inr (inl (first, status)))) =
+    let e : ◌≡◌ {A = ℕ} 5 72 = sym (ap (λ xs. at xs 0) of.whole) ∙ first in omega arith
+fails (protocols.Socks ways.Password) ended told failure of (inr (inr (inr (first, code)))) =
     let e : ◌≡◌ {A = ℕ} 5 0 = sym (ap (λ xs. at xs 0) of.whole) ∙ first in omega arith
 fails protocols.Http ended told failure of (inl (first, second, fourth)) =
-    let e : ◌≡◌ {A = ℕ} 72 5 = sym (ap (λ xs. at xs 0) (of.whole ∙ of.replied.1) ∙ (http_failure ended failure of.replied.0).0) ∙ first in
-    omega arith
-fails protocols.Http ended told failure of (inr (inl (first, status))) =
+    let e : ◌≡◌ {A = ℕ} 72 5 = sym (ap (λ xs. at xs 0) (of.whole ∙ of.replied.1) ∙ (http_failure ended failure of.replied.0).0) ∙ first in omega arith
+fails protocols.Http ended told failure of (inr (inl (first, second, fourth, sixth))) =
+    let e : ◌≡◌ {A = ℕ} 72 5 = sym (ap (λ xs. at xs 0) (of.whole ∙ of.replied.1) ∙ (http_failure ended failure of.replied.0).0) ∙ first in omega arith
+fails protocols.Http ended told failure of (inr (inr (inl (first, status)))) =
     (http_failure ended failure of.replied.0).1 (sym (ap (λ xs. at xs 9) (of.whole ∙ of.replied.1)) ∙ status)
-fails protocols.Http ended told failure of (inr (inr (first, code))) =
-    let e : ◌≡◌ {A = ℕ} 72 0 = sym (ap (λ xs. at xs 0) (of.whole ∙ of.replied.1) ∙ (http_failure ended failure of.replied.0).0) ∙ first in
-    omega arith
+fails protocols.Http ended told failure of (inr (inr (inr (first, code)))) =
+    let e : ◌≡◌ {A = ℕ} 72 0 = sym (ap (λ xs. at xs 0) (of.whole ∙ of.replied.1) ∙ (http_failure ended failure of.replied.0).0) ∙ first in omega arith
 
 -- that no method will do
 no_method : (told : List ℕ) → told ≡ 5 ∷ 255 ∷ [] → Succeeds told → ⊥
 no_method told is (inl (first, second, fourth)) = let e : ◌≡◌ {A = ℕ} 255 0 = sym (ap (λ xs. at xs 1) is) ∙ second in omega arith
-no_method told is (inr (inl (first, status))) = let e : ◌≡◌ {A = ℕ} 5 72 = sym (ap (λ xs. at xs 0) is) ∙ first in omega arith
-no_method told is (inr (inr (first, code))) = let e : ◌≡◌ {A = ℕ} 5 0 = sym (ap (λ xs. at xs 0) is) ∙ first in omega arith
+no_method told is (inr (inl (first, second, fourth, sixth))) = let e : ◌≡◌ {A = ℕ} 255 2 = sym (ap (λ xs. at xs 1) is) ∙ second in omega arith
+no_method told is (inr (inr (inl (first, status)))) = let e : ◌≡◌ {A = ℕ} 5 72 = sym (ap (λ xs. at xs 0) is) ∙ first in omega arith
+no_method told is (inr (inr (inr (first, code)))) = let e : ◌≡◌ {A = ℕ} 5 0 = sym (ap (λ xs. at xs 0) is) ∙ first in omega arith
+
+-- that the name and the password are those of no user
+no_user : (told : List ℕ) → told ≡ 5 ∷ 2 ∷ 1 ∷ 1 ∷ [] → Succeeds told → ⊥
+no_user told is (inl (first, second, fourth)) = let e : ◌≡◌ {A = ℕ} 2 0 = sym (ap (λ xs. at xs 1) is) ∙ second in omega arith
+no_user told is (inr (inl (first, second, fourth, sixth))) = let e : ◌≡◌ {A = ℕ} 1 0 = sym (ap (λ xs. at xs 3) is) ∙ fourth in omega arith
+no_user told is (inr (inr (inl (first, status)))) = let e : ◌≡◌ {A = ℕ} 5 72 = sym (ap (λ xs. at xs 0) is) ∙ first in omega arith
+no_user told is (inr (inr (inr (first, code)))) = let e : ◌≡◌ {A = ℕ} 5 0 = sym (ap (λ xs. at xs 0) is) ∙ first in omega arith
 
 unlike : (refused : List ℕ) → IsTurnedAway refused → Succeeds refused → ⊥
 unlike refused (inl none) success = no_method refused none success
-unlike refused (inr is) success = fails is.protocol is.ended refused is.failure is.told_of success
+unlike refused (inr (inl none)) success = no_user refused none success
+unlike refused (inr (inr is)) success = fails is.protocol is.ended refused is.failure is.told_of success
 
 pub no_refusal_succeeds : NoRefusalSucceeds
-no_refusal_succeeds refused asked asks told more away opened same =
-    unlike refused away (rw same (succeeds opened.protocol asked asks told more opened.asks_by opened.told_of))
+no_refusal_succeeds users refused asked asks told more away opened same =
+    unlike refused away (rw same (succeeds opened.protocol told more opened.told_of))

@@ -10,5 +10,5 @@ use Rattle.he_sessions.specs.declared.asking.Protocol.TheVariants as protocols
 -- section 6); HTTP: the response with its status and some reason (RFC 9110 section 15)
 abbrev pub IsReply : Protocol → Ended → List ℕ → Type 0
 IsReply protocols.OldSocks ended octets = octets ≡ 0 ∷ old_code_of ended ∷ 0 ∷ 0 ∷ 0 ∷ 0 ∷ 0 ∷ 0 ∷ []
-IsReply protocols.Socks ended octets = octets ≡ 5 ∷ code_of ended ∷ 0 ∷ 1 ∷ 0 ∷ 0 ∷ 0 ∷ 0 ∷ 0 ∷ 0 ∷ []
+IsReply (protocols.Socks method) ended octets = octets ≡ 5 ∷ code_of ended ∷ 0 ∷ 1 ∷ 0 ∷ 0 ∷ 0 ∷ 0 ∷ 0 ∷ 0 ∷ []
 IsReply protocols.Http ended octets = (reason : List ℕ) × (octets ≡ response_text ended reason)

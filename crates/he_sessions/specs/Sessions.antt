@@ -1,5 +1,5 @@
 -- The progress of a session: the octets its client has sent and was sent, and the result of its race.
-use Rattle.std.specs.Prelude.{◌≡◌, ◌⊎◌, ℕ, ⊤, List, [], ◌++◌, Option, Result, drop, string_bytes, true}
+use Rattle.std.specs.Prelude.{◌≡◌, ◌⊎◌, ℕ, ⊤, List, [], ◌++◌, Option, Result, drop, string_bytes}
 use Rattle.std.specs.declared.alloc.Global.{Global}
 use Rattle.tokio.specs.Io.Moved.{Passes}
 use Rattle.futures.specs.Task.{IsArmed, Keeps}
@@ -14,14 +14,17 @@ use Rattle.he_relay.specs.declared.sockets.Cut.{Cut}
 use Rattle.he_relay.specs.declared.tunnel.Broke.{Broke}
 use Rattle.he_relay.specs.declared.tunnel.Broke.TheVariants as brokes
 use Rattle.he_relay.specs.declared.tunnel.Tunnel.{Tunnel}
+use Rattle.he_response.specs.declared.returned.Returned.{Returned}
+use Rattle.he_users.specs.declared.users.Users.{Users}
 use Rattle.he_sessions.specs.Asks.{Asks, AsksPage, greets, protocol_of}
 use Rattle.he_sessions.specs.Follows.{Follows}
 use Rattle.he_sessions.specs.Forwarding.{IsForwarding, IsParting}
-use Rattle.he_sessions.specs.Talks.{AsksBy, HasGreeted, IsOpened, IsTurnedAway, Talks, welcome}
+use Rattle.he_sessions.specs.Talks.{AsksBy, HasGreeted, IsOpened, IsTurnedAway, Talks, step_reply, welcome}
 use Rattle.he_sessions.specs.Went.{Went}
 use Rattle.he_sessions.specs.Won.{IsWon}
 use Rattle.he_sessions.specs.declared.asking.Ask.{Ask}
 use Rattle.he_sessions.specs.declared.asking.Extent.{Extent}
+use Rattle.he_sessions.specs.declared.asking.Stage.{Stage}
 use Rattle.he_sessions.specs.declared.asking.Wanted.{Wanted}
 use Rattle.he_sessions.specs.declared.ending.Ending.{Ending}
 use Rattle.he_sessions.specs.declared.ending.Ending.TheVariants as endings
@@ -45,16 +48,16 @@ IsCutOf cuts client server brokes.Client cut how = (how ≡ endings.ClientBroke)
 IsCutOf cuts client server brokes.Server cut how = (how ≡ endings.ServerBroke) × cuts client cut
 
 -- the octets so far make this request, and everything due to the client before the answer is written
-pub record MayAnswer {S : Type 0} (asking : Asking S) (ask : Ask) : Type 0 where
-  pub asks : Asks asking.was_greeted asking.come.items ask
+pub record MayAnswer {S : Type 0} (users : Users) (asking : Asking S) (ask : Ask) : Type 0 where
+  pub asks : Asks users asking.stage asking.come.items ask
   pub told : asking.reply.items ≡ []
 
--- the greeting of `len` octets was answered, and the octets after it will be read as a request
-pub record IsGreetedAfter {S : Type 0} (len : ℕ) (old new : Asking S) : Type 0 where
+-- the message of `len` octets is answered, and the octets after it will be read at this stage
+pub record IsAdvanced {S : Type 0} (next : Stage) (len : ℕ) (old new : Asking S) : Type 0 where
   pub client : new.client ≡ old.client
   pub rest : new.come.items ≡ drop len old.come.items
-  pub greeted : new.was_greeted ≡ true
-  pub reply : new.reply.items ≡ welcome true
+  pub stage : new.stage ≡ next
+  pub reply : new.reply.items ≡ step_reply next
 
 -- everything sent to a client with these octets that gets no tunnel: a page that it asked for, or a refusal
 abbrev pub IsLast : Ending → List ℕ → List ℕ → Type 0
@@ -63,40 +66,39 @@ IsLast endings.Page said told =
 IsLast _ said told = IsTurnedAway told
 
 module _ {S : Type 0} (reads writes : Passes S) (first : S) where
-  -- it has sent its greeting, if it has greeted, and the octets that have come, and is sent only the answer to the
-  -- greeting
-  pub record IsAsking (asking : Asking S) : Type 0 where
+  -- it has sent what leads to its stage, and the octets that have come, and is sent only the answers that lead there
+  pub record IsAsking (users : Users) (asking : Asking S) : Type 0 where
     pub greeting : List ℕ
-    pub greeted : HasGreeted asking.was_greeted greeting
-    pub talks : Talks reads writes first (greeting ++ asking.come.items) asking.client asking.reply.items (welcome asking.was_greeted)
+    pub greeted : HasGreeted users asking.stage greeting
+    pub talks : Talks reads writes first (greeting ++ asking.come.items) asking.client asking.reply.items (welcome asking.stage)
 
   -- it has requested this of this host and port, and has sent the early octets after that
-  pub record HasAsked (target : Asked Global) (client : S) (early : List ℕ) (wanted : Wanted) : Type 0 where
+  pub record HasAsked (users : Users) (target : Asked Global) (client : S) (early : List ℕ) (wanted : Wanted) : Type 0 where
     pub asks : List ℕ
-    pub asked : AsksBy wanted target asks
+    pub asked : AsksBy users wanted target asks
     pub talks : Talks reads writes first (asks ++ early) client [] (welcome (greets (protocol_of wanted)))
 
   -- the race has only results that may be
-  pub record IsRacing {F : Type 0} (race : FutureOf F (Result (Won S) Ended)) (MayEnd : Result (Won S) Ended → Type 0) (asked : Asked Global) (racing : Racing F S) : Type 0 where
-    pub has_asked : HasAsked asked racing.client racing.early.items racing.wanted
+  pub record IsRacing {F : Type 0} (race : FutureOf F (Result (Won S) Ended)) (users : Users) (MayEnd : Result (Won S) Ended → Type 0) (asked : Asked Global) (racing : Racing F S) : Type 0 where
+    pub has_asked : HasAsked users asked racing.client racing.early.items racing.wanted
     pub can : race.can_poll racing.race
     pub gives : (end : Result (Won S) Ended) → race.gives racing.race end → MayEnd end
 
   -- the race was won, and the client is being sent the success
-  pub record IsAnswering (MayEnd : Result (Won S) Ended → Type 0) (asked : Asked Global) (result : Option (Result Winner Ended)) (answering : Answering S) : Type 0 where
+  pub record IsAnswering (users : Users) (MayEnd : Result (Won S) Ended → Type 0) (asked : Asked Global) (result : Option (Result Winner Ended)) (answering : Answering S) : Type 0 where
     pub asks : List ℕ
     pub told : List ℕ
-    pub opened : IsOpened asked asks told
+    pub opened : IsOpened users asked asks told
     pub is_won : IsWon MayEnd result answering.won
     pub talks : Talks reads writes first (asks ++ answering.early.items) answering.client answering.reply.items told
 
   -- The tunnel is between the client and the connection that the race gave. That connection was sent the client's
   -- octets after its request, up to those held for it; and after the success the client was sent that connection's
   -- octets, up to those held for it.
-  pub record IsRelaying (MayEnd : Result (Won S) Ended → Type 0) (asked : Asked Global) (result : Option (Result Winner Ended)) (tunnel : Tunnel S S) : Type 0 where
+  pub record IsRelaying (users : Users) (MayEnd : Result (Won S) Ended → Type 0) (asked : Asked Global) (result : Option (Result Winner Ended)) (tunnel : Tunnel S S) : Type 0 where
     pub asks : List ℕ
     pub told : List ℕ
-    pub opened : IsOpened asked asks told
+    pub opened : IsOpened users asked asks told
     pub won : Won S
     pub is_won : IsWon MayEnd result won
     pub sent : List ℕ
@@ -113,24 +115,24 @@ module _ {S : Type 0} (reads writes : Passes S) (first : S) where
     pub talks : Talks reads writes first (asks ++ later) closing.client closing.reply.items told
 
   -- a tunnel was open between these two
-  pub record WasOpen (MayEnd : Result (Won S) Ended → Type 0) (asked : Asked Global) (result : Option (Result Winner Ended)) (client server : S) : Type 0 where
+  pub record WasOpen (users : Users) (MayEnd : Result (Won S) Ended → Type 0) (asked : Asked Global) (result : Option (Result Winner Ended)) (client server : S) : Type 0 where
     pub tunnel : Tunnel S S
-    pub was : IsRelaying MayEnd asked result tunnel
+    pub was : IsRelaying users MayEnd asked result tunnel
     pub is_client : tunnel.client ≡ client
     pub is_server : tunnel.server ≡ server
 
   -- a request was being forwarded between these two
-  pub record WasForwarding (MayEnd : Result (Won S) Ended → Type 0) (asked : Asked Global) (result : Option (Result Winner Ended)) (client server : S) : Type 0 where
-    pub tunnel : Tunnel (Bounded S) S
-    pub was : IsForwarding reads writes first MayEnd asked result tunnel
+  pub record WasForwarding (users : Users) (MayEnd : Result (Won S) Ended → Type 0) (asked : Asked Global) (result : Option (Result Winner Ended)) (client server : S) : Type 0 where
+    pub tunnel : Tunnel (Bounded S) (Returned S)
+    pub was : IsForwarding reads writes first users MayEnd asked result tunnel
     pub is_client : tunnel.client.inner ≡ client
-    pub is_server : tunnel.server ≡ server
+    pub is_server : tunnel.server.inner ≡ server
 
   -- one of two such connections broke off, and the other one will be reset
-  pub record IsCutting (cuts : S → Cut → Type 0) (MayEnd : Result (Won S) Ended → Type 0) (asked : Asked Global) (result : Option (Result Winner Ended)) (cutting : Cutting) : Type 0 where
+  pub record IsCutting (cuts : S → Cut → Type 0) (users : Users) (MayEnd : Result (Won S) Ended → Type 0) (asked : Asked Global) (result : Option (Result Winner Ended)) (cutting : Cutting) : Type 0 where
     pub client : S
     pub server : S
-    pub was : WasOpen MayEnd asked result client server ⊎ WasForwarding MayEnd asked result client server
+    pub was : WasOpen users MayEnd asked result client server ⊎ WasForwarding users MayEnd asked result client server
     pub broke : Broke
     pub is_cut : IsCutOf cuts client server broke cutting.cut cutting.how
 
@@ -140,22 +142,26 @@ module _ {K Q S F P : Type 0} (racer : RacerOf Q S F P) (race : FutureOf F (Resu
   MayEnd session end =
       racer.answers session.asker.racer.now session.asker.address (string_bytes session.asked.host) session.asked.port end
 
+  -- the users of its racer
+  abbrev pub users_of : Session K Q S F P → Users
+  users_of session = racer.all_users session.asker.racer.now
+
   -- the progress of the session, since its client was accepted as `first`
   abbrev pub IsAt : S → Session K Q S F P → State F S → Type 0
-  IsAt first session (states.Asking asking) = IsAsking reads writes first asking
+  IsAt first session (states.Asking asking) = IsAsking reads writes first (users_of session) asking
   IsAt first session (states.Racing racing) =
-      IsRacing reads writes first race (MayEnd session) session.asked racing
+      IsRacing reads writes first race (users_of session) (MayEnd session) session.asked racing
   IsAt first session (states.Answering answering) =
-      IsAnswering reads writes first (MayEnd session) session.asked session.result answering
+      IsAnswering reads writes first (users_of session) (MayEnd session) session.asked session.result answering
   IsAt first session (states.Closing closing) = IsClosing reads writes first closing
   IsAt first session (states.Relaying relaying) =
-      IsRelaying reads writes first (MayEnd session) session.asked session.result relaying.tunnel
+      IsRelaying reads writes first (users_of session) (MayEnd session) session.asked session.result relaying.tunnel
   IsAt first session (states.Forwarding forwarding) =
-      IsForwarding reads writes first (MayEnd session) session.asked session.result forwarding.tunnel
+      IsForwarding reads writes first (users_of session) (MayEnd session) session.asked session.result forwarding.tunnel
   IsAt first session (states.Parting parting) =
-      IsParting reads writes first (MayEnd session) session.asked session.result parting
+      IsParting reads writes first (users_of session) (MayEnd session) session.asked session.result parting
   IsAt first session (states.Cutting cutting) =
-      IsCutting reads writes first cuts (MayEnd session) session.asked session.result cutting
+      IsCutting reads writes first cuts (users_of session) (MayEnd session) session.asked session.result cutting
   IsAt first session states.Over = ⊤
 
   -- the client, which was sent exactly this, whatever it has sent, goes on in its session

@@ -1,15 +1,17 @@
 -- The octets between a client and its session.
-use Rattle.std.specs.Prelude.{◌≡◌, ◌⊎◌, ℕ, Bool, true, false, List, [], ◌∷◌, ◌++◌, take}
+use Rattle.std.specs.Prelude.{◌≡◌, ◌⊎◌, ℕ, List, [], ◌∷◌, ◌++◌, take}
 use Rattle.std.specs.declared.alloc.Global.{Global}
 use Rattle.tokio.specs.Io.Moved.{Passes}
 use Rattle.he_front.specs.declared.asked.Asked.{Asked}
 use Rattle.he_front.specs.declared.replies.Ended.{Ended}
 use Rattle.he_front.specs.declared.replies.Ended.TheVariants as ends
-use Rattle.he_front.specs.Socks.{IsGreeting}
-use Rattle.he_sessions.specs.Asks.{AsksServer, IsFailure, greets, protocol_of}
+use Rattle.he_users.specs.declared.users.Users.{Users}
+use Rattle.he_sessions.specs.Asks.{AsksServer, IsAdmitted, IsFailure, LeadsTo, greets, protocol_of}
 use Rattle.he_sessions.specs.Replies.{IsReply}
 use Rattle.he_sessions.specs.Went.{Went}
 use Rattle.he_sessions.specs.declared.asking.Protocol.{Protocol}
+use Rattle.he_sessions.specs.declared.asking.Stage.{Stage}
+use Rattle.he_sessions.specs.declared.asking.Stage.TheVariants as stages
 use Rattle.he_sessions.specs.declared.asking.Wanted.{Wanted}
 use Rattle.he_sessions.specs.declared.asking.Wanted.TheVariants as wanteds
 
@@ -26,34 +28,55 @@ pub record IsFront (Begins : List ℕ → ℕ → Type 0) (octets : List ℕ) : 
   pub begins : Begins come len
   pub front : octets ≡ take len come
 
--- the greeting of a client that has greeted offers to go without authentication
-abbrev pub HasGreeted : Bool → List ℕ → Type 0
-HasGreeted true octets = IsFront (λ come len. IsGreeting come true len) octets
-HasGreeted false octets = octets ≡ []
+-- all octets of a client before it came to this stage: a greeting, and the name and the password of a user, if it was
+-- asked for them
+abbrev pub HasGreeted : Users → Stage → List ℕ → Type 0
+HasGreeted users stages.New octets = octets ≡ []
+HasGreeted users stages.Greeted octets =
+    IsFront (λ come len. LeadsTo users stages.New come stages.Greeted len) octets
+HasGreeted users stages.Authenticating octets =
+    IsFront (λ come len. LeadsTo users stages.New come stages.Authenticating len) octets
+HasGreeted users stages.Admitted octets =
+    (greeting : List ℕ) × (message : List ℕ)
+    × IsFront (λ come len. LeadsTo users stages.New come stages.Authenticating len) greeting
+    × IsFront (λ come len. LeadsTo users stages.Authenticating come stages.Admitted len) message
+    × (octets ≡ greeting ++ message)
 
--- the answer to the greeting: no authentication (RFC 1928 section 3)
-abbrev pub welcome : Bool → List ℕ
-welcome true = 5 ∷ 0 ∷ []
-welcome false = []
+-- the answer that leads to this stage: no authentication, or name and password (RFC 1928 section 3); success (RFC 1929
+-- section 2)
+abbrev pub step_reply : Stage → List ℕ
+step_reply stages.New = []
+step_reply stages.Greeted = 5 ∷ 0 ∷ []
+step_reply stages.Authenticating = 5 ∷ 2 ∷ []
+step_reply stages.Admitted = 1 ∷ 0 ∷ []
 
--- all octets of a client's request for this: its greeting, if the protocol has one, and its request, without the body
-pub record AsksBy (wanted : Wanted) (asked : Asked Global) (octets : List ℕ) : Type 0 where
+-- all answers to a client before it came to this stage
+abbrev pub welcome : Stage → List ℕ
+welcome stages.New = []
+welcome stages.Greeted = 5 ∷ 0 ∷ []
+welcome stages.Authenticating = 5 ∷ 2 ∷ []
+welcome stages.Admitted = 5 ∷ 2 ∷ 1 ∷ 0 ∷ []
+
+-- All octets of a client's request for this: those before the request, if the protocol has any, and its request,
+-- without the body. With users, it has the name and the password of one: in the message before a request of SOCKS 5,
+-- or in the head of a request of HTTP.
+pub record AsksBy (users : Users) (wanted : Wanted) (asked : Asked Global) (octets : List ℕ) : Type 0 where
   pub greeting : List ℕ
-  pub greeted : HasGreeted (greets (protocol_of wanted)) greeting
+  pub greeted : HasGreeted users (greets (protocol_of wanted)) greeting
   pub request : List ℕ
-  pub requested : IsFront (λ come len. AsksServer come wanted asked len) request
+  pub requested : IsFront (λ come len. AsksServer come wanted asked len × IsAdmitted users (protocol_of wanted) come) request
   pub whole : octets ≡ greeting ++ request
 
--- all octets sent to a client whose request ended like this: the answer to its greeting, and one reply
+-- all octets sent to a client whose request ended like this: the answers before its request, and one reply
 pub record IsToldOf (protocol : Protocol) (ended : Ended) (octets : List ℕ) : Type 0 where
   pub reply : List ℕ
   pub replied : IsReply protocol ended reply
   pub whole : octets ≡ welcome (greets protocol) ++ reply
 
 -- it requested this tunnel like this, and is sent that it is open
-pub record IsOpened (asked : Asked Global) (asks told : List ℕ) : Type 0 where
+pub record IsOpened (users : Users) (asked : Asked Global) (asks told : List ℕ) : Type 0 where
   pub protocol : Protocol
-  pub asks_by : AsksBy (wanteds.Tunnel protocol) asked asks
+  pub asks_by : AsksBy users (wanteds.Tunnel protocol) asked asks
   pub told_of : IsToldOf protocol ends.Connected told
 
 -- it is sent a failure
@@ -63,6 +86,7 @@ pub record IsRefused (told : List ℕ) : Type 0 where
   pub failure : IsFailure ended
   pub told_of : IsToldOf protocol ended told
 
--- it is sent that no method of its greeting is acceptable (RFC 1928 section 3), or a failure
+-- it is sent that no method of its greeting is acceptable (RFC 1928 section 3); that its name and password are those
+-- of no user (RFC 1929 section 2); or a failure
 abbrev pub IsTurnedAway : List ℕ → Type 0
-IsTurnedAway told = (told ≡ 5 ∷ 255 ∷ []) ⊎ IsRefused told
+IsTurnedAway told = (told ≡ 5 ∷ 255 ∷ []) ⊎ (told ≡ 5 ∷ 2 ∷ 1 ∷ 1 ∷ []) ⊎ IsRefused told

@@ -1,6 +1,7 @@
 //! The session's steps that send a final reply: why there is no tunnel, or a page.
 ghost use Rattle.std.specs.Prelude.{◌≡◌, ℕ, List, [], ◌++◌};
 ghost use Rattle.he_sessions.specs.Asks.{IsFailure, greets};
+ghost use Rattle.he_sessions.specs.Follows.{come_to};
 ghost use Rattle.he_sessions.specs.Sessions.{IsAt, IsLast, IsNext, IsPolled, IsStep, TellsOn};
 ghost use Rattle.he_sessions.specs.Talks.{Talks, welcome};
 ghost use Rattle.he_sessions.specs.declared.session.Next.{Next};
@@ -43,6 +44,7 @@ impl<'q, K: Clock, Q: Racer> Session<'q, K, Q> {
             → IsAt Q.Racer Q.Race.Future Q.Stream.reads Q.Stream.writes Q.Stream.cuts first self.new
             self.new.state }
         ensures next { IsNext self.old self.new }
+        ensures last { (come_to self.new.state).2 ≡ 1 }
         ensures on { result ≡ Next.Waits → ⊥ }
     {
         self.place = None;

@@ -15,7 +15,7 @@ pub enum Ending {
     ClientBroke,
     /// The connection to the server broke off, and so the tunnel.
     ServerBroke,
-    /// No byte moved for the idle time of a tunnel, or of a response for a second once the client asked again.
+    /// No byte moved for the idle time.
     Idle,
     /// The client left before its tunnel was open.
     Left,
@@ -25,6 +25,8 @@ pub enum Ending {
     Late,
     /// The client was refused, or its race was lost; it was sent the reason.
     Refused,
+    /// The server gave no response that can be returned; the client was sent the reason.
+    NoResponse,
     /// The client requested a page.
     Page,
     /// The first octet begins no protocol of this proxy.
@@ -44,6 +46,7 @@ impl Display for Ending {
             Ending::Displaced => "displaced",
             Ending::Late => "too-late",
             Ending::Refused => "refused",
+            Ending::NoResponse => "no-response",
             Ending::Page => "page",
             Ending::Unknown => "unknown-protocol",
             Ending::Failed => "no-memory",
@@ -60,6 +63,8 @@ pub struct SessionEnd<'a> {
     pub host: &'a str,
     /// The port of its request; 0 if none.
     pub port: u16,
+    /// The name of its user, if it was asked for one: any octets.
+    pub user: Option<&'a [u8]>,
     /// How its race ended, or why it was refused; `None` if it ended before.
     pub result: Option<Result<Winner, Ended>>,
     /// The method and the target of an HTTP request for a page or of a refused one; of a forwarded one only the

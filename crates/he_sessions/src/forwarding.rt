@@ -1,9 +1,10 @@
 //! The session's steps for a request that is forwarded (RFC 9112 section 3.2.2).
-ghost use Rattle.std.specs.Prelude.{◌≡◌, ◌≤◌, Ok, IfOk, length, string_bytes, take};
+ghost use Rattle.std.specs.Prelude.{◌≡◌, ◌≤◌, [], Ok, IfOk, length, string_bytes, take};
 ghost use Rattle.futures.specs.Task.{IsArmed, Keeps};
 ghost use Rattle.he_relay.specs.Ways.{IsOver};
-ghost use Rattle.he_sessions.specs.Forwarding.{IsBoundedBy, IsGivenBack, IsSentOn};
-ghost use Rattle.he_sessions.specs.Sessions.{HasAsked, IsAt, IsNext, IsPolled, IsStep};
+ghost use Rattle.he_sessions.specs.Follows.{come_to};
+ghost use Rattle.he_sessions.specs.Forwarding.{IsBoundedBy, IsGivenBack, IsSentOn, is_to_head};
+ghost use Rattle.he_sessions.specs.Sessions.{HasAsked, IsAt, IsNext, IsPolled, IsStep, TellsOn};
 ghost use Rattle.he_sessions.specs.declared.asking.Wanted.{Wanted};
 ghost use Rattle.he_sessions.specs.declared.session.Next.{Next};
 
@@ -12,6 +13,7 @@ use crate::connection::Connection;
 use crate::ending::Ending;
 use crate::hearing::poll_linger;
 use crate::racer::{Racer, Won};
+use crate::reply::no_response;
 use crate::session::{Next, Session};
 use crate::states::{Forwarding, Parting, State};
 use crate::timing::{no_progress, poll_idle, restart, restart_within};
@@ -23,16 +25,15 @@ use he_bounded::Bounded;
 use he_front::Ended;
 use he_relay::fault::Traffic;
 use he_relay::{Broke, Tunnel};
+use he_response::Returned;
 use std::alloc::Global;
 use std::mem::drop;
-use std::time::{Clock, Duration};
+use std::time::Clock;
+
+const HEAD: &[u8] = b"HEAD ";
 
 // The most octets after the body that are read and dropped before the response is written.
 const MOST_DROPPED: usize = 65_536;
-
-// Milliseconds for which a server may be silent after its response began, once the client asks again on the
-// connection.
-const MOST_SILENCE: u64 = 1_000;
 
 impl<'q, K: Clock, Q: Racer> Session<'q, K, Q> {
     // Sends the server the request: its new head, and of the octets after it those of its body.
@@ -47,8 +48,8 @@ impl<'q, K: Clock, Q: Racer> Session<'q, K, Q> {
             self.old.asked.port (Ok won) }
         requires over { self.old.state ≡ State.Over }
         ensures asked { (first : Q.Stream)
-            → HasAsked Q.Stream.reads Q.Stream.writes first self.old.asked client early.items
-            (Wanted.Response outgoing)
+            → HasAsked Q.Stream.reads Q.Stream.writes first (Q.all_users self.old.asker.racer.now)
+            self.old.asked client early.items (Wanted.Response outgoing)
             → IsAt Q.Racer Q.Race.Future Q.Stream.reads Q.Stream.writes Q.Stream.cuts first self.new
             self.new.state }
         ensures next { IsNext self.old self.new }
@@ -117,7 +118,7 @@ impl<'q, K: Clock, Q: Racer> Session<'q, K, Q> {
         let next = poll_idle(
             self.clock,
             &mut self.sleep,
-            limit_of(self.limits.idle, self.received, dropped),
+            self.limits.idle,
             &mut forwarding.progress,
             moved.saturating_add(dropped as u64),
             cx,
@@ -126,16 +127,36 @@ impl<'q, K: Clock, Q: Racer> Session<'q, K, Q> {
         next
     }
 
-    // Resets the connection that did not break off, so that what is cut does not look whole.
+    // Resets the connection that did not break off, so that what is cut does not look whole. If it is the client's,
+    // and nothing was written to it, it gets a response of the proxy.
     fn break_off(&mut self, forwarding: Forwarding<Q::Stream>, broke: Broke) -> Next
         requires over { self.old.state ≡ State.Over }
         ensures step { IsStep Q.Racer Q.Race.Future Q.Stream.reads Q.Stream.writes Q.Stream.cuts self.old
             (State.Forwarding forwarding) self.new }
         ensures on { result ≡ Next.Waits → ⊥ }
     {
+        let Traffic { sent: _, received } = forwarding.tunnel.traffic();
         let (client, server) = forwarding.tunnel.into_ends();
-        self.state = State::Cutting(cutting_of(client.into_inner(), server, broke));
+        if received == 0 && broke == Broke::Server {
+            drop(server);
+            return self.excuse(client.into_inner());
+        }
+        self.state = State::Cutting(cutting_of(client.into_inner(), server.into_inner(), broke));
         Next::GoesOn
+    }
+
+    // Sends the client that its server gave no response.
+    fn excuse(&mut self, client: Q::Stream) -> Next
+        requires over { self.old.state ≡ State.Over }
+        ensures told { TellsOn Q.Racer Q.Race.Future Q.Stream.reads Q.Stream.writes Q.Stream.cuts client [] self.new }
+        ensures next { IsNext self.old self.new }
+        ensures last { (come_to self.new.state).2 ≡ 1 }
+        ensures on { result ≡ Next.Waits → ⊥ }
+    {
+        match no_response(self.alloc) {
+            Ok(reply) => self.close(client, reply, Ending::NoResponse),
+            Err(Memory) => Next::Ends(Ending::Failed),
+        }
     }
 
     // Closes the connection to the server, whose response is written, and waits for the client to close.
@@ -183,17 +204,6 @@ impl<'q, K: Clock, Q: Racer> Session<'q, K, Q> {
     }
 }
 
-// How long no byte may move, once the client was sent this number of bytes, and this number of its own was dropped. A
-// client that asks again takes the response for whole: if no more of it comes soon, the server keeps its connection
-// open, and the client is to connect anew.
-fn limit_of(idle: Option<Duration>, received: u64, dropped: usize) -> Option<Duration> {
-    if received > 0 && dropped > 0 {
-        Some(Duration::from_millis(MOST_SILENCE))
-    } else {
-        idle
-    }
-}
-
 // The client, of whose body these octets have come, and how many of them are of it. The client alone if they begin no
 // body that is framed like this.
 fn bounded_by<S: Connection>(
@@ -222,7 +232,7 @@ fn sent_on<S: Connection>(
     outgoing: Outgoing,
     early: &[u8],
     count: usize,
-) -> Result<Tunnel<Bounded<S>, S>, Memory>
+) -> Result<Tunnel<Bounded<S>, Returned<S>>, Memory>
     requires { count ≤ length early.now }
     ensures { IfOk result (IsSentOn client won.stream outgoing.head.items (take count early.now)) }
 {
@@ -231,7 +241,15 @@ fn sent_on<S: Connection>(
         framing: _,
     } = outgoing;
     let Won { stream, winner: _ } = won;
-    first.extend_from_slice(&early[..count])?;
     stream.send_at_once();
-    Tunnel::new(alloc, client, stream, first)
+    let server = Returned::new(alloc, stream, is_to_head(&first));
+    first.extend_from_slice(&early[..count])?;
+    Tunnel::new(alloc, client, server, first)
+}
+
+// Whether this is the head of a request for a head alone (RFC 9110 section 9.3.2).
+fn is_to_head(head: &[u8]) -> bool
+    ensures { result ≡ is_to_head head.now }
+{
+    head.len() >= HEAD.len() && &head[..HEAD.len()] == HEAD
 }

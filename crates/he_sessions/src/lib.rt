@@ -12,10 +12,10 @@
 //! tunnel in which no byte moved for [`Limits::idle`]. A race has the racer's own limit.
 //!
 //! The server of a request to forward gets the head of `he_forward` in place of the client's, and then the body, which
-//! `he_bounded` bounds. The response goes to the client as it is, with all responses of 1xx, until the server ends it;
-//! then the connection to the server is closed, and the client's once it closes too, or after [`Limits::request`]. So
-//! a connection has one request. The server is not sent the end of the client's sending at the body's end, only if
-//! the client ends it.
+//! `he_bounded` bounds. The response goes to the client as `he_response` has it, with all responses of 1xx, up to its
+//! end, whether the server ends or not; then the connection to the server is closed, and the client's once it closes
+//! too, or after [`Limits::request`]. So a connection has one request. The server is not sent the end of the client's
+//! sending at the body's end, only if the client ends it. Where the server gives no response, the client gets 502.
 //!
 //! # What is proved
 //!
@@ -27,19 +27,24 @@
 //!   `Session::new` begins like this, and `Session::poll` keeps it (`IsStep`).
 //! - A race is begun only for the host and port that the client's octets name, as `he_front` and `he_forward` define
 //!   it (`AsksServer` in `specs/Asks`), and for this client.
+//! - With users, a race is begun only for a client whose octets have the name and the password of one of them: in the
+//!   message before a request of SOCKS 5 (`LeadsTo` in `specs/Asks`), which is answered by success only then, or in
+//!   the head of a request of HTTP (`IsAdmitted`). Without users nobody is asked for a password.
 //! - Success is sent to the client only if such a race gave a connection, and once. From then on, the client is
 //!   written that connection's octets, in order, none twice and none left out except those held for it; that
 //!   connection is written the client's octets after its request likewise. The two are never exchanged, and the
 //!   recorded winner is that connection's (`IsRelaying`). The transfer of a tunnel is proved in `he_relay`.
 //! - The connection that such a race gave for a request to forward is written the new head and then octets of the
 //!   body, in order, none twice and none left out except those held for it, and never one that comes after the body
-//!   (`IsInBody`). The client is written that connection's octets likewise, and nothing else (`IsForwarding` in
+//!   (`IsInBody`). The client is written the response that came likewise, its heads in their new form, and nothing
+//!   that comes after it; and it ends in order only where it is whole or ends with the connection (`IsForwarding` in
 //!   `specs/Forwarding`).
 //! - A client without a server is sent the reason, by its protocol's reply for an end other than a connection
 //!   (`IsTurnedAway` in `specs/Talks`, `IsReply` in `specs/Replies`), whatever the racer returns, or a page that it
 //!   requested by GET or HEAD. No such reply begins with a success ([`laws::no_refusal_succeeds`]).
 //! - A session never goes back: it reads, races, answers and relays in this order, and a client that was sent a
-//!   success or a response, even in part, is sent no failure (`Follows` in `specs/Follows`).
+//!   success or a response, even in part, is sent no failure (`Follows` in `specs/Follows`, `IsClosing` in
+//!   `specs/Sessions`).
 //! - If one connection of a tunnel broke off, the other one is reset, and the session's end names the one that broke
 //!   (`IsCutOf`).
 //! - A waiting session has asked to be woken, and a race is polled only while it may be.
@@ -49,6 +54,7 @@
 //! each session is reported once, and its counts.
 #![tactic(auto)]
 
+mod admitting;
 pub mod asking;
 mod closing;
 pub mod connection;

@@ -1,8 +1,9 @@
 //! Races for connections.
-ghost use Rattle.std.specs.Prelude.{ℕ, List, Result, IfOk, IsTrue};
+ghost use Rattle.std.specs.Prelude.{◌≡◌, ℕ, List, Result, IfOk, IsTrue};
 ghost use Rattle.std.specs.declared.net.socket_addr.SocketAddr.{SocketAddr};
 ghost use Rattle.futures.specs.Task.{Keeps};
 ghost use Rattle.he_front.specs.declared.replies.Ended.{Ended};
+ghost use Rattle.he_users.specs.declared.users.Users.{Users};
 ghost use Rattle.he_sessions.specs.declared.racer.Won.{Won};
 
 use crate::connection::Connection;
@@ -11,6 +12,7 @@ use futures::Future;
 use futures::task::{Context, Poll};
 use he_addr::{Ip, Memory};
 use he_front::Ended;
+use he_users::Users;
 use std::io;
 use std::net::SocketAddr;
 
@@ -68,12 +70,19 @@ pub trait Racer {
     // The client of this address is served.
     ghost serves: { Self → SocketAddr → Type 0 };
 
+    // Who may use the proxy.
+    ghost all_users: { Self → Users };
+
     // A possible result of a race for the client of this address, to the host of these octets at this port.
     ghost answers: { Self → SocketAddr → List ℕ → ℕ → Result (Won Self.Stream) Ended → Type 0 };
 
     /// Whether the client of this address is served.
     fn is_served(&self, client: SocketAddr) -> bool
         ensures { IsTrue result → Self.serves self.now client };
+
+    /// The users of the proxy. With none, each client that is served may use it.
+    fn users(&self) -> &Users
+        ensures { result.now ≡ Self.all_users self.now };
 
     /// The place of the client of this address, which has just connected.
     ///

@@ -116,7 +116,8 @@ impl<'q, K: Clock, Q: Racer> Session<'q, K, Q> {
             self.old.asked.port (Ok won) }
         requires over { self.old.state ≡ State.Over }
         ensures asked { (first : Q.Stream)
-            → HasAsked Q.Stream.reads Q.Stream.writes first self.old.asked client early.items wanted
+            → HasAsked Q.Stream.reads Q.Stream.writes first (Q.all_users self.old.asker.racer.now)
+            self.old.asked client early.items wanted
             → IsAt Q.Racer Q.Race.Future Q.Stream.reads Q.Stream.writes Q.Stream.cuts first self.new
             self.new.state }
         ensures next { IsNext self.old self.new }
@@ -140,7 +141,8 @@ impl<'q, K: Clock, Q: Racer> Session<'q, K, Q> {
             self.old.asked.port (Ok won) }
         requires over { self.old.state ≡ State.Over }
         ensures asked { (first : Q.Stream)
-            → HasAsked Q.Stream.reads Q.Stream.writes first self.old.asked client early.items (Wanted.Tunnel protocol)
+            → HasAsked Q.Stream.reads Q.Stream.writes first (Q.all_users self.old.asker.racer.now)
+            self.old.asked client early.items (Wanted.Tunnel protocol)
             → IsAt Q.Racer Q.Race.Future Q.Stream.reads Q.Stream.writes Q.Stream.cuts first self.new
             self.new.state }
         ensures next { IsNext self.old self.new }

@@ -1,14 +1,17 @@
 // The replies to clients.
-ghost use Rattle.std.specs.Prelude.{IfOk};
+ghost use Rattle.std.specs.Prelude.{◌≡◌, ◌∷◌, [], IfOk};
 ghost use Rattle.he_front.specs.declared.replies.Ended.TheVariants as ends;
 ghost use Rattle.he_sessions.specs.Asks.{IsFailure};
 ghost use Rattle.he_sessions.specs.Replies.{IsReply};
+ghost use Rattle.he_sessions.specs.Talks.{step_reply};
 
-use crate::asking::Protocol;
+use crate::asking::{Protocol, Stage};
 use bytes::BytesMut;
 use he_addr::Memory;
-use he_front::Ended;
+use he_front::{Ended, Method, method_reply, password_reply};
 use std::alloc::Global;
+
+const NO_RESPONSE: &str = "the server sent no response that this proxy can read";
 
 // The reply to a client whose tunnel is open.
 pub(crate) fn success(alloc: Global, protocol: Protocol) -> Result<BytesMut, Memory>
@@ -25,18 +28,57 @@ pub(crate) fn failure(alloc: Global, protocol: Protocol, ended: Ended) -> Result
     reply_of(alloc, protocol, ended)
 }
 
+// The response to a client whose server gave none that can be returned (RFC 9110 section 15.6.3).
+pub(crate) fn no_response(alloc: Global) -> Result<BytesMut, Memory>
+    ensures { IfOk result (λ reply. IsReply Protocol.Http ends.Refused reply.items) }
+{
+    http_reply(alloc, Ended::Refused, NO_RESPONSE)
+}
+
+// The answer that leads to this stage (RFC 1928 section 3; RFC 1929 section 2).
+pub(crate) fn answer_to(alloc: Global, stage: Stage) -> Result<BytesMut, Memory>
+    ensures { IfOk result (λ reply. reply.items ≡ step_reply stage) }
+{
+    match stage {
+        Stage::New => Ok(BytesMut::new(alloc)),
+        Stage::Greeted => BytesMut::copy_from_slice(alloc, &method_reply(Some(Method::Open))),
+        Stage::Authenticating => {
+            BytesMut::copy_from_slice(alloc, &method_reply(Some(Method::Password)))
+        }
+        Stage::Admitted => BytesMut::copy_from_slice(alloc, &password_reply(true)),
+    }
+}
+
+// The answer to a greeting without an acceptable method (RFC 1928 section 3).
+pub(crate) fn no_method(alloc: Global) -> Result<BytesMut, Memory>
+    ensures { IfOk result (λ reply. reply.items ≡ 5 ∷ 255 ∷ []) }
+{
+    BytesMut::copy_from_slice(alloc, &method_reply(None))
+}
+
+// The answer to a name and a password of no user (RFC 1929 section 2).
+pub(crate) fn no_user(alloc: Global) -> Result<BytesMut, Memory>
+    ensures { IfOk result (λ reply. reply.items ≡ 1 ∷ 1 ∷ []) }
+{
+    BytesMut::copy_from_slice(alloc, &password_reply(false))
+}
+
 fn reply_of(alloc: Global, protocol: Protocol, ended: Ended) -> Result<BytesMut, Memory>
     ensures { IfOk result (λ reply. IsReply protocol ended reply.items) }
 {
     match protocol {
         Protocol::OldSocks => BytesMut::copy_from_slice(alloc, &ended.old_socks_reply()),
-        Protocol::Socks => BytesMut::copy_from_slice(alloc, &ended.socks_reply()),
-        Protocol::Http => {
-            let mut text = Vec::new(alloc);
-            ended.write_response(reason_of(ended).as_bytes(), &mut text)?;
-            Ok(BytesMut::from(text))
-        }
+        Protocol::Socks(_) => BytesMut::copy_from_slice(alloc, &ended.socks_reply()),
+        Protocol::Http => http_reply(alloc, ended, reason_of(ended)),
     }
+}
+
+fn http_reply(alloc: Global, ended: Ended, reason: &str) -> Result<BytesMut, Memory>
+    ensures { IfOk result (λ reply. IsReply Protocol.Http ended reply.items) }
+{
+    let mut text = Vec::new(alloc);
+    ended.write_response(reason.as_bytes(), &mut text)?;
+    Ok(BytesMut::from(text))
 }
 
 // The failure to report for a race that gave no connection.
@@ -57,11 +99,13 @@ fn reason_of(ended: Ended) -> &'static str {
         Ended::Connected => "",
         Ended::Failed => "the proxy is out of memory or of descriptors",
         Ended::Forbidden => "this proxy makes no connection to that target",
+        Ended::NoUser => "this proxy needs the name and the password of one of its users",
         Ended::NoNetwork => "no network leads to an address of the host",
         Ended::NoHost => "the host has no address that could be reached",
         Ended::Refused => "each address of the host refused the connection",
         Ended::TimedOut => "no address of the host answered in time",
         Ended::Command => "this proxy supports only SOCKS, CONNECT and requests for http:// URLs",
         Ended::Kind => "the request is not one that this proxy can read",
+        Ended::Coding => "this proxy understands no transfer coding but chunked",
     }
 }

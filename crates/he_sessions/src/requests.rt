@@ -2,26 +2,30 @@
 ghost use Rattle.std.specs.Prelude.{◌≡◌, [], IfOk, Result, drop, string_bytes};
 ghost use Rattle.futures.specs.Task.{Keeps};
 ghost use Rattle.he_front.specs.declared.replies.Ended.{Ended};
-ghost use Rattle.he_sessions.specs.Sessions.{IsGreetedAfter, IsPolled, IsStep, MayAnswer};
+ghost use Rattle.he_sessions.specs.Sessions.{IsAdvanced, IsPolled, IsStep, MayAnswer};
 ghost use Rattle.he_sessions.specs.declared.session.Next.{Next};
 ghost use Rattle.he_sessions.specs.declared.racer.Won.{Won};
 
+use crate::admitting::user_in;
 use crate::asking::{
-    Ask, Extent, Protocol, Wanted, greeted_by, piece, protocol_of, read_ask, rest_after,
+    Ask, Extent, Protocol, Stage, Wanted, piece, protocol_at, protocol_of, read_ask, rest_after,
 };
 use crate::connection::Connection;
 use crate::ending::Ending;
 use crate::hearing::{Heard, poll_hear};
 use crate::pages::page_of;
-use crate::racer::{PageAsked, Place, Racer};
+use crate::racer::{PageAsked, Place, Racer, Winner};
+use crate::reply::{answer_to, no_method, no_user};
 use crate::session::{Asker, Next, Session};
 use crate::states::{Asking, Racing, State};
 use bytes::BytesMut;
 use futures::task::{Context, Poll};
 use he_addr::Memory;
-use he_front::{Asked, Ended, method_reply, request_line};
+use he_front::{Asked, Ended, Read, read_password, request_line};
+use he_users::Users;
 use httparse::spans::Span;
 use std::alloc::Global;
+use std::mem::replace;
 use std::time::Clock;
 use tokio::io::poll_write_all_buf;
 
@@ -60,10 +64,12 @@ impl<'q, K: Clock, Q: Racer> Session<'q, K, Q> {
             (State.Asking asking) self.new }
         ensures polled { IsPolled result cx.old cx.new }
     {
-        match read_ask(self.alloc, &asking.come, asking.was_greeted) {
+        let users = self.asker.racer.users();
+        match read_ask(self.alloc, users, &asking.come, asking.stage) {
             Ok(Ask::More) => self.hear(asking, cx),
-            Ok(Ask::Greeting(len)) => self.greet(asking, len),
+            Ok(Ask::Step(stage, len)) => self.advance(asking, stage, len),
             Ok(Ask::NoMethod) => self.refuse_methods(asking),
+            Ok(Ask::WrongUser) => self.refuse_user(asking),
             Ok(Ask::Server(wanted, asked, len)) => self.begin(asking, wanted, asked, len),
             Ok(Ask::Page(extent, path, host)) => self.show(asking, extent, path, host),
             Ok(Ask::Refused(protocol, ended)) => self.refuse_request(asking, protocol, ended),
@@ -82,8 +88,10 @@ impl<'q, K: Clock, Q: Racer> Session<'q, K, Q> {
         ensures polled { IsPolled result cx.old cx.new }
     {
         if asking.come.len() >= MOST_HEAD {
-            let protocol = greeted_by(asking.was_greeted);
-            return self.refuse_request(asking, protocol, Ended::Kind);
+            return match protocol_at(asking.stage) {
+                Some(protocol) => self.refuse_request(asking, protocol, Ended::Kind),
+                None => Next::Ends(Ending::Unknown),
+            };
         }
         match poll_hear(&mut asking.client, &mut asking.come, MOST_HEAD, cx) {
             Poll::Pending => {
@@ -103,15 +111,16 @@ impl<'q, K: Clock, Q: Racer> Session<'q, K, Q> {
         }
     }
 
-    // Answers the greeting of `len` octets.
-    fn greet(&mut self, asking: Asking<Q::Stream>, len: usize) -> Next
-        requires asks { MayAnswer asking (Ask.Greeting len) }
+    // Answers the message of `len` octets, and goes on at this stage. The log gets the name of a user.
+    fn advance(&mut self, asking: Asking<Q::Stream>, stage: Stage, len: usize) -> Next
+        requires asks { MayAnswer (Q.all_users self.old.asker.racer.now) asking (Ask.Step stage len) }
         requires over { self.old.state ≡ State.Over }
         ensures step { IsStep Q.Racer Q.Race.Future Q.Stream.reads Q.Stream.writes Q.Stream.cuts self.old
             (State.Asking asking) self.new }
         ensures on { result ≡ Next.Waits → ⊥ }
     {
-        match greeted(self.alloc, asking, len) {
+        self.user = named(self.alloc, stage, &asking.come);
+        match advanced(self.alloc, asking, stage, len) {
             Ok(asking) => {
                 self.state = State::Asking(asking);
                 Next::GoesOn
@@ -121,13 +130,27 @@ impl<'q, K: Clock, Q: Racer> Session<'q, K, Q> {
     }
 
     fn refuse_methods(&mut self, asking: Asking<Q::Stream>) -> Next
-        requires asks { MayAnswer asking Ask.NoMethod }
+        requires asks { MayAnswer (Q.all_users self.old.asker.racer.now) asking Ask.NoMethod }
         requires over { self.old.state ≡ State.Over }
         ensures step { IsStep Q.Racer Q.Race.Future Q.Stream.reads Q.Stream.writes Q.Stream.cuts self.old
             (State.Asking asking) self.new }
         ensures on { result ≡ Next.Waits → ⊥ }
     {
-        match BytesMut::copy_from_slice(self.alloc, &method_reply(false)) {
+        match no_method(self.alloc) {
+            Ok(reply) => self.close(asking.client, reply, Ending::Refused),
+            Err(Memory) => Next::Ends(Ending::Failed),
+        }
+    }
+
+    fn refuse_user(&mut self, asking: Asking<Q::Stream>) -> Next
+        requires asks { MayAnswer (Q.all_users self.old.asker.racer.now) asking Ask.WrongUser }
+        requires over { self.old.state ≡ State.Over }
+        ensures step { IsStep Q.Racer Q.Race.Future Q.Stream.reads Q.Stream.writes Q.Stream.cuts self.old
+            (State.Asking asking) self.new }
+        ensures on { result ≡ Next.Waits → ⊥ }
+    {
+        self.result = Some(Err(Ended::NoUser));
+        match no_user(self.alloc) {
             Ok(reply) => self.close(asking.client, reply, Ending::Refused),
             Err(Memory) => Next::Ends(Ending::Failed),
         }
@@ -140,7 +163,7 @@ impl<'q, K: Clock, Q: Racer> Session<'q, K, Q> {
         protocol: Protocol,
         ended: Ended,
     ) -> Next
-        requires asks { MayAnswer asking (Ask.Refused protocol ended) }
+        requires asks { MayAnswer (Q.all_users self.old.asker.racer.now) asking (Ask.Refused protocol ended) }
         requires over { self.old.state ≡ State.Over }
         ensures step { IsStep Q.Racer Q.Race.Future Q.Stream.reads Q.Stream.writes Q.Stream.cuts self.old
             (State.Asking asking) self.new }
@@ -150,12 +173,14 @@ impl<'q, K: Clock, Q: Racer> Session<'q, K, Q> {
         if protocol == Protocol::Http {
             self.request = Some(come);
         }
+        self.result = noted(ended);
         self.refuse(client, protocol, ended)
     }
 
-    // Begins the race for the connection to the requested server. The log gets the method of a request to forward.
+    // Begins the race for the connection to the requested server. The log gets the method of a request to forward, and
+    // the name of a user in a head.
     fn begin(&mut self, asking: Asking<Q::Stream>, wanted: Wanted, asked: Asked, len: usize) -> Next
-        requires asks { MayAnswer asking (Ask.Server wanted asked len) }
+        requires asks { MayAnswer (Q.all_users self.old.asker.racer.now) asking (Ask.Server wanted asked len) }
         requires over { self.old.state ≡ State.Over }
         ensures step { IsStep Q.Racer Q.Race.Future Q.Stream.reads Q.Stream.writes Q.Stream.cuts self.old
             (State.Asking asking) self.new }
@@ -165,6 +190,8 @@ impl<'q, K: Clock, Q: Racer> Session<'q, K, Q> {
         let Asking { client, come, .. } = asking;
         self.asked = asked;
         self.request = logged(self.alloc, &wanted, &come);
+        let name = replace(&mut self.user, None);
+        self.user = or_shown(self.alloc, self.asker.racer.users(), name, &come);
         match self.race_for(&come, len) {
             Ok((race, early)) => {
                 self.state = State::Racing(Racing {
@@ -207,7 +234,7 @@ impl<'q, K: Clock, Q: Racer> Session<'q, K, Q> {
         path: Span,
         host: Option<Span>,
     ) -> Next
-        requires asks { MayAnswer asking (Ask.Page extent path host) }
+        requires asks { MayAnswer (Q.all_users self.old.asker.racer.now) asking (Ask.Page extent path host) }
         requires over { self.old.state ≡ State.Over }
         ensures step { IsStep Q.Racer Q.Race.Future Q.Stream.reads Q.Stream.writes Q.Stream.cuts self.old
             (State.Asking asking) self.new }
@@ -243,16 +270,51 @@ fn logged(alloc: Global, wanted: &Wanted, octets: &[u8]) -> Option<Vec<u8>> {
     }
 }
 
-// Writes the reply to the greeting next, and reads what came after it as a request.
-fn greeted<S: Connection>(alloc: Global, asking: Asking<S>, len: usize) -> Result<Asking<S>, Memory>
-    ensures { IfOk result (IsGreetedAfter len asking) }
+// The log's result of a refused request: only that its client has not shown a user.
+fn noted(ended: Ended) -> Option<Result<Winner, Ended>> {
+    match ended {
+        Ended::NoUser => Some(Err(ended)),
+        _ => None,
+    }
+}
+
+// The name in the message that leads to this stage, if it has one, and there is memory for it.
+fn named(alloc: Global, stage: Stage, octets: &[u8]) -> Option<Vec<u8>> {
+    if stage != Stage::Admitted {
+        return None;
+    }
+    match read_password(octets) {
+        Read::Whole(given, _) => Vec::from_slice(alloc, given.name).ok(),
+        _ => None,
+    }
+}
+
+// This name, or that of the user in a head, if there is memory for it.
+fn or_shown(alloc: Global, users: &Users, name: Option<Vec<u8>>, octets: &[u8]) -> Option<Vec<u8>> {
+    if name.is_some() || users.is_open() {
+        return name;
+    }
+    match user_in(alloc, users, octets) {
+        Ok(found) => found,
+        Err(Memory) => None,
+    }
+}
+
+// Writes the answer to the message of `len` octets next, and reads what came after it at this stage.
+fn advanced<S: Connection>(
+    alloc: Global,
+    asking: Asking<S>,
+    stage: Stage,
+    len: usize,
+) -> Result<Asking<S>, Memory>
+    ensures { IfOk result (IsAdvanced stage len asking) }
 {
     let Asking { client, come, .. } = asking;
     Ok(Asking {
         client,
         come: Vec::from_slice(alloc, rest_after(&come, len))?,
-        was_greeted: true,
-        reply: BytesMut::copy_from_slice(alloc, &method_reply(true))?,
+        stage,
+        reply: answer_to(alloc, stage)?,
     })
 }
 

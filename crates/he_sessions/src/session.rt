@@ -2,6 +2,7 @@
 ghost use Rattle.std.specs.Prelude.{IfOk};
 ghost use Rattle.he_sessions.specs.Sessions.{IsAt, IsPolled, IsStep, MayPoll};
 
+use crate::asking::Stage;
 use crate::ending::{Ending, SessionEnd};
 use crate::racer::{Racer, Winner};
 use crate::states::{Asking, State};
@@ -51,6 +52,8 @@ pub struct Session<'q, K: Clock, Q: Racer> {
     pub(crate) asked: Asked,
     // The octets of an HTTP request that is not for a tunnel; of one to forward only the method.
     pub(crate) request: Option<Vec<u8>>,
+    // The name of the user, for the log.
+    pub(crate) user: Option<Vec<u8>>,
     pub(crate) result: Option<Result<Winner, Ended>>,
     pub(crate) sent: u64,
     pub(crate) received: u64,
@@ -92,13 +95,14 @@ impl<'q, K: Clock, Q: Racer> Session<'q, K, Q> {
                 port: 0,
             },
             request: None,
+            user: None,
             result: None,
             sent: 0,
             received: 0,
             state: State::Asking(Asking {
                 client,
                 come: Vec::new(alloc),
-                was_greeted: false,
+                stage: Stage::New,
                 reply: BytesMut::new(alloc),
             }),
         })
@@ -138,6 +142,7 @@ impl<'q, K: Clock, Q: Racer> Session<'q, K, Q> {
             client: self.asker.address,
             host: self.asked.host.as_str(),
             port: self.asked.port,
+            user: octets_of(&self.user),
             result: self.result,
             request: line_of(&self.request),
             sent: self.sent,
@@ -185,6 +190,13 @@ impl<K: Clock, Q: Racer> Future for Session<'_, K, Q> {
             }
         }
         cx.yield_now()
+    }
+}
+
+fn octets_of(name: &Option<Vec<u8>>) -> Option<&[u8]> {
+    match name {
+        Some(octets) => Some(octets.as_slice()),
+        None => None,
     }
 }
 

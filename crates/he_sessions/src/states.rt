@@ -1,11 +1,12 @@
 //! The states of a session.
 
-use crate::asking::Wanted;
+use crate::asking::{Stage, Wanted};
 use crate::ending::Ending;
 use crate::racer::Won;
 use bytes::BytesMut;
 use he_bounded::Bounded;
 use he_relay::{Cut, Tunnel};
+use he_response::Returned;
 use std::time::Instant;
 
 /// The state of a session.
@@ -38,8 +39,8 @@ pub struct Asking<S> {
     pub client: S,
     /// The octets that have come and are not answered yet.
     pub come: Vec<u8>,
-    /// Whether its greeting was answered.
-    pub was_greeted: bool,
+    /// How far it has come.
+    pub stage: Stage,
     /// The octets to write before more is read.
     pub reply: BytesMut,
 }
@@ -95,8 +96,9 @@ pub struct Relaying<S> {
 /// A request is being forwarded, and its response relayed.
 #[derive(Drop)]
 pub struct Forwarding<S> {
-    /// The tunnel, which takes no more from the client than the body of the request.
-    pub tunnel: Tunnel<Bounded<S>, S>,
+    /// The tunnel, which takes no more from the client than the body of the request, and from the server than one
+    /// response.
+    pub tunnel: Tunnel<Bounded<S>, Returned<S>>,
     /// The bytes that it has moved.
     pub progress: Progress,
 }

@@ -20,6 +20,9 @@ const GOT: &[u8] =
 const POSTS: &[u8] =
     b"POST http://example.org:8080 HTTP/1.1\r\nHost: a\r\nTransfer-Encoding: chunked\r\nExpect: 100-continue\r\n\r\n";
 
+const CODED: &[u8] =
+    b"POST http://example.org:8080 HTTP/1.1\r\nHost: a\r\nTransfer-Encoding: gzip, chunked\r\n\r\n";
+
 const POSTED: &[u8] =
     b"POST / HTTP/1.1\r\nHost: example.org:8080\r\nTransfer-Encoding: chunked\r\nExpect: 100-continue\r\nVia: 1.1 he\r\nConnection: close\r\n\r\n";
 
@@ -30,13 +33,23 @@ const BROKEN: &[u8] = b"5\r\nhello\r\n0x1\r\n";
 const RESPONSE: &[u8] =
     b"HTTP/1.1 103 Early Hints\r\n\r\nHTTP/1.1 200 OK\r\nConnection: close\r\n\r\nbody\n";
 
+const RETURNED: &[u8] =
+    b"HTTP/1.1 103 Early Hints\r\nVia: 1.1 he\r\n\r\nHTTP/1.1 200 OK\r\nVia: 1.1 he\r\nConnection: close\r\n\r\nbody\n";
+
+const KEPT: &[u8] =
+    b"HTTP/1.1 200 OK\r\nConnection: keep-alive\r\nContent-Length: 5\r\n\r\nbody\nHTTP/1.1 200 OK\r\n\r\n";
+
+const CLOSED: &[u8] =
+    b"HTTP/1.1 200 OK\r\nContent-Length: 5\r\nVia: 1.1 he\r\nConnection: close\r\n\r\nbody\n";
+
 // The outcome for a client that sends these parts one after the other, in pieces of `piece` octets, to a server that
-// answers at once and ends once it has got `count` octets.
+// answers at once with this response and ends once it has got `count` octets.
 fn outcome<R: Lender + Net<Listener = TcpListener, Stream = TcpStream>>(
     rt: &R,
     course: Course,
     parts: &[&[u8]],
     piece: usize,
+    response: &[u8],
     count: usize,
 ) -> io::Result<Outcome> {
     let mut sends = Vec::new(rt.alloc());
@@ -49,7 +62,7 @@ fn outcome<R: Lender + Net<Listener = TcpListener, Stream = TcpStream>>(
         ends_after: usize::MAX,
     };
     let server = Part {
-        sends: Vec::from_slice(rt.alloc(), RESPONSE)?,
+        sends: Vec::from_slice(rt.alloc(), response)?,
         piece: usize::MAX,
         ends_after: count,
     };
@@ -65,18 +78,18 @@ fn is_forwarded(outcome: &Outcome, head: &[u8], body: &[u8]) -> bool {
                 && told.result == Some(Ok(WINNER))
                 && told.port == TARGET.1
                 && told.sent == got.len() as u64
-                && told.received == RESPONSE.len() as u64
+                && told.received == RETURNED.len() as u64
         }
         None => false,
     };
-    is_told && got.strip_prefix(head) == Some(body) && outcome.client_got.as_slice() == RESPONSE
+    is_told && got.strip_prefix(head) == Some(body) && outcome.client_got.as_slice() == RETURNED
 }
 
 #[test]
 fn only_the_first_request_reaches_its_server(rt: HostRuntime) -> Result<(), Fail> {
     for piece in [usize::MAX, 7] {
         let parts = [GETS, SECOND, SECOND];
-        let outcome = outcome(&rt, Course::Wins, &parts, piece, GOT.len())?;
+        let outcome = outcome(&rt, Course::Wins, &parts, piece, RESPONSE, GOT.len())?;
         assert!(rt; is_forwarded(&outcome, GOT, b""));
     }
     Ok(())
@@ -86,7 +99,8 @@ fn only_the_first_request_reaches_its_server(rt: HostRuntime) -> Result<(), Fail
 fn a_body_is_forwarded_to_its_end(rt: HostRuntime) -> Result<(), Fail> {
     let count = POSTED.len().saturating_add(CHUNKS.len());
     for piece in [usize::MAX, 5] {
-        let outcome = outcome(&rt, Course::Wins, &[POSTS, CHUNKS, SECOND], piece, count)?;
+        let parts = [POSTS, CHUNKS, SECOND];
+        let outcome = outcome(&rt, Course::Wins, &parts, piece, RESPONSE, count)?;
         assert!(rt; is_forwarded(&outcome, POSTED, CHUNKS));
     }
     Ok(())
@@ -99,7 +113,7 @@ fn a_request_without_a_server_is_answered(rt: HostRuntime) -> Result<(), Fail> {
         (Ended::TimedOut, b"HTTP/1.1 504 Gateway Timeout\r\n"),
         (Ended::Forbidden, b"HTTP/1.1 403 Forbidden\r\n"),
     ] {
-        let outcome = outcome(&rt, Course::Ends(ended), &[GETS], usize::MAX, 0)?;
+        let outcome = outcome(&rt, Course::Ends(ended), &[GETS], usize::MAX, RESPONSE, 0)?;
         assert!(rt; outcome.client_got.starts_with(line));
     }
     Ok(())
@@ -107,12 +121,54 @@ fn a_request_without_a_server_is_answered(rt: HostRuntime) -> Result<(), Fail> {
 
 #[test]
 fn a_malformed_body_is_refused(rt: HostRuntime) -> Result<(), Fail> {
-    let outcome = outcome(&rt, Course::Wins, &[POSTS, BROKEN, SECOND], usize::MAX, 0)?;
+    let parts = [POSTS, BROKEN, SECOND];
+    let outcome = outcome(&rt, Course::Wins, &parts, usize::MAX, RESPONSE, 0)?;
     assert!(rt;
         outcome
             .client_got
             .starts_with(b"HTTP/1.1 400 Bad Request\r\n")
     );
     assert!(rt; outcome.server_got.is_empty());
+    Ok(())
+}
+
+#[test]
+fn a_coding_that_is_not_understood_gets_501(rt: HostRuntime) -> Result<(), Fail> {
+    let parts = [CODED, CHUNKS];
+    let outcome = outcome(&rt, Course::GoesOn, &parts, usize::MAX, RESPONSE, 0)?;
+    assert!(rt;
+        outcome
+            .client_got
+            .starts_with(b"HTTP/1.1 501 Not Implemented\r\n")
+    );
+    assert!(rt;
+        outcome
+            .client_got
+            .ends_with(b" transfer coding but chunked\n")
+    );
+    Ok(())
+}
+
+#[test]
+fn a_response_ends_though_its_server_does_not(rt: HostRuntime) -> Result<(), Fail> {
+    let outcome = outcome(&rt, Course::Wins, &[GETS], 5, KEPT, usize::MAX)?;
+    assert!(rt; outcome.client_got.as_slice() == CLOSED);
+    Ok(())
+}
+
+#[test]
+fn a_server_without_a_response_is_answered_for(rt: HostRuntime) -> Result<(), Fail> {
+    for response in [
+        b"hello\n".as_slice(),
+        b"HTTP/1.1 200 OK\r\n",
+        b"HTTP/1.1 101 x\r\n\r\n",
+    ] {
+        let outcome = outcome(&rt, Course::Wins, &[GETS], 5, response, GOT.len())?;
+        assert!(rt;
+            outcome
+                .client_got
+                .starts_with(b"HTTP/1.1 502 Bad Gateway\r\n")
+        );
+    }
     Ok(())
 }

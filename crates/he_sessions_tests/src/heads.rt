@@ -1,7 +1,7 @@
 // Requests that were put together by hand from RFC 9112, and those of known ways to smuggle one.
 
 use he_body::Framing;
-use he_forward::{ReadForward, read_forward};
+use he_forward::{Fault, ReadForward, read_forward};
 use std::alloc::Global;
 use std::test::Fail;
 
@@ -74,9 +74,33 @@ fn gives(
     }
 }
 
-fn is_refused(alloc: Global, octets: &[u8]) -> bool {
+// Transfer codings that the proxy doesn't understand, before chunked (RFC 9112 section 6.1).
+const CODED: &[&[u8]] = &[
+    b"POST http://a/ HTTP/1.1\r\nHost: a\r\nTransfer-Encoding: gzip, chunked\r\n\r\n",
+    b"POST http://a/ HTTP/1.1\r\nHost: a\r\nTransfer-Encoding: identity,Chunked \r\n\r\n",
+    b"POST http://a/ HTTP/1.1\r\nHost: a\r\nTransfer-Encoding: x;a=b , gzip,\t chunked\r\n\r\n",
+    b"POST http://a/ HTTP/1.1\r\nHost: a\r\nTransfer-Encoding: xchunked, ,chunked\r\n\r\n",
+];
+
+// A body whose end isn't known, as chunked isn't its last transfer coding (RFC 9112 section 6.3), and others that are
+// malformed.
+const MISCODED: &[&[u8]] = &[
+    b"POST http://a/ HTTP/1.1\r\nHost: a\r\nTransfer-Encoding: gzip\r\n\r\n",
+    b"POST http://a/ HTTP/1.1\r\nHost: a\r\nTransfer-Encoding: gzip, xchunked\r\n\r\n",
+    b"POST http://a/ HTTP/1.1\r\nHost: a\r\nTransfer-Encoding: gzip chunked\r\n\r\n",
+    b"POST http://a/ HTTP/1.1\r\nHost: a\r\nTransfer-Encoding: gzip, chunked, gzip\r\n\r\n",
+    b"POST http://a/ HTTP/1.1\r\nHost: a\r\nTransfer-Encoding: chunked, chunked\r\n\r\n",
+    b"POST http://a/ HTTP/1.1\r\nHost: a\r\nTransfer-Encoding: gzip, chunked, chunked\r\n\r\n",
+    b"POST http://a/ HTTP/1.1\r\nHost: a\r\nTransfer-Encoding: , chunked\r\n\r\n",
+    b"POST http://a/ HTTP/1.1\r\nHost: a\r\nTransfer-Encoding: \"gzip\", chunked\r\n\r\n",
+    b"POST http://a/ HTTP/1.0\r\nTransfer-Encoding: gzip, chunked\r\n\r\n",
+    b"POST http://a/ HTTP/1.1\r\nHost: a\r\nContent-Length: 4\r\nTransfer-Encoding: gzip, chunked\r\n\r\n",
+    b"POST http://a/ HTTP/1.1\r\nHost: a\r\nTransfer-Encoding: gzip\r\nTransfer-Encoding: chunked\r\n\r\n",
+];
+
+fn is_refused(alloc: Global, octets: &[u8], wanted: Fault) -> bool {
     match read_forward(alloc, octets) {
-        Ok(ReadForward::Refused) => true,
+        Ok(ReadForward::Refused(fault)) => fault == wanted,
         _ => false,
     }
 }
@@ -100,6 +124,16 @@ fn a_head_is_written_anew(rt: HostRuntime) {
 #[test]
 fn what_can_be_read_in_two_ways_is_refused(rt: HostRuntime) {
     for octets in REFUSED {
-        assert!(rt; is_refused(rt.alloc(), octets));
+        assert!(rt; is_refused(rt.alloc(), octets, Fault::Malformed));
+    }
+}
+
+#[test]
+fn a_coding_that_is_not_understood_has_its_fault(rt: HostRuntime) {
+    for octets in CODED {
+        assert!(rt; is_refused(rt.alloc(), octets, Fault::Coding));
+    }
+    for octets in MISCODED {
+        assert!(rt; is_refused(rt.alloc(), octets, Fault::Malformed));
     }
 }

@@ -8,6 +8,7 @@ use futures::task::{Context, Poll};
 use he_addr::{Ip, Memory};
 use he_front::Ended;
 use he_sessions::{Ending, Limits, PageAsked, Place, Racer, Session, SessionEnd, Winner, Won};
+use he_users::{Users, read_users};
 use std::alloc::{AllocGlobal, Global};
 use std::cell::Cell;
 use std::io;
@@ -92,6 +93,7 @@ pub struct Told {
     pub sent: u64,
     pub received: u64,
     pub how: Ending,
+    pub has_user: bool,
 }
 
 /// Begins the one race that it has, for one target.
@@ -99,6 +101,7 @@ pub struct Told {
 pub struct OneTarget {
     pub host: &'static str,
     pub port: u16,
+    pub users: Users,
     pub is_place_lost: bool,
     pub race: Cell<Option<Result<Race, Ended>>>,
     pub told: Cell<Option<Told>>,
@@ -131,10 +134,16 @@ impl Racer for OneTarget {
 
     ghost serves = { λ _ _. ⊤ };
 
+    ghost all_users = { λ racer. racer.users };
+
     ghost answers = { λ _ _ _ _ _. ⊤ };
 
     fn is_served(&self, _client: SocketAddr) -> bool {
         true
+    }
+
+    fn users(&self) -> &Users {
+        &self.users
     }
 
     fn place(&self, _client: SocketAddr) -> io::Result<OnePlace> {
@@ -168,6 +177,7 @@ impl Racer for OneTarget {
             sent: end.sent,
             received: end.received,
             how: end.how,
+            has_user: end.user.is_some(),
         }));
     }
 }
@@ -303,7 +313,8 @@ fn race_of<R: Lender>(
     })
 }
 
-/// Runs the session of one client to its end. The first piece from the client is unread when it begins.
+/// Runs the session of one client of a proxy without users to its end. The first piece from the client is unread when
+/// it begins.
 pub fn run<R: Lender + Net<Listener = TcpListener, Stream = std::net::TcpStream>>(
     rt: &R,
     target: (&'static str, u16),
@@ -312,6 +323,39 @@ pub fn run<R: Lender + Net<Listener = TcpListener, Stream = std::net::TcpStream>
     client: Part,
     server: Part,
 ) -> io::Result<Outcome> {
+    run_of_users(
+        rt,
+        Users::none(rt.alloc()),
+        target,
+        course,
+        idle,
+        [client, server],
+    )
+}
+
+/// Runs the session of one client of a proxy with the users of this text.
+pub fn run_of<R: Lender + Net<Listener = TcpListener, Stream = std::net::TcpStream>>(
+    rt: &R,
+    users: &[u8],
+    target: (&'static str, u16),
+    course: Course,
+    parts: [Part; 2],
+) -> io::Result<Outcome> {
+    match read_users(rt.alloc(), users) {
+        Ok(users) => run_of_users(rt, users, target, course, None, parts),
+        Err(_) => Err(io::ErrorKind::InvalidData.into()),
+    }
+}
+
+fn run_of_users<R: Lender + Net<Listener = TcpListener, Stream = std::net::TcpStream>>(
+    rt: &R,
+    users: Users,
+    target: (&'static str, u16),
+    course: Course,
+    idle: Option<Duration>,
+    parts: [Part; 2],
+) -> io::Result<Outcome> {
+    let [client, server] = parts;
     let mut runtime = LocalRuntime::new(rt)?;
     let handle = runtime.handle().clone()?;
     let (near, taken, from) = pair(rt, &handle)?;
@@ -319,6 +363,7 @@ pub fn run<R: Lender + Net<Listener = TcpListener, Stream = std::net::TcpStream>
     let racer = OneTarget {
         host: target.0,
         port: target.1,
+        users,
         is_place_lost: course == Course::LosesPlace,
         race: Cell::new(Some(race_of(rt, &handle, course, to_server)?)),
         told: Cell::new(None),

@@ -1,7 +1,7 @@
 //! Tests of `he_sessions` on real sockets, of loopback alone: the answers to clients of SOCKS and of HTTP, the
 //! targets for which races are begun, that early octets are relayed first, what a server gets of a request that is
-//! forwarded, how sessions end, and that all octets arrive. And of `he_front`, `he_forward` and `he_body` on messages
-//! put together by hand.
+//! forwarded, which clients are admitted by a proxy with users, how sessions end, and that all octets arrive. And of
+//! `he_front`, `he_forward`, `he_response` and `he_body` on messages put together by hand.
 #![tactic(auto)]
 
 #[cfg(test)]
@@ -19,4 +19,8 @@ mod old_socks;
 #[cfg(test)]
 mod openings;
 #[cfg(test)]
+mod responses;
+#[cfg(test)]
 mod tunnels;
+#[cfg(test)]
+mod users;

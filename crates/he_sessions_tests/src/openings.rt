@@ -7,9 +7,10 @@ use he_front::http::{Head, ReadHead, read_head};
 use he_front::line::request_line;
 use he_front::opening::{Opening, opening_of};
 use he_front::pages::{Page, page_asked};
-use he_front::replies::{Ended, method_reply};
+use he_front::passwords::{Credentials, read_password};
+use he_front::replies::{Ended, method_reply, password_reply};
 use he_front::responses::{write_advice, write_config, write_page};
-use he_front::socks::{Read, Refusal, Target, read_greeting, read_request};
+use he_front::socks::{Method, Read, Refusal, Target, read_greeting, read_request};
 use std::test::Fail;
 
 const LOOPBACK: Ip = Ip::V4(0x7f00_0001);
@@ -35,11 +36,30 @@ const GET: &[u8] = b"GET /proxy.pac HTTP/1.1\r\nhost: 127.0.0.1:1080 \r\n\r\n";
 #[test]
 fn a_greeting_offers_methods(rt: HostRuntime) {
     assert!(rt; opening_of(5) == Opening::Socks && opening_of(b'C') == Opening::Http);
-    assert!(rt; read_greeting(&[5, 2, 2, 0, 5]) == Read::Whole(true, 4));
-    assert!(rt; read_greeting(&[5, 1, 2]) == Read::Whole(false, 3));
-    assert!(rt; read_greeting(&[5, 2, 0]) == Read::Partial);
-    assert!(rt; read_greeting(&[4, 1]) == Read::Refused(Refusal::Message));
-    assert!(rt; method_reply(true) == [5, 0] && method_reply(false) == [5, 0xff]);
+    let open = Method::Open;
+    assert!(rt; read_greeting(&[5, 2, 2, 0, 5], open) == Read::Whole(true, 4));
+    assert!(rt; read_greeting(&[5, 1, 2], open) == Read::Whole(false, 3));
+    assert!(rt; read_greeting(&[5, 2, 0], open) == Read::Partial);
+    assert!(rt; read_greeting(&[4, 1], open) == Read::Refused(Refusal::Message));
+    assert!(rt; read_greeting(&[5, 1, 2], Method::Password) == Read::Whole(true, 3));
+    assert!(rt; read_greeting(&[5, 1, 0], Method::Password) == Read::Whole(false, 3));
+    assert!(rt; method_reply(Some(open)) == [5, 0] && method_reply(None) == [5, 0xff]);
+    assert!(rt; method_reply(Some(Method::Password)) == [5, 2]);
+}
+
+// RFC 1929 section 2: version 1, a name and a password, each after its length.
+#[test]
+fn a_name_and_a_password_are_taken_whole(rt: HostRuntime) {
+    let given = Credentials {
+        name: b"me",
+        password: b"a:b",
+    };
+    assert!(rt; read_password(b"\x01\x02me\x03a:b\x05") == Read::Whole(given, 8));
+    for end in 0..8usize {
+        assert!(rt; read_password(&b"\x01\x02me\x03a:b"[..end]) == Read::Partial);
+    }
+    assert!(rt; read_password(b"\x05\x02me") == Read::Refused(Refusal::Message));
+    assert!(rt; password_reply(true) == [1, 0] && password_reply(false) == [1, 1]);
 }
 
 #[test]

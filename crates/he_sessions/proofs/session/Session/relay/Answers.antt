@@ -4,7 +4,7 @@ use Rattle.he_sessions.proofs.session.Session.relay.Goals as goal
 
 pub returns-in-Ok-clause-step : goal.returns-in-Ok-clause-step
 returns-in-Ok-clause-step g c = record {
-  goes_on = λ first at. is_opened _ _ first _ _ _ _ _ c.requires.told c.in-Ok.ensures at;
+  goes_on = λ first at. is_opened _ _ first _ _ _ _ _ _ c.requires.told c.in-Ok.ensures at;
   follows = search rules;
   same = search rules;
 }

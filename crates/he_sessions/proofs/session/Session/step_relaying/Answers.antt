@@ -4,7 +4,7 @@ use Rattle.he_sessions.proofs.session.Session.step_relaying.Goals as goal
 
 pub returns-in-Pending-clause-step : goal.returns-in-Pending-clause-step
 returns-in-Pending-clause-step g c = record {
-  goes_on = λ first at. c.watch.ensures.step.goes_on first (is_relayed _ _ first _ _ _ _ _ _ c.poll_tunnel-polled.ensures.moves at);
+  goes_on = λ first at. c.watch.ensures.step.goes_on first (is_relayed _ _ first _ _ _ _ _ _ _ c.poll_tunnel-polled.ensures.moves at);
   follows = c.watch.ensures.step.follows;
   same = search rules;
 }
@@ -16,7 +16,7 @@ returns-in-Ready-Err-clause-step g c = record {
     server = _;
     was = inl (record {
       tunnel = c.poll_tunnel-polled.new.self;
-      was = is_relayed _ _ first _ _ _ _ _ _ c.poll_tunnel-polled.ensures.moves at;
+      was = is_relayed _ _ first _ _ _ _ _ _ _ c.poll_tunnel-polled.ensures.moves at;
       is_client = sym c.into_ends-client.ensures.0;
       is_server = sym c.into_ends-client.ensures.1;
     });
