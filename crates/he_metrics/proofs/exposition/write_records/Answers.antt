@@ -1,0 +1,4 @@
+use Rattle.he_metrics.proofs.exposition.write_records.Goals as goal
+
+pub returns : goal.returns
+returns g c = c.write_metric.ensures

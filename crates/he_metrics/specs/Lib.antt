@@ -1,0 +1,4 @@
+pub mod Counting
+pub mod Exposition
+pub mod Histograms
+pub mod Samples
