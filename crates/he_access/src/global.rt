@@ -24,7 +24,7 @@ pub fn is_global(ip: Ip) -> bool
 }
 
 // The number by which an address is judged.
-fn judged(number: u128) -> u128
+pub(crate) fn judged(number: u128) -> u128
     ensures { result ≡ judged number }
 {
     if number < 1 << 32 {

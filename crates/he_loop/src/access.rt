@@ -7,6 +7,7 @@ ghost use Rattle.he_loop.specs.Access.{Reaches, ReachesHost, is_wide};
 
 use crate::prefixes::Prefixes;
 use he_access::reach::{Place, is_here, is_loopback, may_reach};
+use he_access::rules::{Rule, may_go};
 use he_addr::Ip;
 use he_kernel::asked::AskedWays;
 use he_kernel::sockets::NO_SCOPE;
@@ -78,6 +79,8 @@ pub struct Reach<'a> {
     pub client: Client,
     /// Whether clients of other machines may also reach private addresses and this machine's.
     pub allows_private: bool,
+    /// The rules for targets that the proxy's owner gives.
+    pub rules: &'a [Rule<'a>],
     /// The NAT64 prefixes that the proxy has discovered.
     pub prefixes: &'a Prefixes,
 }
@@ -100,24 +103,28 @@ impl<'a> Reach<'a> {
         }
     }
 
-    /// Whether the client's races may connect to a destination at the port, by what is known of it. A client of
-    /// another machine reaches none for which the kernel gives no source address, and through a NAT64 only the IPv4
-    /// hosts that it may reach.
-    pub fn has(self, to: Destination, port: u16) -> bool
-        ensures { IsTrue result → Reaches self.entry to port }
+    /// Whether the client's races for `asked`, an address or a name in text, may connect to a destination at the
+    /// port, by what is known of it and by the rules. A client of another machine reaches none for which the kernel
+    /// gives no source address, and through a NAT64 only the IPv4 hosts that it may reach.
+    pub fn has(self, asked: &str, to: Destination, port: u16) -> bool
+        ensures reached { IsTrue result → Reaches self.entry asked.now to port }
+        ensures all { Reaches self.entry asked.now to port → IsTrue result }
     {
         let is_wide = self.is_wide();
         let Destination { way, host } = to;
         if way.from.is_none() && !is_wide {
             return false;
         }
-        may_reach(is_wide, self.own, Place { ip: way.to, port }, way.from)
+        let place = Place { ip: way.to, port };
+        may_reach(is_wide, self.own, place, way.from)
             && self.has_host(host, port)
+            && may_go(self.rules, asked, place, host)
     }
 
     // Whether the client's races may connect to the IPv4 host behind a prefix, if there is one.
     fn has_host(self, host: Option<u32>, port: u16) -> bool
-        ensures { IsTrue result → IfSome host (ReachesHost self.entry port) }
+        ensures reached { IsTrue result → IfSome host (ReachesHost self.entry port) }
+        ensures all { IfSome host (ReachesHost self.entry port) → IsTrue result }
     {
         let Some(host) = host else {
             return true;

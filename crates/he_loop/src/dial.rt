@@ -1,5 +1,5 @@
 //! Connections made in an event loop that stay in it.
-ghost use Rattle.std.specs.Prelude.{◌≡◌, IfOk};
+ghost use Rattle.std.specs.Prelude.{◌≡◌, IfOk, string_bytes};
 ghost use Rattle.futures.specs.Poll.{IfReady, OnPending};
 ghost use Rattle.futures.specs.Task.{Covers, Keeps};
 ghost use Rattle.tokio.specs.Net.{stream_writable};
@@ -40,10 +40,19 @@ impl Joined {
     }
 }
 
-/// Connects to each reachable address at one endpoint, and notes the steps of each attempt.
+/// The target of a race's connections.
+#[derive(Drop)]
+pub struct Target {
+    /// The host that the client asks for, an address or a name in text.
+    pub asked: String,
+    pub to: Endpoint,
+}
+
+/// Connects to each reachable address of one target, and notes the steps of each attempt.
 #[derive(Drop)]
 pub struct LoopConnector<'h, N: Net> {
     shared: SharedLoop<'h, N>,
+    host: String,
     to: Endpoint,
     reach: Reach<'h>,
     steps: Steps,
@@ -54,16 +63,19 @@ impl<'h, N: Net> LoopConnector<'h, N> {
     /// A connector for one race, whose attempts are noted in `steps`.
     pub fn new(
         shared: SharedLoop<'h, N>,
-        to: Endpoint,
+        target: Target,
         reach: Reach<'h>,
         steps: Steps,
         asked: AskedWays,
     ) -> LoopConnector<'h, N>
-        ensures to { result.to ≡ to }
+        ensures host { string_bytes result.host ≡ string_bytes target.asked }
+        ensures to { result.to ≡ target.to }
         ensures reach { result.reach ≡ reach.entry }
     {
+        let Target { asked: host, to } = target;
         LoopConnector {
             shared,
+            host,
             to,
             reach,
             steps,
@@ -89,18 +101,19 @@ impl<'h, N: Net> Connector for LoopConnector<'h, N> {
 
     type Run = LoopTrial;
 
-    ghost use Rattle.std.specs.Prelude.{⊤};
+    ghost use Rattle.std.specs.Prelude.{⊤, string_bytes};
     ghost use Rattle.he_loop.specs.Dials.{GoesTo};
 
     ghost begins = { λ _ _ _ _ _ _. ⊤ };
 
-    ghost reaches = { λ connector ip joined. GoesTo connector.reach connector.to ip joined };
+    ghost reaches = { λ connector ip joined. GoesTo connector.reach (string_bytes connector.host) connector.to ip
+        joined };
 
     // An attempt at an address out of reach can't begin.
     fn begin(&mut self, place: usize, ip: Ip, now: u64) -> Result<LoopTrial, AttemptFault> {
         let way = self.asked.way(self.shared.rt, ip, self.to.scope);
         let known = self.reach.known_of(way);
-        if !self.reach.has(known, self.to.port) {
+        if !self.reach.has(self.host.as_str(), known, self.to.port) {
             self.note_forbidden(place, ip, now);
             return Err(AttemptFault::Begin);
         }

@@ -5,9 +5,10 @@
 //!
 //! Proved: an address is tried only if `he_access` allows it to the client, by the kernel's answer for it in this
 //! race ([`Reach::has`]); for a client of another machine only if the kernel has a way to it. If the address embeds an
-//! IPv4 host by a discovered prefix of a NAT64, `he_access` allows the client that host too. A connection goes to the
-//! attempt's address at the race's endpoint, and comes with that answer and that host (`GoesTo` in `specs/Dials`). A
-//! pending attempt has registered for its socket. Tested: that the kernel was asked, and which host an address embeds.
+//! IPv4 host by a discovered prefix of a NAT64, `he_access` allows the client that host too. The proxy's rules allow
+//! both, for the host that the client asked for. A connection goes to the attempt's address at the race's endpoint,
+//! and comes with that answer and that host (`GoesTo` in `specs/Dials`). A pending attempt has registered for its
+//! socket. Tested: that the kernel was asked, and which host an address embeds.
 #![tactic(auto)]
 
 pub mod access;
@@ -17,7 +18,7 @@ pub mod shared;
 pub mod ticks;
 
 pub use access::{Client, Destination, Reach, ip_of, place_of};
-pub use dial::{Joined, LoopConnector, LoopTrial};
+pub use dial::{Joined, LoopConnector, LoopTrial, Target};
 pub use prefixes::Prefixes;
 pub use shared::SharedLoop;
 pub use ticks::{Progress, RaceTicker};
