@@ -75,6 +75,14 @@ impl Beginning {
         is_full
     }
 
+    /// The number of clients that have sent nothing yet.
+    pub fn count(&self) -> usize {
+        let waiting = self.waiting.replace(Vec::new(self.alloc));
+        let count = waiting.len();
+        self.waiting.set(waiting);
+        count.saturating_add(self.going.get() as usize)
+    }
+
     // Whether the client's time was up at the last check. If it is up only now, the client may be removed at the next
     // check.
     fn may_go(&self, waiting: &[Waiting], first: &Waiting, now: Instant) -> bool {

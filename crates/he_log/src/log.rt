@@ -4,6 +4,7 @@ ghost use Rattle.std.specs.List.{list_all};
 ghost use Rattle.he_log.specs.Log.{is_bare_byte, value_text};
 
 use crate::facts::Facts;
+use crate::level::Level;
 use crate::output::Output;
 use he_access::reach::Place;
 use he_addr::{Ip, Memory, write_ip, write_number};
@@ -27,21 +28,51 @@ pub enum LogForm {
     Json,
 }
 
+/// Which lines a log has, and their form.
+#[derive(Clone, Copy, Debug, PartialEq, Eq)]
+pub struct LogOptions {
+    pub form: LogForm,
+    /// Whether a race that begins has a line too.
+    pub has_begins: bool,
+    /// Whether each line begins with its priority, as `<6>` (sd-daemon(3)).
+    pub has_priorities: bool,
+}
+
+/// A race that begins, for a log.
+#[derive(Clone, Copy)]
+pub struct Begun<'a> {
+    /// The client's address and port.
+    pub client: SocketAddr,
+    /// The host of its request.
+    pub host: &'a str,
+    /// The port of its request.
+    pub port: u16,
+    /// When the race began, as from `stamp_now`.
+    pub began: &'a str,
+}
+
 /// The log and its output.
 #[derive(Drop)]
 pub struct Log<F: Drop> {
     alloc: Global,
     form: LogForm,
+    has_begins: bool,
     out: Output<F>,
 }
 
 impl<F: Write + Drop> Log<F> {
-    pub fn new(alloc: Global, form: LogForm, out: F) -> Log<F> {
+    pub fn new(alloc: Global, options: LogOptions, out: F) -> Log<F> {
         Log {
             alloc,
-            form,
-            out: Output::new(alloc, out),
+            form: options.form,
+            has_begins: options.has_begins,
+            out: Output::new(alloc, options.has_priorities, out),
         }
+    }
+
+    /// The number of lines that standard error did not take.
+    pub fn lines_lost(&self) -> u64 {
+        self.out.lost()
     }
 
     /// Writes the line of an ended session: `time=2026-11-26T16:34:40.123Z client=127.0.0.1:53422 host=example.org
@@ -51,7 +82,20 @@ impl<F: Write + Drop> Log<F> {
         if let Some(line) = self.begin_line(rt)
             && let Ok(line) = line_of(self.alloc, end, facts, line)
         {
-            self.out.write(line.as_slice());
+            self.out
+                .write(Level::of_session(end.result), line.as_slice());
+        }
+    }
+
+    /// Writes the line of a race that begins, if the log has such lines: `time=2026-11-26T16:34:39.872Z
+    /// client=127.0.0.1:53422 host=example.org port=443 begin=2026-11-26T16:34:39.871Z`, or an object with these
+    /// members. It has no `end`, and its `begin` is the `start` of the session's line.
+    pub fn tell_begun<R: Clock>(&self, rt: &R, begun: Begun<'_>) {
+        if self.has_begins
+            && let Some(line) = self.begin_line(rt)
+            && let Ok(line) = line_of_begun(self.alloc, begun, line)
+        {
+            self.out.write(Level::Info, line.as_slice());
         }
     }
 
@@ -69,7 +113,7 @@ impl<F: Write + Drop> Log<F> {
         if let Some(line) = self.begin_line(rt)
             && let Ok(line) = line_of_refused(self.alloc, client, end, line)
         {
-            self.out.write(line.as_slice());
+            self.out.write(Level::Warning, line.as_slice());
         }
     }
 
@@ -90,17 +134,21 @@ impl<F: Write + Drop> Log<F> {
         Some(line)
     }
 
-    /// Writes a message of the proxy: `he: no descriptor is left`.
+    /// Writes a warning of the proxy: `he: no descriptor is left`.
     pub fn say(&self, what: &str) {
+        self.say_at(Level::Warning, what);
+    }
+
+    fn say_at(&self, level: Level, what: &str) {
         if let Ok(line) = format!(in self.alloc; "he: {what}\n") {
-            self.out.write(line.as_bytes());
+            self.out.write(level, line.as_bytes());
         }
     }
 
     /// Reports that something can't be kept, and why.
     pub fn tell_unkept(&self, what: &str, why: Cause) {
         if let Ok(what) = format!(in self.alloc; "cannot keep {what}: {why}") {
-            self.say(&what);
+            self.say_at(Level::Error, &what);
         }
     }
 
@@ -124,6 +172,15 @@ impl<F: Write + Drop> Log<F> {
         }
     }
 
+    /// Reports that others than its owner can read the file of users.
+    pub fn tell_readable(&self, path: &str) {
+        if let Ok(what) = format!(in self.alloc;
+            "other users of this machine can read the passwords in {path}: chmod 600 {path}"
+        ) {
+            self.say(&what);
+        }
+    }
+
     /// Reports that the limit of sessions is reached.
     pub fn tell_most(&self, most: u32) {
         if let Ok(what) = format!(in self.alloc;
@@ -136,7 +193,7 @@ impl<F: Write + Drop> Log<F> {
     /// Reports that there is room for sessions again.
     pub fn tell_room(&self, most: u32) {
         if let Ok(what) = format!(in self.alloc; "fewer than {most} sessions run again") {
-            self.say(&what);
+            self.say_at(Level::Info, &what);
         }
     }
 
@@ -154,7 +211,7 @@ impl<F: Write + Drop> Log<F> {
         let Place { ip, port } = place;
         let address = socket_of(ip, Endpoint { port, scope: 0 });
         if let Ok(what) = format!(in self.alloc; "listening at {address}") {
-            self.say(&what);
+            self.say_at(Level::Info, &what);
         }
     }
 }
@@ -167,6 +224,9 @@ fn line_of(
     mut line: Line,
 ) -> Result<Vec<u8>, Memory> {
     line.put_client(alloc, end.client)?;
+    if let Some(user) = end.user {
+        line.put_octets(alloc, "user", user)?;
+    }
     line.put_text("host", end.host.as_bytes())?;
     line.put_number("port", u64::from(end.port))?;
     if let Some(request) = end.request {
@@ -187,6 +247,14 @@ fn line_of(
     line.put_number("sent", end.sent)?;
     line.put_number("received", end.received)?;
     line.put_end(alloc, end.how)?;
+    line.finish()
+}
+
+fn line_of_begun(alloc: Global, begun: Begun<'_>, mut line: Line) -> Result<Vec<u8>, Memory> {
+    line.put_client(alloc, begun.client)?;
+    line.put_text("host", begun.host.as_bytes())?;
+    line.put_number("port", u64::from(begun.port))?;
+    line.put_text("begin", begun.began.as_bytes())?;
     line.finish()
 }
 
@@ -337,12 +405,14 @@ fn fault_of(ended: Ended, facts: &Facts) -> &'static str {
     }
     match ended {
         Ended::Forbidden => "forbidden",
+        Ended::NoUser => "no-user",
         Ended::NoNetwork => "no-network",
         Ended::NoHost => "no-address",
         Ended::Refused => "all-failed",
         Ended::TimedOut => "timed-out",
         Ended::Command => "command",
         Ended::Kind => "address-kind",
+        Ended::Coding => "coding",
         Ended::Connected | Ended::Failed => "proxy-failed",
     }
 }

@@ -22,19 +22,21 @@ use Rattle.he_loop.specs.declared.dial.Joined.{Joined}
 use Rattle.he_proxy.specs.declared.request.ProxyRequest.{ProxyRequest}
 
 -- a connection that goes to the endpoint that is asked for, where it is reached
-pub runs_so : {R : Type 0} (setup : Setup) (own : Endpoint) (its reach : Reach) (source : SessionAnswers R)
-    (raced : Raced Joined) → own ≡ setup.to → its ≡ reach → IsSourceFor setup source
-    → EndsHeard hears_session source (GoesTo its own) setup.start raced → RunsFrom R setup reach raced
-runs_so setup own its reach source raced same alike begins ends = record {
+pub runs_so : {R : Type 0} (setup : Setup) (own : Endpoint) (its reach : Reach) (asked : List ℕ)
+    (source : SessionAnswers R) (raced : Raced Joined) → own ≡ setup.to → its ≡ reach → asked ≡ setup.request.host.now
+    → IsSourceFor setup source → EndsHeard hears_session source (GoesTo its asked own) setup.start raced
+    → RunsFrom R setup reach raced
+runs_so setup own its reach asked source raced same alike named begins ends = record {
   replays = ends.end;
   answers = record { source = source; begins = begins; answers = ends.source };
-  goes = subst (λ (r : Reach). WinnerGoes (GoesTo r setup.to) raced) alike
-      (subst (λ (e : Endpoint). WinnerGoes (GoesTo its e) raced) same ends.winner);
+  goes = subst (λ (r : Reach). WinnerGoes (GoesTo r setup.request.host.now setup.to) raced) alike
+      (subst (λ (e : Endpoint). WinnerGoes (GoesTo its setup.request.host.now e) raced) same
+      (subst (λ (host : List ℕ). WinnerGoes (GoesTo its host own) raced) named ends.winner));
 }
 
 pub wins_so : {R : Type 0} (proxy : ProxyRequest) (places : List Place) (client : SocketAddr) (host : List ℕ) (port : ℕ)
     (request : ConnectRequest) (setup : Setup) (reach : Reach) (gives : Raced Joined → Type 0)
-    → AsksFor proxy host port request → IsReachOf places proxy.allows_private client reach → IsSetUp request setup
+    → AsksFor proxy host port request → IsReachOf proxy places client reach → IsSetUp request setup
     → MayEmbed setup.embeds request
     → ((raced : Raced Joined) → gives raced → RunsFrom R setup reach raced)
     → Wins (IsWonBy R proxy places client host port) (λ end. HandsOut gives end)

@@ -1,5 +1,5 @@
 -- The result of a race for its session.
-use Rattle.std.specs.Prelude.{ℕ, ◌≡◌, ⊤, Bool, List, Some, Result, Ok, Err, IfOk, slice_get}
+use Rattle.std.specs.Prelude.{ℕ, ◌≡◌, ⊤, List, Some, Result, Ok, Err, IfOk, slice_get}
 use Rattle.std.specs.Net.Socket.{socket_ip}
 use Rattle.std.specs.declared.net.socket_addr.SocketAddr.{SocketAddr}
 use Rattle.std.specs.Global.{Global}
@@ -61,20 +61,21 @@ pub record AsksFor (proxy : ProxyRequest) (host : List ℕ) (port : ℕ) (reques
   pub resolver : request.resolver ≡ proxy.resolver
   pub environment : request.environment ≡ proxy.environment
 
--- the reach of a client's races: these places of the proxy, this client, and private addresses for clients of other
--- machines if the proxy allows them
-pub record IsReachOf (places : List Place) (allows : Bool) (client : SocketAddr) (reach : Reach) : Type 0 where
+-- the reach of a client's races: these places of the proxy, this client, private addresses for clients of other
+-- machines if the proxy allows them, and the proxy's rules
+pub record IsReachOf (proxy : ProxyRequest) (places : List Place) (client : SocketAddr) (reach : Reach) : Type 0 where
   pub own : reach.own.now ≡ places
   pub of_client : reach.client.ip ≡ ip_of (socket_ip client)
-  pub allowed : reach.allows_private ≡ allows
+  pub allowed : reach.allows_private ≡ proxy.allows_private
+  pub ruled : reach.rules.now ≡ proxy.rules.now
 
 -- the race of the set-up was run: its record keeps the start, has the answers of a source for the set-up, and replays
 -- to its transcript; and its connection goes to the address of the winning line, at the endpoint, which the client's
--- races may reach
+-- races for the requested host may reach
 pub record RunsFrom (R : Type 0) (setup : Setup) (reach : Reach) (raced : Raced Joined) : Type 0 where
   pub replays : ReplaysGiven setup.start raced
   pub answers : AnswersFor R setup raced.recorded
-  pub goes : WinnerGoes (GoesTo reach setup.to) raced
+  pub goes : WinnerGoes (GoesTo reach setup.request.host.now setup.to) raced
 
 -- the result is the winner of the requested race: it started as in he_setup, and was run like this. IPv4 hosts are
 -- embedded only if this machine's lines and IPv6 are requested
@@ -92,7 +93,7 @@ pub record IsWonBy (R : Type 0) (proxy : ProxyRequest) (places : List Place) (cl
   pub request : ConnectRequest
   pub asks : AsksFor proxy host port request
   pub reach : Reach
-  pub reaches : IsReachOf places proxy.allows_private client reach
+  pub reaches : IsReachOf proxy places client reach
   pub winner : IsWonFor R request reach won
 
 -- whatever it ends with, a winner that it gives satisfies this

@@ -14,6 +14,7 @@ use crate::source::{Earlier, RaceSource, ips_of};
 use futures::task::{Context, Poll};
 use he_addr::{Family, Ip};
 use he_loop::{Prefixes, SharedLoop};
+use he_metrics::Lookup;
 use he_settings::NamesFault;
 use he_setup::synthesis::{KNOWN_HOST, embed_by, prefixes_of, v4_numbers};
 use he_setup::{ConnectFault, Nat64, Setup};
@@ -97,6 +98,7 @@ where
 {
     let request = &setup.request;
     let kept = kept_ips(shared, request, earlier.kept)?;
+    earlier.count(kept.is_some(), Lookup::Kept);
     let shown = kept.as_deref();
     let own = setup.known.as_deref();
     let known = shown.or(own);

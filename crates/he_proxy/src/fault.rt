@@ -4,6 +4,7 @@ use he_addr::Memory;
 use he_history::Cause;
 use he_live::Reason;
 use he_setup::ConnectFault;
+use he_users::UsersFault;
 use std::alloc::AllocFailed;
 use std::io;
 use std::net::SocketAddr;
@@ -24,6 +25,12 @@ pub enum ProxyFault {
     /// The history file can't be read or written.
     #[error("cannot read or write the file of --history: {0}")]
     History(Cause),
+    /// The file of users can't be read.
+    #[error("cannot read the file of --users: {0}")]
+    UsersFile(Cause),
+    /// The file of users is wrong.
+    #[error("{0}")]
+    Users(UsersFault),
     /// The lines of the races can't be read.
     #[error("{0}")]
     Lines(ConnectFault),

@@ -3,6 +3,7 @@ ghost use Rattle.std.specs.Prelude.{◌≡◌, IfOk, IfSome, true};
 ghost use Rattle.he_proxy.specs.Races.{IsWinner, IsWonOf};
 ghost use Rattle.he_proxy.specs.Recorded.{IsRecordOf, IsSessionFacts, client_ip, end_of};
 
+use crate::counting::counted_loss;
 use crate::sockets::Noted;
 use he_addr::{Ip, Memory};
 use he_course::Course;
@@ -12,8 +13,9 @@ use he_history::{
 };
 use he_kernel::sockets::NO_SCOPE;
 use he_live::attempt_failures;
-use he_log::{Facts, Lost, SessionFacts};
+use he_log::{Begun, Facts, Lost, SessionFacts};
 use he_loop::{Joined, Reach, SharedLoop, ip_of};
+use he_metrics::{Event, Loss, Metrics, Win};
 use he_plan::{Line, Mark, Outcome3, Transcript};
 use he_record::{ClientEnd, Moment};
 use he_recording::{Facts as RecordFacts, Target, text_of};
@@ -42,6 +44,8 @@ pub struct Keeping<'h, R> {
     pub known: &'h KnownAddresses,
     /// The log's facts of it.
     pub facts: &'h SessionFacts,
+    /// The counts of all races.
+    pub metrics: &'h Metrics,
     /// The client of its session.
     pub client: SocketAddr,
     /// The last client that left during its race.
@@ -68,6 +72,26 @@ impl<'h, R: Clock + Files + RandomSource + AllocGlobal + Net + Copy> Keeping<'h,
         }
     }
 
+    /// The race, for the log.
+    pub fn begun(&self) -> Begun<'_> {
+        Begun {
+            client: self.client,
+            host: self.host.as_str(),
+            port: self.port,
+            began: self.began.as_str(),
+        }
+    }
+
+    /// Counts a race that could not go on, and returns the reply to its client.
+    pub fn fail(&self) -> Ended {
+        self.count(Event::Lost(Loss::ProxyFailed));
+        Ended::Failed
+    }
+
+    fn count(&self, event: Event) {
+        self.metrics.count(event);
+    }
+
     /// Keeps the record of the race and its results for addresses, and returns its winner, or why there is none. Of a
     /// race that was given up it keeps the record up to then, and returns no winner.
     pub fn end(&self, raced: Raced<Joined>) -> Result<Won<TcpStream>, Ended>
@@ -75,6 +99,7 @@ impl<'h, R: Clock + Files + RandomSource + AllocGlobal + Net + Copy> Keeping<'h,
     {
         match self.noted.progress.given_up() {
             Some(tick) => {
+                self.count(Event::Lost(Loss::ClientLeft));
                 let _ = self.give_up(&raced, tick);
                 drop(raced);
                 Err(Ended::TimedOut)
@@ -91,6 +116,7 @@ impl<'h, R: Clock + Files + RandomSource + AllocGlobal + Net + Copy> Keeping<'h,
         let nat64 = self.noted.why.take_nat64();
         let lost = self.lost(&winner, &raced.transcript, nat64.as_ref());
         let source = raced.winner.as_ref().and_then(Joined::source);
+        self.count(counted_result(&winner, &raced.transcript, lost));
         self.learn(&raced.recorded, &raced.transcript, source);
         let text = self.text_of(&raced.recorded, &raced.transcript, nat64.as_ref(), None);
         let text = self.keep(text, &raced.transcript, lost, None);
@@ -174,7 +200,12 @@ impl<'h, R: Clock + Files + RandomSource + AllocGlobal + Net + Copy> Keeping<'h,
             host: self.host.as_str(),
             port: self.port,
         };
-        records.keep(self.shared.rt, name, text)
+        let kept = records.keep(self.shared.rt, name, text);
+        self.count(match kept {
+            Some(_) => Event::Recorded,
+            None => Event::NotRecorded,
+        });
+        kept
     }
 
     // The IPv4 hosts that the winner's address embeds or, without a winner, those that were tried, each once; none if
@@ -297,13 +328,31 @@ impl<'h, R: Clock + Files + RandomSource + AllocGlobal + Net + Copy> Keeping<'h,
 
     fn lost_by(&self, line: Line) -> Lost {
         let way = self.noted.asked.way(self.shared.rt, line.ip, NO_SCOPE);
-        if !self.reach.has(self.reach.known_of(way), self.port) {
+        let known = self.reach.known_of(way);
+        if !self.reach.has(self.host.as_str(), known, self.port) {
             return Lost::Forbidden;
         }
         match line.mark {
             Mark::Failed(_) => Lost::of_attempt(self.noted.steps.reason_of(line.place)),
             _ => Lost::TimedOut,
         }
+    }
+}
+
+// The result of the race, as it is counted.
+fn counted_result(
+    winner: &Result<Option<Winner>, Memory>,
+    transcript: &Transcript,
+    lost: Option<Lost>,
+) -> Event {
+    match (winner, transcript.attempts().first()) {
+        (Ok(Some(winner)), Some(first)) => Event::Won(Win {
+            family: winner.ip.family(),
+            connect: winner.ticks,
+            names: first.tick,
+            lost: winner.lost,
+        }),
+        _ => Event::Lost(counted_loss(lost.unwrap_or(Lost::ProxyFailed))),
     }
 }
 

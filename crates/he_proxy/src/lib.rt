@@ -7,15 +7,18 @@
 //! answers are shared with other races to the host: those that begin while the name servers are asked, and those
 //! within the TTL (`he_kept`). The history of an address counts in later races for a day (`he_history`). A race whose
 //! client leaves ends at its next poll, and is recorded up to then. Each session is a line on standard error
-//! (`he_log`); `GET /` is a page of the last hundred races, and `GET /proxy.pac` the proxy's auto-config file.
+//! (`he_log`); `GET /` is a page of the last hundred races, and `GET /proxy.pac` the proxy's auto-config file. Its
+//! counts are `GET /metrics` (`he_metrics`), and `GET /healthz` says that it serves.
 //!
 //! # Its clients, and their reach
 //!
 //! The proxy serves clients of this machine, and those of the allowed networks; others are closed at once. It listens
-//! at an address that is open to other machines only if a network is allowed. No race connects to the proxy itself. A
-//! client of another machine reaches no address of this machine, and only globally reachable addresses, unless
-//! private ones are allowed; this holds for the addresses of names too, and for IPv4 hosts that are reached through a
-//! NAT64. The kernel determines which addresses are this machine's.
+//! at an address that is open to other machines only if a network is allowed. With a file of users, a client is served
+//! only with the name and the password of one of them, also a client of this machine. No race connects to the proxy
+//! itself. A client of another machine reaches no address of this machine, and only globally reachable addresses,
+//! unless private ones are allowed; this holds for the addresses of names too, and for IPv4 hosts that are reached
+//! through a NAT64. The kernel determines which addresses are this machine's. The rules of the request narrow what any
+//! client reaches, by network, name and port.
 //!
 //! # What is proved
 //!
@@ -26,6 +29,8 @@
 //!   embeds an IPv4 host by a prefix that the proxy discovered last, `he_access` allows that host too. The connection
 //!   comes with that answer and that host (`GoesTo` of he_loop). Tested: that the kernel was asked, and which host it
 //!   is.
+//! - The request's rules allow the address and that host, for the session's host (`Reaches` of he_loop). A race begins
+//!   only if the rules could allow an address of the session's host at its port (`MayFit` of `he_access`).
 //! - A race is requested with the session's host and port, and with the proxy's settings, families, lines and
 //!   resolver (`AsksFor` in `specs/Races`).
 //! - A session gets the connection that its race gave: the winner's address and time are those of the race's
@@ -53,10 +58,11 @@
 //! All this holds if the calls return: they wait for the system.
 //!
 //! Tested only: that it connects, and when; that the prefixes are cached; the time, the reasons and the name servers
-//! in record lines; the facts in the log's lines; the page.
+//! in record lines; the facts in the log's lines; the page; when an event is counted.
 #![tactic(auto)]
 
 pub mod answering;
+pub mod counting;
 pub mod fault;
 pub mod keeping;
 pub mod limits;
@@ -71,6 +77,7 @@ pub mod server;
 pub mod sockets;
 pub mod source;
 pub mod state;
+mod users;
 
 pub use fault::ProxyFault;
 pub use limits::{DEFAULT_PORT, DEFAULT_RECORDS, DEFAULT_SESSIONS};

@@ -31,6 +31,8 @@ pub struct Sought<'a> {
 pub struct HostLookup<'h, R> {
     pub host: String,
     pub only: Option<Family>,
+    /// Whether its addresses are asked for: they are not known.
+    pub asks: bool,
     pub answers: HostAnswers<'h, R, Quiet>,
 }
 
@@ -52,6 +54,7 @@ where
     Ok(HostLookup {
         host: String::from_str(alloc, sought.host)?,
         only: sought.only,
+        asks: sought.known.is_none(),
         answers: HostAnswers::new(alloc, lookup, machine, noted.why.share()?, Quiet)?,
     })
 }

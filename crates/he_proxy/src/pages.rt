@@ -4,6 +4,7 @@ use he_access::reach::Place;
 use he_addr::Memory;
 use he_front::{Ended, Page, page_asked, write_advice, write_config, write_page};
 use he_history::Recent;
+use he_metrics::{Metrics, Now};
 use std::alloc::Global;
 
 /// A GET to answer: its target, and the value of its field Host.
@@ -17,27 +18,43 @@ pub struct Asked<'a> {
     pub is_near: bool,
 }
 
-/// Appends the response: the requested page, for a client that names the proxy itself, the races only for one on this
-/// machine; otherwise a 501 response with a line on how to use the proxy.
+/// The state that the pages show.
+#[derive(Clone, Copy)]
+pub struct Shown<'a> {
+    pub recent: &'a Recent,
+    pub metrics: &'a Metrics,
+    pub now: Now,
+}
+
+/// Appends the response: the requested page, for a client that names the proxy itself, the races and the metrics only
+/// for one on this machine; otherwise a 501 response with a line on how to use the proxy.
 ///
 /// # Errors
 ///
 /// `Memory` if an allocation fails; part of it may have been appended.
 pub fn write_answer(
     alloc: Global,
-    recent: &Recent,
+    shown: Shown<'_>,
     asked: Asked<'_>,
     out: &mut Vec<u8>,
 ) -> Result<(), Memory> {
     let (path, at) = (without_query(asked.path), asked.at);
     if let Some(page) = page_asked(path, asked.host, at.ip, at.port)
-        && (asked.is_near || page == Page::Config)
+        && (asked.is_near || is_for_all(page))
     {
-        return write_own(alloc, at, recent, page, out);
+        return write_own(alloc, at, shown, page, out);
     }
     let mut advice = Vec::new(alloc);
     write_advice(at.ip, at.port, &mut advice)?;
     Ended::Command.write_response(&advice, out)
+}
+
+// Whether the page is for all clients: it says nothing of others' sessions.
+fn is_for_all(page: Page) -> bool {
+    match page {
+        Page::Config | Page::Health => true,
+        Page::Races | Page::Metrics => false,
+    }
 }
 
 // A target in origin form without its query (RFC 9112 section 3.2.1).
@@ -51,14 +68,16 @@ fn without_query(target: &[u8]) -> &[u8] {
 fn write_own(
     alloc: Global,
     place: Place,
-    recent: &Recent,
+    shown: Shown<'_>,
     page: Page,
     out: &mut Vec<u8>,
 ) -> Result<(), Memory> {
     let mut body = Vec::new(alloc);
     match page {
         Page::Config => write_config(place.ip, place.port, &mut body)?,
-        Page::Races => recent.write_page(&mut body)?,
+        Page::Races => shown.recent.write_page(&mut body)?,
+        Page::Metrics => shown.metrics.write(shown.now, &mut body)?,
+        Page::Health => body.extend_from_slice(b"ok\n")?,
     }
     write_page(page, &body, out)
 }

@@ -10,6 +10,7 @@ use crate::racer::LoopRacer;
 use crate::request::ProxyRequest;
 use crate::server::Server;
 use crate::state::ProxyState;
+use crate::users::{read_users_of, tell_readable};
 use futures::stream::SelectAll;
 use futures::{Future, Stream, StreamExt};
 use he_clients::{Beginning, Clients, PerAddress, Running, Service};
@@ -17,6 +18,7 @@ use he_history::{Cause, KnownAddresses, KnownAtStart, Recent, Records};
 use he_kept::KeptAnswers;
 use he_log::{Log, SessionFacts, TurnedAway};
 use he_loop::{Prefixes, SharedLoop};
+use he_metrics::Metrics;
 use he_sessions::{Limits, Racer};
 use he_setup::{ConnectFault, Lines, read_lines, start_race};
 use std::alloc::{AllocGlobal, Global};
@@ -64,6 +66,7 @@ where
     F: Write + Drop,
     R: Wait + Clock + RandomSource + AllocGlobal + Net + Files + Copy,
 {
+    let users = read_users_of(rt, alloc, request.users)?;
     let mut runtime = LocalRuntime::new(rt)?;
     let handle = runtime.handle().clone()?;
     let Listening { sockets, own } = Listening::begin(rt, alloc, &handle, request)?;
@@ -74,6 +77,7 @@ where
     } = open_known(rt, alloc, request)?;
     let state = ProxyState {
         own,
+        users,
         answers: KeptAnswers::new(rt, alloc)?,
         known,
         prefixes: Prefixes::new(alloc),
@@ -84,6 +88,7 @@ where
         per_address: PerAddress::new(alloc, request.most_per_client),
         log: Log::new(alloc, request.log, faults),
         facts: SessionFacts::new(alloc),
+        metrics: Metrics::new(),
         turned_away: TurnedAway::new(alloc),
         too_many: TurnedAway::new(alloc),
         left: Cell::new(None),
@@ -92,6 +97,7 @@ where
     if let Some(to) = &moved {
         state.log.tell_moved(to);
     }
+    tell_readable(rt, &state.log, request.users);
     state.log.tell_places(&state.own);
     let shared = SharedLoop {
         rt: &*rt,

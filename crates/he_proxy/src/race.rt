@@ -5,6 +5,7 @@ use crate::keeping::Keeping;
 use futures::Future;
 use futures::task::{Context, Poll};
 use he_front::Ended;
+use he_log::Begun;
 use he_loop::Joined;
 use he_sessions::Won;
 use he_turns::{RaceFault, Raced};
@@ -39,6 +40,13 @@ impl<'h, R, F: Drop> LoopRace<'h, R, F> {
     }
 }
 
+impl<'h, R: Clock + Files + RandomSource + AllocGlobal + Net + Copy, F: Drop> LoopRace<'h, R, F> {
+    /// The race, for the log.
+    pub fn begun(&self) -> Begun<'_> {
+        self.keeping.begun()
+    }
+}
+
 impl<'h, R, F> Future for LoopRace<'h, R, F>
 where
     R: Clock + Files + RandomSource + AllocGlobal + Net + Copy,
@@ -67,7 +75,7 @@ where
                 Poll::Pending
             }
             Poll::Ready(Ok(raced)) => Poll::Ready(self.keeping.end(raced)),
-            Poll::Ready(Err(_)) => Poll::Ready(Err(Ended::Failed)),
+            Poll::Ready(Err(_)) => Poll::Ready(Err(self.keeping.fail())),
         }
     }
 }

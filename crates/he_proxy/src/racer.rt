@@ -1,10 +1,12 @@
 //! Races for the sessions, on the sockets of the event loop.
-ghost use Rattle.std.specs.Prelude.{◌≡◌, IfOk, Ok};
+ghost use Rattle.std.specs.Prelude.{◌≡◌, IfOk, Ok, OnOk, true};
+ghost use Rattle.he_access.specs.Rules.{MayFit, Settles};
 ghost use Rattle.he_setup.specs.Races.{KnowsHost};
 ghost use Rattle.he_proxy.specs.Races.{AsksFor, IsReachOf, IsWonBy, RunsFrom, Wins};
 
+use crate::counting::{counted_end, counted_loss};
 use crate::keeping::Keeping;
-use crate::pages::{Asked, write_answer};
+use crate::pages::{Asked, Shown, write_answer};
 use crate::race::LoopRace;
 use crate::request::ProxyRequest;
 use crate::sockets::{Noted, SocketRace, socket_race};
@@ -12,6 +14,7 @@ use crate::source::Earlier;
 use crate::state::ProxyState;
 use futures::Future;
 use he_access::reach::is_served;
+use he_access::rules::may_begin;
 use he_addr::{Ip, Memory};
 use he_clients::ClientPlace;
 use he_front::Ended;
@@ -19,9 +22,11 @@ use he_history::{Records, second_now, stamp_of};
 use he_kernel::asked::AskedWays;
 use he_log::{Facts, Lost};
 use he_loop::{Client, Reach, SharedLoop, ip_of, place_of};
+use he_metrics::{Event, Now};
 use he_recording::moment_now;
 use he_sessions::{PageAsked, Racer, SessionEnd};
 use he_setup::{ConnectFault, ConnectRequest, Setup, set_up_any};
+use he_users::Users;
 use std::alloc::AllocGlobal;
 use std::io;
 use std::io::Write;
@@ -47,12 +52,13 @@ where
 {
     // The reach of the client's races.
     fn reach_of(&self, client: SocketAddr, asked: &AskedWays) -> Reach<'h>
-        ensures { IsReachOf self.now.state.now.own.items self.now.request.now.allows_private client result }
+        ensures { IsReachOf self.now.request.now self.now.state.now.own.items client result }
     {
         Reach {
             own: self.state.own.as_slice(),
             client: Client::of(self.shared.rt, asked, client),
             allows_private: self.request.allows_private,
+            rules: self.request.rules,
             prefixes: &self.state.prefixes,
         }
     }
@@ -73,6 +79,29 @@ where
             environment: self.request.environment,
             explains: false,
             tells_steps: false,
+        }
+    }
+
+    // Begins a race for a client's session, unless the rules refuse each address of the host at the port: then
+    // nothing is looked up.
+    fn begin_allowed(
+        &self,
+        client: SocketAddr,
+        host: &str,
+        port: u16,
+    ) -> Result<LoopRace<'h, R, SocketRace<'h, R>>, Lost>
+        ensures can { IfOk result (λ race. ⟦<SocketRace<'h, R> as Future>⟧.can_poll race.race) }
+        ensures wins { IfOk result (λ race. Wins (IsWonBy R self.now.request.now self.now.state.now.own.items
+            client host.now port) (⟦<LoopRace<'h, R, SocketRace<'h, R>> as Future>⟧.gives race)) }
+        ensures ruled { OnOk result (Settles (λ rule. MayFit rule host.now port) self.now.request.now.rules.now true) }
+    {
+        if !may_begin(self.request.rules, host, port) {
+            return Err(Lost::Forbidden);
+        }
+        match self.begin(client, host, port) {
+            Ok(race) => Ok(race),
+            Err(ConnectFault::Name(fault)) => Err(Lost::of_names(fault)),
+            Err(_) => Err(Lost::ProxyFailed),
         }
     }
 
@@ -111,6 +140,7 @@ where
             kept: &self.state.answers,
             known: &self.state.known,
             prefixes: &self.state.prefixes,
+            metrics: &self.state.metrics,
         };
         let race = socket_race(self.shared, setup, reach, earlier, &keeping.noted)?;
         Ok(LoopRace::new(race, keeping))
@@ -133,6 +163,7 @@ where
             recent: &self.state.recent,
             known: &self.state.known,
             facts: &self.state.facts,
+            metrics: &self.state.metrics,
             client,
             left: &self.state.left,
             began: stamp_of(alloc, at)?,
@@ -153,15 +184,24 @@ where
     F: Write + Drop,
 {
     // Notes for the log why no race began for the client, and returns the reply to the client.
-    fn lose(&self, client: SocketAddr, fault: ConnectFault) -> Ended {
-        let lost = match fault {
-            ConnectFault::Name(fault) => Lost::of_names(fault),
-            _ => Lost::ProxyFailed,
-        };
+    fn lose(&self, client: SocketAddr, lost: Lost) -> Ended {
         let mut facts = Facts::none(self.shared.alloc);
         facts.lost = Some(lost);
         self.state.facts.note(client, facts);
+        self.state.metrics.count(Event::Lost(counted_loss(lost)));
         lost.ended()
+    }
+
+    // The state that the pages show.
+    fn shown(&self) -> Shown<'_> {
+        Shown {
+            recent: &self.state.recent,
+            metrics: &self.state.metrics,
+            now: Now {
+                waiting: self.state.beginning.count() as u64,
+                lines_lost: self.state.log.lines_lost(),
+            },
+        }
     }
 
     // Logs once a minute and network that a client is refused.
@@ -194,6 +234,8 @@ where
 
     ghost serves = { λ racer client. IsServed (ip_of (socket_ip client)) racer.request.now.allow.now };
 
+    ghost all_users = { λ racer. racer.state.now.users };
+
     ghost answers = { λ racer client host port end. IfOk end (IsWonBy R racer.request.now racer.state.now.own.items
         client host port) };
 
@@ -206,15 +248,22 @@ where
         is_served
     }
 
+    fn users(&self) -> &Users {
+        &self.state.users
+    }
+
     fn place(&self, client: SocketAddr) -> io::Result<ClientPlace<'h>> {
         let now = Instant::now(self.shared.rt)?;
         Ok(self.state.beginning.enter(client.ip(), now)?)
     }
 
     fn race(&self, client: SocketAddr, host: &str, port: u16) -> Result<Self::Race, Ended> {
-        match self.begin(client, host, port) {
-            Ok(race) => Ok(race),
-            Err(fault) => Err(self.lose(client, fault)),
+        match self.begin_allowed(client, host, port) {
+            Ok(race) => {
+                self.state.log.tell_begun(self.shared.rt, race.begun());
+                Ok(race)
+            }
+            Err(lost) => Err(self.lose(client, lost)),
         }
     }
 
@@ -232,7 +281,7 @@ where
             at: place_of(SocketAddr::new(at.ip().to_canonical(), at.port())),
             is_near: Client::of(self.shared.rt, &ways, client).is_near(),
         };
-        match write_answer(self.shared.alloc, &self.state.recent, asked, out) {
+        match write_answer(self.shared.alloc, self.shown(), asked, out) {
             Ok(()) => Ok(()),
             Err(Memory) => Err(Memory),
         }
@@ -246,6 +295,7 @@ where
         let facts = self.state.facts.take(end.client);
         self.state.log.tell(self.shared.rt, end, &facts);
         drop(facts);
+        self.state.metrics.count(Event::Ended(counted_end(end.how)));
         self.state.per_address.remove(end.client.ip());
         if self.state.running.remove() {
             self.state.log.tell_room(self.state.running.most());

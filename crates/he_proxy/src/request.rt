@@ -1,7 +1,8 @@
 //! The request of a proxy.
 
+use he_access::rules::Rule;
 use he_addr::Prefix;
-use he_log::LogForm;
+use he_log::LogOptions;
 use he_names::Environment;
 use he_settings::Choice;
 use he_setup::{Families, Lines};
@@ -17,6 +18,10 @@ pub struct ProxyRequest<'a> {
     pub allow: &'a [Prefix],
     /// Whether clients of other machines may also reach private addresses.
     pub allows_private: bool,
+    /// The file of users, one of which each client must show to be; if None, no client must.
+    pub users: Option<&'a str>,
+    /// The rules for targets, of clients of this machine too: the first rule that fits decides.
+    pub rules: &'a [Rule<'a>],
     pub families: Families,
     /// The settings of each race.
     pub settings: Settings,
@@ -33,7 +38,7 @@ pub struct ProxyRequest<'a> {
     pub record_most: u32,
     /// The history file; if None, the history lasts until the proxy ends.
     pub history: Option<&'a str>,
-    pub log: LogForm,
+    pub log: LogOptions,
     /// The limit of sessions at once, at least 1.
     pub most: u32,
     /// The limit of sessions at once from one address, at least 1; if None, there is none.

@@ -6,6 +6,7 @@ use he_clients::Service;
 use he_history::second_now;
 use he_live::Reason;
 use he_loop::{SharedLoop, ip_of};
+use he_metrics::{Event, Refusal};
 use he_sessions::{Limits, Racer, Session};
 use std::io::Write;
 use std::net::SocketAddr;
@@ -22,6 +23,10 @@ pub struct Server<'q, K, Q, F: Drop> {
 }
 
 impl<'q, K: Clock, Q, F: Write + Drop> Server<'q, K, Q, F> {
+    fn count(&self, event: Event) {
+        self.state.metrics.count(event);
+    }
+
     // Logs once a minute and network that a client with the most sessions is refused another one.
     fn tell_too_many(&self, client: SocketAddr) {
         let rt = self.shared.rt;
@@ -38,9 +43,11 @@ impl<'q, K: Clock, Q: Racer<Stream = TcpStream>, F: Write + Drop> Service for Se
 
     fn begin(&self, client: TcpStream, address: SocketAddr) -> Option<Session<'q, K, Q>> {
         if !self.racer.is_served(address) {
+            self.count(Event::Refused(Refusal::TurnedAway));
             return None;
         }
         if !self.state.per_address.add(address.ip()) {
+            self.count(Event::Refused(Refusal::TooMany));
             self.tell_too_many(address);
             return None;
         }
@@ -48,6 +55,7 @@ impl<'q, K: Clock, Q: Racer<Stream = TcpStream>, F: Write + Drop> Service for Se
         let (timers, racer) = (handle.time(), self.racer);
         match Session::new(rt, alloc, timers, racer, client, address, self.limits) {
             Ok(session) => {
+                self.count(Event::Begun);
                 if self.state.running.add() {
                     self.state.log.tell_most(self.state.running.most());
                 }

@@ -10,7 +10,7 @@ use futures::task::{Context, Poll};
 use he_addr::Memory;
 use he_kernel::asked::AskedWays;
 use he_live::{LiveTicker, Quiet, Steps};
-use he_loop::{Joined, LoopConnector, Progress, RaceTicker, Reach, SharedLoop};
+use he_loop::{Joined, LoopConnector, Progress, RaceTicker, Reach, SharedLoop, Target};
 use he_setup::{ConnectFault, LookupFaults, Setup};
 use he_turns::{RaceFault, Raced, ResolvingRace};
 use std::alloc::{AllocGlobal, Global};
@@ -93,8 +93,13 @@ where
     let SharedLoop { rt, alloc, handle } = shared;
     let source = answers_of(shared, setup, earlier, noted)?;
     let steps = noted.steps.share()?;
-    let asked = noted.asked.share()?;
-    let connector = LoopConnector::new(shared, setup.to, reach, steps, asked);
+    let ways = noted.asked.share()?;
+    let asked = String::from_str(alloc, setup.request.host)?;
+    let target = Target {
+        asked,
+        to: setup.to,
+    };
+    let connector = LoopConnector::new(shared, target, reach, steps, ways);
     let steps = noted.steps.share()?;
     let ticks = LiveTicker::new(rt, handle.time(), steps, Quiet);
     let ticker = RaceTicker::new(ticks, noted.progress.share()?);

@@ -18,6 +18,7 @@ use he_kept::{Asking, KeptAnswer, KeptAnswers, Lifetime, Question};
 use he_kernel::asked::AskedWays;
 use he_live::Quiet;
 use he_loop::Prefixes;
+use he_metrics::{Event, Lookup, Metrics};
 use he_select::Known;
 use he_settings::NamesFault;
 use he_setup::{HostAnswers, LookupFaults};
@@ -36,6 +37,17 @@ pub struct Earlier<'h> {
     pub known: &'h KnownAddresses,
     /// The NAT64 prefixes that were discovered.
     pub prefixes: &'h Prefixes,
+    /// The counts of all look-ups.
+    pub metrics: &'h Metrics,
+}
+
+impl<'h> Earlier<'h> {
+    // Counts a look-up, if a name was looked up.
+    pub(crate) fn count(&self, is_one: bool, how: Lookup) {
+        if is_one {
+            self.metrics.count(Event::LookedUp(how));
+        }
+    }
 }
 
 // The look-ups of a host's families, each until it is answered.
@@ -109,6 +121,7 @@ where
         let HostLookup {
             host,
             only,
+            asks,
             answers,
         } = lookup;
         let mut source = RaceSource {
@@ -121,7 +134,8 @@ where
             earlier,
             turn: Turn::Asks(AskedFor::nothing()),
         };
-        source.begin(only);
+        let how = source.begin(only);
+        earlier.count(asks, how);
         Ok(source)
     }
 
@@ -132,27 +146,33 @@ where
         let HostLookup {
             host,
             only,
+            asks,
             answers,
         } = lookup;
         self.host = host;
         self.answers = answers;
         // This race no longer asks for what it asked for before.
         self.turn = Turn::Asks(AskedFor::nothing());
-        self.begin(only);
+        let how = self.begin(only);
+        self.earlier.count(asks, how);
     }
 
     // Takes the answers of another race that does the look-up, or the cached one of the only family; otherwise others
-    // wait for this race's.
-    fn begin(&mut self, only: Option<Family>)
+    // wait for this race's. Returns which of these.
+    fn begin(&mut self, only: Option<Family>) -> Lookup
         ensures answers { self.new.answers ≡ self.old.answers }
         ensures host { self.new.host ≡ self.old.host }
     {
         let kept = self.earlier.kept;
-        self.turn = if only.is_some_and(|family| self.kept_of(family).is_some()) {
-            Turn::Waits(kept.answered.notified())
-        } else {
-            turn_for(kept, self.host.as_str(), only)
-        };
+        if only.is_some_and(|family| self.kept_of(family).is_some()) {
+            self.turn = Turn::Waits(kept.answered.notified());
+            return Lookup::Kept;
+        }
+        self.turn = turn_for(kept, self.host.as_str(), only);
+        match self.turn {
+            Turn::Asks(_) => Lookup::Asked,
+            Turn::Waits(_) => Lookup::Shared,
+        }
     }
 
     /// Why the family has no address: as its look-up says, otherwise `NoAddress`.

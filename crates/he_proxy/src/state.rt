@@ -6,6 +6,8 @@ use he_history::{KnownAddresses, Recent, Records};
 use he_kept::KeptAnswers;
 use he_log::{Log, SessionFacts, TurnedAway};
 use he_loop::Prefixes;
+use he_metrics::Metrics;
+use he_users::Users;
 use std::cell::Cell;
 use std::net::SocketAddr;
 
@@ -14,6 +16,8 @@ use std::net::SocketAddr;
 pub struct ProxyState<F: Drop> {
     /// The places that the proxy listens at.
     pub own: Vec<Place>,
+    /// Who may use the proxy.
+    pub users: Users,
     pub answers: KeptAnswers,
     pub known: KnownAddresses,
     /// The NAT64 prefixes that were discovered.
@@ -27,6 +31,8 @@ pub struct ProxyState<F: Drop> {
     pub log: Log<F>,
     /// The log's facts of sessions, beside their ends.
     pub facts: SessionFacts,
+    /// The counts of all sessions.
+    pub metrics: Metrics,
     pub turned_away: TurnedAway,
     /// The networks of clients with too many sessions.
     pub too_many: TurnedAway,
