@@ -20,13 +20,15 @@ _he() {
             return ;;
         "connect --set" | "proxy --set" | "live --set" | "replay --set" | "explain --set" | "draw --set" | "summary --set" | "compare --set")
             compopt -o nospace; mapfile -t COMPREPLY < <(compgen -W 'attempt= resolution= count= limit= floor=' -- "$word"); return ;;
-        "connect --machine" | "connect --record" | "proxy --machine" | "proxy --history" | "probe --machine" | "probe --record" | "names --record" | "live --record" | "replay --files0-from" | "explain --files0-from" | "draw --files0-from" | "draw --html" | "summary --files0-from" | "compare --files0-from" | "order --files0-from" | "check --files0-from")
+        "connect --machine" | "connect --record" | "proxy --users" | "proxy --machine" | "proxy --history" | "probe --machine" | "probe --record" | "names --record" | "live --record" | "replay --files0-from" | "explain --files0-from" | "draw --files0-from" | "draw --html" | "summary --files0-from" | "compare --files0-from" | "order --files0-from" | "check --files0-from")
             compopt -o filenames; mapfile -t COMPREPLY < <(compgen -f -- "$word"); return ;;
         "connect --resolver" | "proxy --resolver" | "probe --resolver" | "names --resolver")
             mapfile -t COMPREPLY < <(compgen -W system -- "$word"); return ;;
         "proxy --listen")
             return ;;
         "proxy --allow")
+            return ;;
+        "proxy --to" | "proxy --not-to")
             return ;;
         "proxy --record")
             return ;;
@@ -43,7 +45,7 @@ _he() {
     esac
     case $command in
         connect) options='-4 -6 -z --timeout --set --wait --machine --resolver --record --json --check --warn --explain --verbose -v --help -h' words=HOST ;;
-        proxy) options='--listen --allow --allow-private -4 -6 --timeout --set --machine --resolver --record --max-records --history --max-clients --max-per-client --idle --quiet -q --log-json --help -h' words= ;;
+        proxy) options='--listen --allow --allow-private --users --to --not-to -4 -6 --timeout --set --machine --resolver --record --max-records --history --max-clients --max-per-client --idle --quiet -q --log-json --log-begin --log-journal --help -h' words= ;;
         probe) options='-4 -6 --timeout --pace --count --interval --machine --resolver --record --json --openmetrics --quiet -q --verbose -v --help -h' words=HOST ;;
         names) options='--resolver --record --json --verbose -v --help -h' words=HOST ;;
         host) options='--for --json --help -h' words= ;;

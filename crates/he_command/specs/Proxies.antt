@@ -35,6 +35,8 @@ pub record IsServed (proxy : Proxy) (listen : List SocketAddr) (environment : En
   pub listen_is : request.listen.now ≡ listen
   pub allow : request.allow.now ≡ proxy.allow.items
   pub allows_private : request.allows_private ≡ proxy.allows_private
+  pub users : request.users ≡ proxy.users
+  pub ruled : request.rules.now ≡ proxy.rules.items
   pub families : request.families ≡ families_of proxy.only
   pub settings : request.settings ≡ proxy.settings
   pub lines : request.lines ≡ lines_of proxy.lines
@@ -43,7 +45,9 @@ pub record IsServed (proxy : Proxy) (listen : List SocketAddr) (environment : En
   pub records : request.record ≡ proxy.record
   pub record_most : request.record_most ≡ unwrap_or proxy.record_most DEFAULT_RECORDS
   pub history : request.history ≡ proxy.history
-  pub log : request.log ≡ log_of proxy.log
+  pub log : request.log.form ≡ log_of proxy.log
+  pub log_begins : request.log.has_begins ≡ proxy.log_begin
+  pub log_priorities : request.log.has_priorities ≡ proxy.log_journal
   pub most : request.most ≡ unwrap_or proxy.most DEFAULT_SESSIONS
   pub most_per_client : request.most_per_client ≡ proxy.most_per_client
   pub idle : request.idle ≡ proxy.idle

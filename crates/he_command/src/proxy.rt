@@ -5,7 +5,7 @@ ghost use Rattle.he_tasks.specs.declared.reports.TheConstants.{FAULT};
 
 use crate::race_request::{choice_of, families_of, lines_of};
 use crate::system::{System, Variables};
-use he_log::LogForm;
+use he_log::{LogForm, LogOptions};
 use he_names::Environment;
 use he_options::Resolver;
 use he_proxy::{DEFAULT_RECORDS, DEFAULT_SESSIONS, ProxyFault, ProxyRequest, serve};
@@ -79,8 +79,8 @@ fn may_bind<R: Net>(rt: &R, ip: Ipv6Addr) -> bool {
     }
 }
 
-// Prints why it doesn't serve. A fault of the lines or of the history has the name of their file, one of the records
-// that of their directory.
+// Prints why it doesn't serve. A fault of the lines, the users or the history has the name of their file, one of the
+// records that of their directory.
 fn report_fault<R, O: OutputStream, F: Write>(
     session: &mut Session<'_, '_, R, O, F>,
     fault: ProxyFault,
@@ -91,6 +91,7 @@ fn report_fault<R, O: OutputStream, F: Write>(
 {
     let path = match fault {
         ProxyFault::Lines(_) => proxy.lines,
+        ProxyFault::Users(_) | ProxyFault::UsersFile(_) => proxy.users,
         ProxyFault::Record(_) => proxy.record,
         ProxyFault::History(_) => proxy.history,
         _ => None,
@@ -116,6 +117,8 @@ where
         listen,
         allow: proxy.allow.as_slice(),
         allows_private: proxy.allows_private,
+        users: proxy.users,
+        rules: proxy.rules.as_slice(),
         families: families_of(proxy.only),
         settings: proxy.settings,
         lines: lines_of(proxy.lines),
@@ -124,7 +127,11 @@ where
         record: proxy.record,
         record_most: proxy.record_most.unwrap_or(DEFAULT_RECORDS),
         history: proxy.history,
-        log: log_of(proxy.log),
+        log: LogOptions {
+            form: log_of(proxy.log),
+            has_begins: proxy.log_begin,
+            has_priorities: proxy.log_journal,
+        },
         most: proxy.most.unwrap_or(DEFAULT_SESSIONS),
         most_per_client: proxy.most_per_client,
         idle: proxy.idle,

@@ -53,6 +53,8 @@ pub enum OptionFault {
     Listen,
     #[error("invalid value for '--allow <NETWORK>': expected a prefix with no bit set past its length, as 192.0.2.0/24")]
     Network,
+    #[error("invalid value for '--to <RULE>' or '--not-to <RULE>': expected a network, a name or a .domain, alone or with ports, as 192.0.2.0/24, [2001:db8::/32]:443 or .example.com:80-443, or ports, as :443")]
+    Rule,
     #[error("invalid value for '--timeout <MS>': expected 1 to 3600000 milliseconds, as 500, 500ms or 5s")]
     Timeout,
     #[error("invalid value for '--idle <SECONDS>': expected 1 to 1000000 seconds, as 90 or 90s, or less, as 500ms")]

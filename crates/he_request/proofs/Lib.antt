@@ -1,3 +1,4 @@
 mod Drawn
 mod Named
 mod Ports
+mod Ruled

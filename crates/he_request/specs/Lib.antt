@@ -3,3 +3,4 @@ pub mod Listening
 pub mod Probes
 pub mod Proxies
 pub mod Requests
+pub mod Rules

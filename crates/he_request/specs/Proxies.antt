@@ -6,6 +6,7 @@ use Rattle.he_addr.specs.Text.{SpellsPrefix}
 use Rattle.he_timeline.specs.Changes.{ChangeValues}
 use Rattle.he_request.specs.Families.{AsksFamily}
 use Rattle.he_request.specs.Listening.{NamesListen}
+use Rattle.he_request.specs.Rules.{AsksRules}
 use Rattle.he_options.specs.Resolvers.{AsksResolver}
 use Rattle.he_options.specs.Times.{time_of}
 use Rattle.he_options.specs.Words.{AsksChanges, HasFlag, HasNumber, connect_settings, values_of}
@@ -35,6 +36,8 @@ pub record AsksProxy {E : Type 0} (gives : List ℕ → Result ℕ E → Type 0)
   pub listen : AreNamed NamesListen (values_of found (codes "listen")) proxy.listen.items
   pub allow : AreNamed SpellsPrefix (values_of found (codes "allow")) proxy.allow.items
   pub allows_private : HasFlag found (codes "allow-private") proxy.allows_private
+  pub users : option_map (λ path. path.now) proxy.users ≡ first_value found (codes "users")
+  pub ruled : AsksRules found proxy.rules.items
   pub only : AsksFamily found proxy.only
   pub changes : ChangeValues
   pub asked : AsksChanges found changes
@@ -52,3 +55,5 @@ pub record AsksProxy {E : Type 0} (gives : List ℕ → Result ℕ E → Type 0)
   pub is_quiet : HasFlag found (codes "quiet") quiet
   pub is_json : HasFlag found (codes "log-json") json
   pub log : proxy.log ≡ log_of quiet json
+  pub log_begin : HasFlag found (codes "log-begin") proxy.log_begin
+  pub log_journal : HasFlag found (codes "log-journal") proxy.log_journal

@@ -35,6 +35,7 @@ pub mod probe;
 pub mod proxy;
 mod replay;
 pub mod request;
+pub mod rules;
 mod summary;
 
 pub use connect::Connection;

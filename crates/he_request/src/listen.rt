@@ -161,7 +161,7 @@ fn port_after(front: &[u8], text: &[u8]) -> Option<u16>
 }
 
 // A port by its number, without leading zeros.
-fn read_port(text: &[u8]) -> Option<u16>
+pub(crate) fn read_port(text: &[u8]) -> Option<u16>
     ensures some { IfSome result (SpellsPort text.now) }
     ensures none { IfNone result ((port : ℕ) → SpellsPort text.now port → ⊥) }
 {
