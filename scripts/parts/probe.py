@@ -128,7 +128,7 @@ def check_literals():
             probe.must(probe.output.startswith(f"{host} port {port}: ") and "record lookup" not in probe.record)
         must(not names.seen, "the name server was asked for an address")
     other = Probe("-6", FOUR, 80)
-    other.must(other.status == 3 and other.output == f"{FOUR} port 80: no address\nNothing connects\n")
+    other.must(other.status == 3 and other.output == f"{FOUR} port 80: no address to try\nNothing connects\n")
 
 
 def check_lookup():

@@ -104,7 +104,7 @@ heading_text host port at = moment_before at ++ (host ++ (codes " port " ++ deci
 -- how many of the rows connect, or that there are none
 abbrev pub summary_text : List AddressRow → List ℕ
 summary_text rows =
-    if length rows == 0 then codes ": no address\n"
+    if length rows == 0 then codes ": no address to try\n"
     else codes ": " ++ (decimal (count_by has_connected rows) ++ (codes " of " ++ (decimal (length rows)
     ++ (if length rows == 1 then codes " address connects\n" else codes " addresses connect\n"))))
 

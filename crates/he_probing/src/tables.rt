@@ -89,7 +89,7 @@ fn write_summary(rows: &[AddressRow], text: &mut Vec<u8>) -> Result<(), Memory>
     ensures { OnOk result (text.new.items ≡ text.old.items ++ summary_text rows.now) }
 {
     if rows.len() == 0 {
-        return write_words(b": no address\n", text);
+        return write_words(b": no address to try\n", text);
     }
     let noun: &'static [u8] = if rows.len() == 1 {
         b" address connects\n"
