@@ -165,10 +165,10 @@ def check_faults():
     kept = CAPTURES / "curl.pcap"
     for name, words, said in (
             ("no such file", [work / "nothing"], "no such file"), ("no capture", [], "FILE"),
-            ("no such name", [kept, "--name", "other.test"], "no race"),
+            ("no such name", [kept, "--name", "other.test"], "no race for other.test among "),
             ("no such client", [kept, "--client", "192.0.2.99"], "no race"),
             ("no address", [kept, "--client", "curl"], "--client"), ("no host lines", [kept, "--host", host], "line 2"),
-            ("no such host", [kept, "--host", work / "nothing"], "nothing"),
+            ("no such host", [kept, "--host", work / "nothing"], "nothing: no such file"),
             ("no such option", [kept, "--nothing"], "--nothing")):
         is_refused(name, words, said)
 
