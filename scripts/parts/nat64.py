@@ -520,3 +520,17 @@ def check_proxy_stranger():
             with Proxy("--resolver", server.at, *allowed, "--allow-private", at=near) as proxy:
                 for host in (SERVER, *([PRIVATE] if prefix == WIDE else [])):
                     must(stranger.asks(proxy, host, 4430, near) == 0, host, proxy.said())
+
+
+def check_proxy_rules():
+    """A rule for a network of IPv4 fits its hosts behind a prefix, by their IPv4 and by their IPv6 addresses; one for
+    the prefix fits each of them."""
+    translator()
+    rows = [("--not-to", "203.0.113.0/24", 2), ("--to", "203.0.113.0/24", 0), ("--to", "192.0.2.0/24", 2),
+            ("--not-to", "192.0.2.0/24", 0)]
+    for prefix in (WELL_KNOWN, LONG):
+        for option, rule, code in [*rows, ("--not-to", prefix, 2), ("--to", prefix, 0)]:
+            with Discovering(prefix) as server, Proxy("--resolver", server.at, option, rule) as proxy:
+                for host in (SERVER, "four.test", embedded(prefix, SERVER)):
+                    got = proxy.ask(host, 4430)[0]
+                    must(got == code, prefix, option, rule, host, got, proxy.said())

@@ -29,6 +29,8 @@ MOST_MEMORY = 8_000  # kB at the end, beyond what it took after three tenths of 
 CHECKED = {"ASAN_OPTIONS": "quarantine_size_mb=1"}
 NAME, HOST = "drawn.test", "four.test"  # of the name server, and of the file of hosts; both are FOUR
 ANSWER = b"HTTP/1.1 200 OK\r\nContent-Length: 3\r\nConnection: close\r\n\r\nyes"
+HEAD = b"HTTP/1.1 200 OK\r\nContent-Length: 3\r\nVia: 1.1 he\r\nConnection: close\r\n\r\n"
+RETURNED = (HEAD + b"yes", HEAD)  # as a client gets it whose request was forwarded, or was HEAD
 
 # What the proxy may answer
 
@@ -62,7 +64,7 @@ def kind_of_reply(reply):
     reply."""
     if reply in SHORT:
         return "short" if reply else "none"
-    if reply == ANSWER:
+    if reply in RETURNED:
         return "forwarded"
     if is_message(reply):
         return "page" if reply.startswith(b"HTTP/1.1 200 ") else "refused"

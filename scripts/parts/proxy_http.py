@@ -5,7 +5,6 @@ and for drawn ones.
 needs: curl and wget for single checks
 """
 import contextlib
-import itertools
 import json
 import pathlib
 import random
@@ -28,6 +27,7 @@ QUIET = 0.3  # seconds in which a server of one request gets nothing more
 MARK = b"SMUGGLED"
 SECOND = b"GET http://four.test:1/" + MARK + b" HTTP/1.1\r\nHost: four.test:1\r\n\r\n"
 ANSWER = b"HTTP/1.1 200 OK\r\nContent-Length: 3\r\nConnection: close\r\n\r\nyes"
+RETURNED = b"HTTP/1.1 200 OK\r\nContent-Length: 3\r\nVia: 1.1 he\r\nConnection: close\r\n\r\nyes"  # for its client
 DRAWN = 20_000 if OPTIONS.full else 1_500  # mutated requests
 MOST_OF_REQUEST = 0.004  # seconds of processor time of a small request, of a build without optimization ten times that
 TOKEN = rb"[!#$%&'*+\-.^_`|~0-9A-Za-z]+"
@@ -205,19 +205,19 @@ HEADS = [
 
 def check_heads():
     """The server gets the head without the fields that are for the proxy, in order, with the target's authority as its
-    Host, whatever the client's was; the client gets the response as it is."""
+    Host, whatever the client's was; the client gets the response, to HEAD its head alone."""
     origin = Origin()
     with serving(origin) as port, Proxy() as proxy:
         for method, rest, version, fields, line, kept in HEADS:
             head = [f"{method} http://{HOST}:{port}{rest} HTTP/{version}", *fields, "", ""]
             answer = sent(proxy, "\r\n".join(head).encode())
-            must(answer == ANSWER, head[0], answer)
+            must(answer == (RETURNED[:-3] if method == "HEAD" else RETURNED), head[0], answer)
             must(origin.got[-1] == head_for(port, kept, line), head, origin.got[-1])
         for name in ("FOUR.test", FOUR, "both.test"):
             sent(proxy, f"GET HTTP://{name}:{port}/ HTTP/1.1\r\nHost: x\r\n\r\n".encode())
             must(f"\r\nHost: {name}:{port}\r\n".encode() in origin.got[-1], name, origin.got[-1])
     with serving(origin, port=80), Proxy() as proxy:
-        must(sent(proxy, b"GET http://four.test/ HTTP/1.1\r\nHost: x\r\n\r\n") == ANSWER, proxy.said())
+        must(sent(proxy, b"GET http://four.test/ HTTP/1.1\r\nHost: x\r\n\r\n") == RETURNED, proxy.said())
         must(b"\r\nHost: four.test\r\n" in origin.got[-1], origin.got[-1])
 
 
@@ -255,7 +255,7 @@ def check_bodies():
                     for piece in [*pieces, given]:
                         client.sendall(piece)
                 answer = all_of(client)
-            must(answer == ANSWER, number, answer[:100], proxy.said()[-300:])
+            must(answer == RETURNED, number, answer[:100], proxy.said()[-300:])
             wanted = head_for(port, [field], f"POST /{number} HTTP/1.1") + framed
             comes(lambda: len(origin.got[-1]) >= len(wanted), 1)
             must(origin.got[-1] == wanted, number, len(origin.got[-1]), len(wanted), MARK in origin.got[-1])
@@ -269,7 +269,7 @@ def check_not_ended():
         origin = Origin(wait=QUIET)
         with serving(origin) as port, Proxy() as proxy:
             line = f"POST http://{HOST}:{port}/ HTTP/1.1\r\nHost: x\r\nContent-Length: 2\r\n\r\nab"
-            must(sent(proxy, line.encode() + after) == ANSWER, proxy.said())
+            must(sent(proxy, line.encode() + after) == RETURNED, proxy.said())
         must(origin.was_ended == [False], after, origin.was_ended)
 
 
@@ -305,34 +305,11 @@ def get_head(connection):
     return head
 
 
-# Responses that are relayed as they are.
-RESPONSES = [
-    b"HTTP/1.1 204 No Content\r\nConnection: close\r\n\r\n",
-    b"HTTP/1.1 304 Not Modified\r\nContent-Length: 500\r\nConnection: close\r\n\r\n",
-    b"HTTP/1.1 103 Early Hints\r\nLink: </a>\r\n\r\nHTTP/1.1 200 OK\r\nConnection: close\r\n\r\nhello",
-    b"HTTP/1.1 200 OK\r\nTransfer-Encoding: chunked\r\nTrailer: A\r\n\r\n5\r\nhello\r\n0\r\nA: b\r\n\r\n",
-    b"HTTP/1.0 200 OK\r\n\r\n" + bytes(200_000),
-    b"HTTP/1.1 200 OK\nServer: odd\n\nhello",
-    b"hello\n",
-    b"",
-]
-
-
-def check_responses():
-    """A response goes to the client to its last octet, and then the connection ends."""
-    for response, method in itertools.product(RESPONSES, ("GET", "HEAD")):
-        origin = Origin(response)
-        with serving(origin) as port, Proxy() as proxy:
-            held = proxy.descriptors()
-            got = sent(proxy, f"{method} http://{HOST}:{port}/ HTTP/1.1\r\nHost: x\r\n\r\n".encode())
-            must(got == response, method, response[:60], got[:60], len(got))
-            must_close(proxy, held)
-
-
 @timed
 def check_early_answers():
     """The answer of a server that reads no further arrives, though the client still sends."""
-    answer = b"HTTP/1.1 413 Content Too Large\r\nConnection: close\r\n\r\n" + bytes(60_000)
+    head = b"HTTP/1.1 413 Content Too Large\r\n"
+    answer, returned = (head + via + b"Connection: close\r\n\r\n" + bytes(60_000) for via in (b"", b"Via: 1.1 he\r\n"))
 
     def serve(connection):
         connection.recv(1000)
@@ -349,7 +326,7 @@ def check_early_answers():
             with contextlib.suppress(ConnectionResetError):
                 while more := client.recv(1 << 16):
                     got += more
-            must(got == answer, field, len(got), proxy.said())
+            must(got == returned, field, len(got), proxy.said())
 
 
 @timed
@@ -396,7 +373,7 @@ def check_half_closed():
     with serving(origin) as port, Proxy() as proxy:
         for host in (HOST, "dead6.test"):
             got = sent(proxy, f"GET http://{host}:{port}/ HTTP/1.1\r\nHost: x\r\n\r\n".encode(), ends=True)
-            must(got == ANSWER, host, got, proxy.said())
+            must(got == RETURNED, host, got, proxy.said())
 
 
 def check_lost():
@@ -423,11 +400,11 @@ def check_told():
         origin = Origin()
         with serving(origin) as port, Proxy(*words) as proxy:
             given = f"POST http://{HOST}:{port}/secret HTTP/1.1\r\nHost: x\r\nContent-Length: 3\r\n\r\nabc"
-            must(sent(proxy, given.encode()) == ANSWER, proxy.said())
+            must(sent(proxy, given.encode()) == RETURNED, proxy.said())
             must(comes(lambda: "end" in proxy.said(), SOON), proxy.said())
             line = proxy.said().splitlines()[-1]
             wanted = {"method": "POST", "host": HOST, "port": port, "winner": FOUR, "sent": len(origin.got[0]),
-                      "received": len(ANSWER), "end": "closed"}
+                      "received": len(RETURNED), "end": "closed"}
             found = json.loads(line) if words else dict(word.split("=", 1) for word in line.split(" "))
             must({name: str(found.get(name)) for name in wanted} == {name: str(is_) for name, is_ in wanted.items()},
                  line, wanted)
@@ -559,7 +536,8 @@ def must_be_one(proxy, origin, given, is_taken, at):
     wrong = [wrong_with(one, at) for one in got]
     must(len(got) <= 1 and not any(wrong), repr(given), wrong, got, answer)
     if is_taken:
-        must(answer == ANSWER and got, repr(given), answer, got)
+        wanted = RETURNED[:-3] if given.startswith(b"HEAD ") else RETURNED
+        must(answer == wanted and got, repr(given), answer, got)
     elif is_taken is not None:
         is_refused = answer == b"" or re.match(rb"HTTP/1\.1 (400|403|501|502) |\(reset\)", answer)
         must(is_refused, repr(given), answer, got)
@@ -580,6 +558,35 @@ def check_smuggled():
             must_be_one(proxy, origin, given, is_taken, at)
         must(not any(MARK in got for got in origin.got), "a second request")
         print(f"    {len(forms)} forms")
+
+
+# Transfer codings of a request, and the status: 501 where chunked is the last one and another one comes before it (RFC
+# 9112 section 6.1), 400 where the end of the body isn't known (section 6.3) or chunked comes twice (section 7.1).
+CODED = [(b"gzip, chunked", 501), (b"identity, chunked", 501), (b"x;a=b ,gzip,\t Chunked ", 501),
+         (b"gzip,,chunked", 501), (b"gzip", 400), (b"cow", 400), (b"identity", 400), (b"chunked, gzip", 400),
+         (b"gzip, chunked, gzip", 400), (b"gzip chunked", 400), (b"gzip, xchunked", 400), (b"chunked, chunked", 400),
+         (b"gzip, chunked, chunked", 400), (b",chunked", 400), (b"chunked,", 400), (b"chunked;q=1", 400), (b"", 400)]
+
+
+def check_codings():
+    """A body with another transfer coding before chunked gets 501, and any other one that isn't chunked alone 400; no
+    server gets the request, and the log has its method."""
+    origin = Origin()
+    with serving(origin) as port, Proxy("--log-json") as proxy:
+        for value, status in CODED:
+            before = len(proxy.said().splitlines())
+            given = b"POST http://%s:%d/ HTTP/1.1\r\nHost: a\r\nTransfer-Encoding: %s\r\n\r\n"
+            answer = sent(proxy, given % (HOST.encode(), port, value) + b"0\r\n\r\n" + SECOND)
+            must(answer.startswith(b"HTTP/1.1 %d " % status), value, answer)
+            must(comes(lambda: len(proxy.said().splitlines()) > before, SOON), value, "no line")
+            said = json.loads(proxy.said().splitlines()[-1])
+            must((said["end"], said["method"]) == ("refused", "POST"), value, said)
+        for lines in (b"Transfer-Encoding: gzip\r\nTransfer-Encoding: chunked",
+                      b"Content-Length: 5\r\nTransfer-Encoding: gzip, chunked"):
+            given = b"POST http://%s:%d/ HTTP/1.1\r\nHost: a\r\n%s\r\n\r\n" % (HOST.encode(), port, lines)
+            answer = sent(proxy, given)
+            must(answer.startswith(b"HTTP/1.1 400 "), lines, answer)
+        must(not any(origin.got), origin.got)
 
 
 def mutated(draw, given):
@@ -640,32 +647,9 @@ def check_many():
         with ThreadPoolExecutor(20) as pool:
             answers = list(pool.map(lambda _: sent(proxy, given), range(200)))
         used, took = proxy.seconds_used() - before, time.monotonic() - began
-        must(answers == [ANSWER] * 200 and len(origin.got) == 200, set(answers), len(origin.got))
+        must(answers == [RETURNED] * 200 and len(origin.got) == 200, set(answers), len(origin.got))
         must_close(proxy, held)
         must(took < 20 and used < 200 * MOST_OF_REQUEST * 10, f"{took:.1f} s, {used:.2f} s of processor time")
-
-
-@timed
-def check_asks_again():
-    """Where a server keeps its connection open, a client that asks again on its own is to connect anew: soon, and
-    without the second request going to that server."""
-    def keep(connection):
-        kept.append(b"")
-        while piece := connection.recv(1 << 16):
-            kept[-1] += piece
-            if kept[-1].count(b"\r\n\r\n") == 1:
-                connection.sendall(b"HTTP/1.1 200 OK\r\nContent-Length: 3\r\n\r\nyes")
-
-    kept = []
-    with serving(keep) as port, Proxy() as proxy:
-        with proxy.connect(SOON) as client:
-            client.sendall(f"GET http://{HOST}:{port}/ HTTP/1.1\r\nHost: x\r\n\r\n".encode())
-            must(get(client, 41).endswith(b"yes"), kept, proxy.said())
-            began = time.monotonic()
-            client.sendall(SECOND)
-            must(not client.recv(1), "a second response")
-            took = time.monotonic() - began
-        must(0.5 < took < 3 and len(kept) == 1 and MARK not in kept[0], f"{took:.1f} s", kept)
 
 
 def check_dropped():

@@ -188,6 +188,55 @@ def check_strange_names():
                     must(re.fullmatch(r'(\w+=("([^"\\]|\\.)*"|[^\s"\\]*) ?)+', line), line)
 
 
+@timed
+def check_begin_lines():
+    """With --log-begin a race has a line when it begins, in the form of the log, without an end; it begins when the line of
+    its session says so. A session without a race has none, and without the option there is none."""
+    for words in (("--log-begin",), ("--log-begin", "--log-json"), ()):
+        read = json.loads if "--log-json" in words else facts
+        with Proxy(*words) as proxy, serving(echo) as port, proxy.connect() as client:
+            must(socks(client, "four.test", port) == 0, proxy.said())
+            lines = [read(line) for line in log_lines(proxy)]
+            wanted = ["time", "client", "host", "port", "begin"]
+            must([list(line) for line in lines] == [wanted] * (len(words) > 0), words, lines)
+            proxy.answer(b"GET /proxy.pac HTTP/1.1\r\nHost: %s:%d\r\n\r\n" % (FOUR.encode(), proxy.port))
+            proxy.ask("a..b", port)
+            own = f"{FOUR}:{client.getsockname()[1]}"
+            client.close()
+            must(comes(lambda: len(log_lines(proxy)) == 3 + len(lines), SOON), words, proxy.said())
+            *before, end = [read(line) for line in log_lines(proxy)]
+            must(all("begin" not in line for line in [*before[len(lines):], end]), words, before, end)
+            for begun in before[:len(lines)]:
+                must((begun["client"], begun["host"], int(begun["port"])) == (own, "four.test", port), words, begun)
+                must(begun["begin"] == end["start"] and begun["client"] == end["client"], words, begun, end)
+
+
+@timed
+def check_priorities():
+    """With --log-journal each line begins with its priority, and is otherwise as without: a race without a connection is
+    a warning, what cannot be kept is an error."""
+    refused = unused_port()
+    for words in ((), ("--log-json",)):
+        with Proxy("--log-journal", *words) as proxy, serving(greet) as port:
+            proxy.ask("four.test", port, ALL)
+            proxy.ask("four.test", refused)
+            proxy.answer(b"POST / HTTP/1.1\r\nHost: %s:%d\r\n\r\n" % (FOUR.encode(), proxy.port))
+            proxy.answer(b"GET /proxy.pac HTTP/1.1\r\nHost: %s:%d\r\n\r\n" % (FOUR.encode(), proxy.port))
+            run("rm", "-rf", proxy.records)
+            proxy.records.write_text("no folder")
+            proxy.ask("four.test", port, ALL)
+            must(comes(lambda: "<3>" in proxy.said(), SOON), proxy.said())
+            lines = proxy.said().splitlines()
+            must(all(re.match(r"<[346]>(he: |time=|\{)", line) for line in lines), lines)
+            places = [f"<6>he: listening at {FOUR}:{proxy.port}"] if not words else []
+            must([line for line in lines if "listening" in line] == places, lines)
+            sessions = [line for line in lines if not line[3:].startswith("he: ")]
+            must([line[:3] for line in sessions] == ["<6>", "<4>", "<6>", "<6>", "<6>"], sessions)
+            must([line[:3] for line in lines if "cannot keep records" in line] == ["<3>"], lines)
+            for line in sessions:
+                must((json.loads if words else facts)(line[3:])["end"] in ("closed", "refused", "page"), line)
+
+
 # A request, its status, and the method, the target and the end that its line has in the log.
 REQUESTS = (
     (b"GET /proxy.pac?x=1 HTTP/1.1", b"200", "GET", "/proxy.pac?x=1", "page"),

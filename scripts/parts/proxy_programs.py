@@ -1,16 +1,20 @@
 """Connects through a built program's `he proxy` by the programs that people use.
 
-needs: curl, wget, apt, Chromium, git, nc, ssh, sshd, openssl: a missing one is reported
+needs: curl, wget, apt, git, npm, node, pip, Python with requests, Go, a JDK, Chromium, nc, ssh, sshd, openssl: what is
+missing is reported
 """
+import io
 import pathlib
 import re
 import shutil
 import ssl
+import tarfile
 import tempfile
+import zipfile
 
 import support
-from parts.proxy import Proxy
-from support import FOUR, TIMEOUT, NotTried, greet, must, needs, serving
+from parts.proxy import SOON, Proxy
+from support import FOUR, TIMEOUT, NotTried, comes, greet, must, needs, serving
 
 SETUP = support.NETWORK
 
@@ -19,58 +23,149 @@ SETUP = support.NETWORK
 
 
 def own_tls(folder):
-    """A TLS context with a certificate that it has signed itself."""
+    """A TLS context with a certificate that it has signed itself, which is also in the store `trust` for Java."""
     needs("openssl")
     support.run("openssl", "req", "-x509", "-newkey", "rsa:2048", "-nodes", "-days", "2", "-subj", "/CN=both.test",
-                "-keyout", f"{folder}/key", "-out", f"{folder}/certificate")
+                "-addext", "subjectAltName=DNS:both.test", "-keyout", f"{folder}/key", "-out", f"{folder}/certificate")
+    if shutil.which("keytool"):
+        support.run("keytool", "-importcert", "-noprompt", "-alias", "it", "-file", f"{folder}/certificate",
+                    "-keystore", f"{folder}/trust", "-storepass", "secret")
     context = ssl.SSLContext(ssl.PROTOCOL_TLS_SERVER)
     context.load_cert_chain(f"{folder}/certificate", f"{folder}/key")
     return context
 
 
+CURL = "curl -sSk --noproxy , --proxy {}://AT {}://both.test:{}/page.txt"
+APT = "/usr/lib/apt/apt-helper -o Acquire::{0}::Proxy={1}://AT -o Acquire::https::CAInfo=FOLDER/certificate " \
+      "download-file {0}://both.test:{2}/page.txt OUT"
+REQUESTS = "/usr/bin/python3 -c import\trequests;print(requests.get('{0}://both.test:{1}/page.txt'," \
+           "proxies={{'{0}':'http://AT'}},verify='FOLDER/certificate').text,end='')"
+PIP = "pip -q --disable-pip-version-check download --no-deps --no-cache-dir --proxy http://AT " \
+      "--trusted-host both.test -d OUT {0}://both.test:{1}/it-1.0-py3-none-any.whl"
+NPM = "env npm_config_proxy=http://AT npm_config_https_proxy=http://AT npm_config_cafile=FOLDER/certificate " \
+      "npm_config_update_notifier=false npm_config_cache=FOLDER/npm npm install --no-audit --no-fund --prefix OUT " \
+      "{0}://both.test:{1}/it-1.0.0.tgz"
+GO = "env http_proxy=http://AT https_proxy=http://AT SSL_CERT_FILE=FOLDER/certificate FOLDER/page " \
+     "{0}://both.test:{1}/page.txt"
+JAVA = "java -Dhttp.proxyHost=FOUR -Dhttp.proxyPort=PROXY -Dhttps.proxyHost=FOUR -Dhttps.proxyPort=PROXY " \
+       "-Djavax.net.ssl.trustStore=FOLDER/trust -Djavax.net.ssl.trustStorePassword=secret FOLDER/Page.java " \
+       "{0}://both.test:{1}/page.txt"
+CHROMIUM = "chromium --headless --no-sandbox --disable-gpu --disable-dev-shm-usage --no-first-run " \
+           "--disable-background-networking --disable-component-update --ignore-certificate-errors " \
+           "--user-data-dir=FOLDER/user --proxy-server={0}://AT --dump-dom {1}://both.test:{2}/page.txt"
+BY_SCHEME = {"without TLS": ("http", "PORT"), "with TLS": ("https", "TLS")}
+
 # By name what gets a page: AT is the proxy, PORT and TLS are those of the page without and with TLS.
 PROGRAMS = {
-    "curl by SOCKS": "curl -sS --noproxy , --proxy socks5h://AT http://both.test:PORT/page.txt",
-    "curl by plain HTTP": "curl -sS --noproxy , --proxy http://AT http://both.test:PORT/page.txt",
+    **{f"curl by {way}, {how}": CURL.format(scheme, *at)
+       for way, scheme in (("SOCKS 5", "socks5h"), ("SOCKS 4A", "socks4a"), ("HTTP", "http"))
+       for how, at in BY_SCHEME.items()},
     "curl by CONNECT": "curl -sS --noproxy , --proxytunnel --proxy http://AT http://both.test:PORT/page.txt",
-    "curl by CONNECT, with TLS": "curl -sSk --noproxy , --proxy http://AT https://both.test:TLS/page.txt",
     "wget by plain HTTP": "wget -qO- -e use_proxy=yes -e http_proxy=http://AT http://both.test:PORT/page.txt",
     "wget": "wget -qO- --no-check-certificate -e use_proxy=yes -e https_proxy=http://AT https://both.test:TLS/page.txt",
-    "apt": "/usr/lib/apt/apt-helper -o Acquire::http::Proxy=socks5h://AT download-file "
-           "http://both.test:PORT/page.txt OUT",
-    "apt by plain HTTP": "/usr/lib/apt/apt-helper -o Acquire::http::Proxy=http://AT download-file "
-                         "http://both.test:PORT/page.txt OUT",
+    **{f"apt by {way}, {how}": APT.format(at[0], scheme, at[1])
+       for way, scheme in (("SOCKS 5", "socks5h"), ("HTTP", "http")) for how, at in BY_SCHEME.items()},
     "python": "python3 -c import\thttp.client,sys;c=http.client.HTTPConnection('FOUR',PROXY);"
               "c.set_tunnel('both.test',PORT);c.request('GET','/page.txt');"
               "print(c.getresponse().read().decode(),end='')",
-    "chromium": "chromium --headless --no-sandbox --disable-gpu --disable-dev-shm-usage --no-first-run "
-                "--disable-background-networking --disable-component-update --user-data-dir=FOLDER/user "
-                "--proxy-server=socks5://AT --dump-dom http://both.test:PORT/page.txt",
+    **{f"{name}, {how}": line.format(*at)
+       for name, line in (("requests", REQUESTS), ("pip", PIP), ("npm", NPM), ("Go", GO), ("Java", JAVA))
+       for how, at in BY_SCHEME.items()},
+    **{f"Chromium by {way}, {how}": CHROMIUM.format(scheme, *at)
+       for way, scheme in (("SOCKS 5", "socks5"), ("HTTP", "http")) for how, at in BY_SCHEME.items()},
 }
+GO_PAGE = """package main
+
+import ("io"; "net/http"; "os")
+
+func main() {
+    response, err := http.Get(os.Args[1])
+    if err != nil { panic(err) }
+    io.Copy(os.Stdout, response.Body)
+}
+"""
+JAVA_PAGE = """public class Page {
+    public static void main(String[] words) throws Exception {
+        new java.net.URL(words[0]).openStream().transferTo(System.out);
+    }
+}
+"""
+
+
+def make_files(folder, page):
+    """The page, also in a wheel and in a package of npm, which are not compressed; the programs of Go and Java."""
+    pathlib.Path(folder, "page.txt").write_text(page)
+    with zipfile.ZipFile(f"{folder}/it-1.0-py3-none-any.whl", "w") as wheel:
+        wheel.writestr("page.txt", page)
+        wheel.writestr("it-1.0.dist-info/METADATA", "Metadata-Version: 2.1\nName: it\nVersion: 1.0\n")
+        wheel.writestr("it-1.0.dist-info/WHEEL", "Wheel-Version: 1.0\nRoot-Is-Purelib: true\nTag: py3-none-any\n")
+        wheel.writestr("it-1.0.dist-info/RECORD", "")
+    with tarfile.open(f"{folder}/it-1.0.0.tgz", "w:gz") as package:
+        for name, text in (("page.txt", page), ("package.json", '{"name": "it", "version": "1.0.0"}')):
+            entry = tarfile.TarInfo(f"package/{name}")
+            entry.size = len(text)
+            package.addfile(entry, io.BytesIO(text.encode()))
+    pathlib.Path(folder, "Page.java").write_text(JAVA_PAGE)
+    pathlib.Path(folder, "page.go").write_text(GO_PAGE)
+    if shutil.which("go"):
+        support.run("env", f"GOCACHE={folder}/go", "GO111MODULE=off", "go", "build", "-o", f"{folder}/page",
+                    f"{folder}/page.go", timeout=10 * TIMEOUT)
+
+
+def written(out):
+    """The texts of the files at or below a place, which are gone then."""
+    files = [out] if out.is_file() else [file for file in out.rglob("*") if file.is_file()]
+    texts = "".join(file.read_text("latin-1") for file in files)
+    shutil.rmtree(out, ignore_errors=True)
+    out.unlink(missing_ok=True)
+    return texts
 
 
 def check_programs():
-    """Programs that know a proxy get a page from a name whose IPv6 address refuses."""
+    """Programs that know a proxy get a page by it from a name whose IPv6 address refuses."""
     page, missing = "".join(f"line {number}\n" for number in range(50_000)), []
     with tempfile.TemporaryDirectory() as folder, Proxy() as proxy:
-        pathlib.Path(folder, "page.txt").write_text(page)
+        make_files(folder, page)
         out = pathlib.Path(folder, "out")
         with support.web_server(folder) as port, support.web_server(folder, own_tls(folder)) as tls:
             values = {"AT": f"{FOUR}:{proxy.port}", "PORT": str(port), "TLS": str(tls), "OUT": str(out), "FOUR": FOUR,
                       "PROXY": str(proxy.port), "FOLDER": folder}
             for name, line in PROGRAMS.items():
-                words = [re.sub(r"\b[A-Z]{2,}\b", lambda found: values.get(found[0], found[0]), word)
+                words = [re.sub(r"\b(%s)\b" % "|".join(values), lambda found: values[found[0]], word)
                          for word in line.split(" ")]
                 words = [word.replace("\t", " ") for word in words]
-                if not shutil.which(words[0]):
+                program = next(word for word in words if word != "env" and not re.match(r"\w+=", word))
+                if not shutil.which(program):
                     missing.append(name)
                     continue
-                done = support.run(*words, timeout=TIMEOUT)
-                got = out.read_text() if out.exists() else done.stdout
-                out.unlink(missing_ok=True)
+                before = len(proxy.lines())
+                done = support.run(*words, timeout=3 * TIMEOUT)
+                got = done.stdout + written(out)
                 must(page in got, f"{name}: {len(got)} bytes, {done.stderr[-300:]!r}")
+                must(comes(lambda: len(proxy.lines()) > before, SOON), f"{name}: not by the proxy", proxy.said()[-300:])
     if missing:
         print(f"{', '.join(missing)}: not tried, not installed", flush=True)
+
+
+def check_resolves_itself():
+    """curl by socks5:// looks up the name itself, and asks for its first address alone: no race helps it."""
+    needs("curl")
+    with tempfile.TemporaryDirectory() as folder, Proxy() as proxy, support.web_server(folder) as port:
+        done = support.run("curl", "-sS", "--noproxy", ",", "--proxy", f"socks5://{FOUR}:{proxy.port}",
+                           f"http://both.test:{port}/", timeout=TIMEOUT)
+        must(comes(lambda: proxy.lines(), SOON), proxy.said())
+        must(done.returncode and " host=2001:db8:1e::1 " in proxy.lines()[0], done, proxy.lines())
+
+
+def check_node():
+    """The fetch of a node that knows no proxy goes past it."""
+    needs("node")
+    code = "fetch(process.argv[1]).then(async (r) => process.stdout.write(await r.text()))"
+    with tempfile.TemporaryDirectory() as folder, Proxy() as proxy, support.web_server(folder) as port:
+        pathlib.Path(folder, "page.txt").write_text("page\n")
+        at = f"http_proxy=http://{FOUR}:{proxy.port}"
+        done = support.run("env", at, "node", "-e", code, f"http://four.test:{port}/page.txt", timeout=TIMEOUT)
+        must(done.stdout == "page\n" and not proxy.lines(), done, proxy.said())
 
 
 GIT = """
@@ -82,17 +177,21 @@ git clone -q --bare work it.git && cd it.git && git update-server-info
 
 
 def check_git():
-    """git clones over the proxy, by SOCKS 5 and by plain HTTP."""
+    """git clones over the proxy, by SOCKS 5 and by HTTP, without TLS and with it."""
     needs("git")
-    with tempfile.TemporaryDirectory() as folder, Proxy() as proxy, support.web_server(folder) as port:
+    with tempfile.TemporaryDirectory() as folder, Proxy() as proxy, support.web_server(folder) as port, \
+            support.web_server(folder, own_tls(folder)) as tls:
         made = support.run("sh", "-c", GIT, cwd=folder)
         if made.returncode:
             raise NotTried(f"git: {made.stderr.strip()}")
-        for scheme in ("socks5h", "http"):
-            done = support.run("git", "-c", f"http.proxy={scheme}://{FOUR}:{proxy.port}", "clone", "-q",
-                               f"http://both.test:{port}/it.git", f"{folder}/{scheme}", timeout=TIMEOUT)
-            file = pathlib.Path(folder, scheme, "file")
-            must(file.exists() and file.read_text() == "hello\n", scheme, repr(done.stderr))
+        for way in ("socks5h", "http"):
+            for scheme, at in (("http", port), ("https", tls)):
+                to = pathlib.Path(folder, f"{way}-{scheme}")
+                done = support.run("env", f"GIT_SSL_CAINFO={folder}/certificate", "git", "-c",
+                                   f"http.proxy={way}://{FOUR}:{proxy.port}", "clone", "-q",
+                                   f"{scheme}://both.test:{at}/it.git", to, timeout=TIMEOUT)
+                file = to / "file"
+                must(file.exists() and file.read_text() == "hello\n", way, scheme, repr(done.stderr))
 
 
 def check_nc():

@@ -1,7 +1,7 @@
-"""Refuses each allocation of a built program in turn, as the part refused does, where it connects on a machine with
-only IPv6, whose network has a NAT64 or none. Each run must end as one that is refused nothing, or tell a fault of
-memory or of the event loop alone. Where the refusal ends its look-up or its attempt, it must say so, and write a whole
-record.
+"""Refuses each allocation of a built program in turn, as the part refused does, where it connects and probes on a
+machine with only IPv6, whose network has a NAT64 or none. Each run must end as one that is refused nothing, or tell a
+fault of memory or of the event loop alone. Where the refusal ends its look-up or its attempt, it must say so, and write
+a whole record.
 
 needs: cc
 """
@@ -35,8 +35,8 @@ def is_fault(ran, host):
     return ends(ran, 1, f"he: out of memory: {host}\n", NO_ADDRESS)
 
 
-def walk(server, host, port, is_right, status=0):
-    words = ["connect", "-z", "--record", "-", "--resolver", server.at, host, str(port)]
+def walk(command, server, host, port, is_right, status=0):
+    words = [*command.split(), "--record", "-", "--resolver", server.at, host, str(port)]
     walk_runs(" ".join(words), lambda growth: run_refused([OPTIONS.program, *words], growth),
               lambda ran: is_fault(ran, host) or is_right(ran), status)
 
@@ -51,11 +51,22 @@ def check_embedded():
     with Discovering(WELL_KNOWN) as server, listener_at(AT) as listener:
         accept_all(listener, lambda connection: None)
         for host in (SERVER, "four.test"):
-            walk(server, host, listener.getsockname()[1], is_right)
+            walk("connect -z", server, host, listener.getsockname()[1], is_right)
 
 
 def check_none():
     """A literal, and a name, where the network has no NAT64."""
     with Discovering() as server:
         for host, lack in [(SERVER, ""), ("four.test", "he: four.test has no IPv6 address\n")]:
-            walk(server, host, 443, lambda ran: ends(ran, 3, f"{lack}{NO_NAT64}", NO_ADDRESS), status=3)
+            for command in ("connect -z", "probe"):
+                walk(command, server, host, 443, lambda ran: ends(ran, 3, f"{lack}{NO_NAT64}", NO_ADDRESS), status=3)
+
+
+def check_probed():
+    """A literal, and a name, that are probed through the NAT64. If an attempt is refused its memory, it fails."""
+    with Discovering(WELL_KNOWN) as server, listener_at(AT) as listener:
+        accept_all(listener, lambda connection: None)
+        for host in (SERVER, "four.test"):
+            walk("probe", server, host, listener.getsockname()[1],
+                 lambda ran: ends(ran, 0, "", [*BY_NAT64, rf"^connect {AT} ok \d+$"])
+                 or ends(ran, 3, "", [*BY_NAT64, rf"^connect {AT} fail \d+$"]))
