@@ -1,7 +1,7 @@
 //! The facts of a session that its end doesn't have.
 
 use crate::lost::Lost;
-use he_addr::Ip;
+use he_addr::{Ip, Memory, write_ip};
 use std::alloc::Global;
 use std::cell::Cell;
 use std::mem::drop;
@@ -39,6 +39,27 @@ impl Facts {
             hosts: Vec::new(alloc),
         }
     }
+
+    // Appends what was tried, or why there was nothing to try.
+    fn write_tried(&self, out: &mut Vec<u8>) -> Result<(), Memory> {
+        if self.lost == Some(Lost::Forbidden) {
+            return Ok(());
+        }
+        let mut parting: &[u8] = b": ";
+        for ip in &self.tried {
+            out.extend_from_slice(parting)?;
+            write_ip(*ip, out)?;
+            parting = b", ";
+        }
+        match self.lost.and_then(Lost::nameless) {
+            Some(why) if self.tried.is_empty() => {
+                out.extend_from_slice(b": ")?;
+                out.extend_from_slice(why.as_bytes())?;
+                Ok(())
+            }
+            _ => Ok(()),
+        }
+    }
 }
 
 #[derive(Drop)]
@@ -68,6 +89,22 @@ impl SessionFacts {
         let mut noted = self.noted.replace(Vec::new(self.alloc));
         let _ = noted.push(Noted { client, facts });
         self.noted.set(noted);
+    }
+
+    /// Appends what the lost race of this client tried, or why there was nothing to try: `: 2001:db8::1, 198.51.100.1`,
+    /// `: no such name`. Nothing if the client may not reach its target.
+    ///
+    /// # Errors
+    ///
+    /// `Memory` if an allocation fails; part of it may have been appended.
+    pub fn write_tried(&self, client: SocketAddr, out: &mut Vec<u8>) -> Result<(), Memory> {
+        let noted = self.noted.replace(Vec::new(self.alloc));
+        let written = match noted.iter().position(|one| one.client == client) {
+            Some(place) => noted[place].facts.write_tried(out),
+            None => Ok(()),
+        };
+        self.noted.set(noted);
+        written
     }
 
     /// Takes the facts of this client's session, which has ended.

@@ -20,6 +20,6 @@ mod output;
 pub mod turned;
 
 pub use facts::{Facts, SessionFacts};
-pub use log::{Begun, Log, LogForm, LogOptions};
+pub use log::{Log, LogForm, LogOptions};
 pub use lost::Lost;
 pub use turned::{TURNED_AWAY_SECONDS, TurnedAway};

@@ -12,7 +12,7 @@ use he_front::Ended;
 use he_history::{Cause, stamp_now};
 use he_live::{Endpoint, socket_of};
 use he_print::write_string;
-use he_sessions::{Ending, SessionEnd, Winner};
+use he_sessions::{Ending, RaceAsked, SessionEnd, Winner};
 use std::alloc::Global;
 use std::io::Write;
 use std::net::SocketAddr;
@@ -36,19 +36,6 @@ pub struct LogOptions {
     pub has_begins: bool,
     /// Whether each line begins with its priority, as `<6>` (sd-daemon(3)).
     pub has_priorities: bool,
-}
-
-/// A race that begins, for a log.
-#[derive(Clone, Copy)]
-pub struct Begun<'a> {
-    /// The client's address and port.
-    pub client: SocketAddr,
-    /// The host of its request.
-    pub host: &'a str,
-    /// The port of its request.
-    pub port: u16,
-    /// When the race began, as from `stamp_now`.
-    pub began: &'a str,
 }
 
 /// The log and its output.
@@ -89,11 +76,12 @@ impl<F: Write + Drop> Log<F> {
 
     /// Writes the line of a race that begins, if the log has such lines: `time=2026-11-26T16:34:39.872Z
     /// client=127.0.0.1:53422 host=example.org port=443 begin=2026-11-26T16:34:39.871Z`, or an object with these
-    /// members. It has no `end`, and its `begin` is the `start` of the session's line.
-    pub fn tell_begun<R: Clock>(&self, rt: &R, begun: Begun<'_>) {
+    /// members. It has no `end`, and its `begin` is the `start` of the session's line. `began`: when the race began,
+    /// as from `stamp_now`.
+    pub fn tell_begun<R: Clock>(&self, rt: &R, asked: &RaceAsked<'_>, began: &str) {
         if self.has_begins
             && let Some(line) = self.begin_line(rt)
-            && let Ok(line) = line_of_begun(self.alloc, begun, line)
+            && let Ok(line) = line_of_begun(self.alloc, asked, began, line)
         {
             self.out.write(Level::Info, line.as_slice());
         }
@@ -224,9 +212,7 @@ fn line_of(
     mut line: Line,
 ) -> Result<Vec<u8>, Memory> {
     line.put_client(alloc, end.client)?;
-    if let Some(user) = end.user {
-        line.put_octets(alloc, "user", user)?;
-    }
+    line.put_some(alloc, "user", end.user)?;
     line.put_text("host", end.host.as_bytes())?;
     line.put_number("port", u64::from(end.port))?;
     if let Some(request) = end.request {
@@ -250,11 +236,18 @@ fn line_of(
     line.finish()
 }
 
-fn line_of_begun(alloc: Global, begun: Begun<'_>, mut line: Line) -> Result<Vec<u8>, Memory> {
-    line.put_client(alloc, begun.client)?;
-    line.put_text("host", begun.host.as_bytes())?;
-    line.put_number("port", u64::from(begun.port))?;
-    line.put_text("begin", begun.began.as_bytes())?;
+fn line_of_begun(
+    alloc: Global,
+    asked: &RaceAsked<'_>,
+    began: &str,
+    mut line: Line,
+) -> Result<Vec<u8>, Memory> {
+    line.put_client(alloc, asked.client)?;
+    line.put_some(alloc, "user", asked.user)?;
+    line.put_text("host", asked.host.as_bytes())?;
+    line.put_number("port", u64::from(asked.port))?;
+    line.put_some(alloc, "method", asked.method)?;
+    line.put_text("begin", began.as_bytes())?;
     line.finish()
 }
 
@@ -281,6 +274,14 @@ impl Line {
         // An IPv4 client of an IPv6 socket is shown with its IPv4 address.
         let client = SocketAddr::new(client.ip().to_canonical(), client.port());
         self.put_text("client", format!(in alloc; "{client}")?.as_bytes())
+    }
+
+    // The octets, if there are any.
+    fn put_some(&mut self, alloc: Global, name: &str, octets: Option<&[u8]>) -> Result<(), Memory> {
+        match octets {
+            Some(octets) => self.put_octets(alloc, name, octets),
+            None => Ok(()),
+        }
     }
 
     // Octets of a request as UTF-8 text, whatever they are.

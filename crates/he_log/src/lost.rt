@@ -91,6 +91,19 @@ impl Lost {
         }
     }
 
+    /// Why a look-up has no address, for people. `None` if a look-up is not the cause.
+    pub fn nameless(self) -> Option<&'static str> {
+        Some(match self {
+            Lost::NotAName => "not a host name",
+            Lost::NoSuchName => "no such name",
+            Lost::NoAddress => "the name has no address",
+            Lost::NoAnswer => "no name server answered",
+            Lost::DnsRefused => "a name server refused to answer",
+            Lost::DnsFailed => "the name servers failed",
+            _ => return None,
+        })
+    }
+
     /// The word in the log.
     pub fn word(self) -> &'static str {
         match self {

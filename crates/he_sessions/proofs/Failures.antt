@@ -2,7 +2,7 @@
 use Rattle.std.proofs.Common.{◌≡◌, refl}
 use Rattle.he_front.specs.declared.replies.Ended.{Ended}
 use Rattle.he_front.specs.declared.replies.Ended.TheVariants as ends
-use Rattle.he_sessions.specs.Asks.{IsFailure}
+use Rattle.he_handshake.specs.Asks.{IsFailure}
 
 pub not_connected : (ended : Ended) → (ended ≡ ends.Connected → ⊥) → IsFailure ended
 not_connected ends.Connected other = other refl

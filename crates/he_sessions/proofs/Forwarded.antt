@@ -31,8 +31,8 @@ use Rattle.he_sessions.specs.Sessions.{HasAsked}
 use Rattle.he_sessions.specs.Talks.{Talks}
 use Rattle.he_sessions.specs.Went.{Lingers, Went, nothing, read, wrote}
 use Rattle.he_sessions.specs.Won.{IsWon}
-use Rattle.he_sessions.specs.declared.asking.Outgoing.{Outgoing}
-use Rattle.he_sessions.specs.declared.asking.Wanted.TheVariants.{Response}
+use Rattle.he_handshake.specs.declared.asking.Outgoing.{Outgoing}
+use Rattle.he_handshake.specs.declared.asking.Wanted.TheVariants.{Response}
 use Rattle.he_sessions.specs.declared.racer.Winner.{Winner}
 use Rattle.he_sessions.specs.declared.racer.Won.{Won}
 use Rattle.he_sessions.specs.declared.states.Forwarding.{Forwarding}

@@ -1,7 +1,7 @@
 -- How a session goes from one state to the next.
 use Rattle.std.proofs.Common.{◌≡◌, ℕ, List, [], ◌++◌, take, drop, refl, sym, ap, ◌∙◌, subst, inr, arith, append_assoc, append-nil}
 use Rattle.std.proofs.lemmas.List.{take-append-drop}
-use Rattle.std.specs.Prelude.{Option, Result}
+use Rattle.std.specs.Prelude.{Option, Some, Result, Err}
 use Rattle.std.specs.declared.alloc.Global.{Global}
 use Rattle.std.specs.declared.net.socket_addr.SocketAddr.{SocketAddr}
 use Rattle.tokio.specs.Io.Moved.{Passes}
@@ -15,18 +15,18 @@ use Rattle.he_relay.specs.declared.sockets.Cut.{Cut}
 use Rattle.he_relay.specs.declared.tunnel.Tunnel.{Tunnel}
 use Rattle.he_users.specs.declared.users.Users.{Users}
 use Rattle.he_sessions.proofs.Talking.{talks_as, talks_heard, talks_more, talks_written}
-use Rattle.he_sessions.specs.Asks.{IsFailure, greets, protocol_of}
+use Rattle.he_handshake.specs.Asks.{IsFailure, greets, protocol_of}
 use Rattle.he_sessions.specs.Follows.{Follows}
-use Rattle.he_sessions.specs.Replies.{IsReply}
+use Rattle.he_handshake.specs.Replies.{IsReply}
 use Rattle.he_sessions.specs.Sessions.{HasAsked, IsAnswering, IsAsking, IsAt, IsClosing, IsLast, IsRelaying, IsStep, MayAnswer}
-use Rattle.he_sessions.specs.Talks.{HasGreeted, Talks, welcome}
+use Rattle.he_sessions.specs.Talks.{HasGreeted, IsRefused, Talks, welcome}
 use Rattle.he_sessions.specs.Went.{Hears, Lingers, Went, nothing, read, wrote}
-use Rattle.he_sessions.specs.declared.asking.Ask.TheVariants as asks
-use Rattle.he_sessions.specs.declared.asking.Protocol.{Protocol}
-use Rattle.he_sessions.specs.declared.asking.Protocol.TheVariants as protocols
-use Rattle.he_sessions.specs.declared.asking.Stage.{Stage}
-use Rattle.he_sessions.specs.declared.asking.Stage.TheVariants as stages
-use Rattle.he_sessions.specs.declared.asking.Wanted.{Wanted}
+use Rattle.he_handshake.specs.declared.asking.Ask.TheVariants as asks
+use Rattle.he_handshake.specs.declared.asking.Protocol.{Protocol}
+use Rattle.he_handshake.specs.declared.asking.Protocol.TheVariants as protocols
+use Rattle.he_handshake.specs.declared.asking.Stage.{Stage}
+use Rattle.he_handshake.specs.declared.asking.Stage.TheVariants as stages
+use Rattle.he_handshake.specs.declared.asking.Wanted.{Wanted}
 use Rattle.he_sessions.specs.declared.ending.Ending.{Ending}
 use Rattle.he_sessions.specs.declared.ending.Ending.TheVariants as endings
 use Rattle.he_sessions.specs.declared.racer.Racer.{Ghosts as RacerOf}
@@ -49,23 +49,25 @@ pub served : {Q : Type 0} (serves : Q → SocketAddr → Type 0) (old new : Aske
 served {Q} serves old new same is = subst (λ (a : Asker Q). serves a.racer.now a.address) (sym same) is
 
 -- a refusal after what the client was told before
-pub refused_last : (protocol : Protocol) (ended : Ended) (reply said : List ℕ) → IsFailure ended → IsReply protocol ended reply
-    → IsLast endings.Refused said (welcome (greets protocol) ++ reply)
-refused_last protocol ended reply said failure is = inr (inr (record {
-  protocol = protocol;
-  ended = ended;
-  failure = failure;
-  told_of = record { reply = reply; replied = is; whole = refl };
-}))
+pub refused_last : (users : Users) (protocol : Protocol) (ended : Ended) (reply said : List ℕ) → IsFailure ended → IsReply protocol ended reply
+    → IsLast users (Some (Err ended)) endings.Refused said (welcome (greets protocol) ++ reply)
+refused_last users protocol ended reply said failure is = (
+  ended,
+  refl,
+  inr (inr (record {
+    protocol = protocol;
+    failure = failure;
+    told_of = record { reply = reply; replied = is; whole = refl };
+  })),
+)
 
 -- that the server gave no response
-pub no_response_last : (reply said : List ℕ) → IsReply protocols.Http ends.Refused reply → IsLast endings.NoResponse said ([] ++ reply)
-no_response_last reply said is = inr (inr (record {
+pub no_response_last : (reply : List ℕ) → IsReply protocols.Http ends.Refused reply → IsRefused ends.Refused ([] ++ reply)
+no_response_last reply is = record {
   protocol = protocols.Http;
-  ended = ends.Refused;
   failure = tt;
   told_of = record { reply = reply; replied = is; whole = refl };
-}))
+}
 
 module _ {K Q S F P : Type 0} (racer : RacerOf Q S F P) (race : FutureOf F (Result (Won S) Ended)) (reads writes : Passes S) (cuts : S → Cut → Type 0) where
   -- two steps, one after the other
@@ -152,23 +154,24 @@ module _ {S : Type 0} (reads writes : Passes S) (first : S) where
   }
 
   -- its way was ended, and it said more
-  pub is_lingering : (old new : Closing S) → old.how ≡ new.how → old.reply.items ≡ new.reply.items
-      → Lingers reads writes old.client new.client → IsClosing reads writes first old → IsClosing reads writes first new
-  is_lingering old new how reply (between, ended, (octets, given)) at = record {
+  pub is_lingering : (users : Users) (result : Option (Result Winner Ended)) (old new : Closing S) → old.how ≡ new.how
+      → old.reply.items ≡ new.reply.items → Lingers reads writes old.client new.client
+      → IsClosing reads writes first users result old → IsClosing reads writes first users result new
+  is_lingering users result old new how reply (between, ended, (octets, given)) at = record {
     asks = at.asks;
     later = at.later ++ octets;
     told = at.told;
-    last = subst (λ (e : Ending). IsLast e at.asks at.told) how at.last;
+    last = subst (λ (e : Ending). IsLast users result e at.asks at.told) how at.last;
     talks = talks_heard reads writes first at.asks at.later (at.later ++ octets) between new.client _ _ (octets, given, refl)
         (talks_as reads writes first _ _ _ _ _ _ _ _ refl refl reply refl
         (talks_written reads writes first _ _ _ _ _ _ ([], ended, refl) at.talks));
   }
 
   -- the client is told last of all
-  pub is_closed : (client : S) (said told reply : List ℕ) (closing : Closing S) → closing.client ≡ client → closing.reply.items ≡ reply
-      → Talks reads writes first said client [] told → IsLast closing.how said (told ++ reply)
-      → IsClosing reads writes first closing
-  is_closed client said told reply closing same_client same_reply talks last = record {
+  pub is_closed : (users : Users) (result : Option (Result Winner Ended)) (client : S) (said told reply : List ℕ) (closing : Closing S)
+      → closing.client ≡ client → closing.reply.items ≡ reply → Talks reads writes first said client [] told
+      → IsLast users result closing.how said (told ++ reply) → IsClosing reads writes first users result closing
+  is_closed users result client said told reply closing same_client same_reply talks last = record {
     asks = said;
     later = [];
     told = told ++ reply;

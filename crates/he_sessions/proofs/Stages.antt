@@ -6,12 +6,13 @@ use Rattle.he_front.specs.declared.socks.Method.{Method}
 use Rattle.he_front.specs.declared.socks.Method.TheVariants as ways
 use Rattle.he_users.specs.declared.users.Users.{Users}
 use Rattle.he_sessions.proofs.Talking.{talks_as, talks_more}
-use Rattle.he_sessions.specs.Asks.{LeadsTo, method_of, stage_by}
+use Rattle.he_handshake.specs.Asks.{LeadsTo, method_of, stage_by}
+use Rattle.he_handshake.specs.Replies.{step_reply}
 use Rattle.he_sessions.specs.Sessions.{IsAdvanced, IsAsking, MayAnswer}
-use Rattle.he_sessions.specs.Talks.{HasGreeted, Talks, step_reply, welcome}
-use Rattle.he_sessions.specs.declared.asking.Ask.TheVariants as asks
-use Rattle.he_sessions.specs.declared.asking.Stage.{Stage}
-use Rattle.he_sessions.specs.declared.asking.Stage.TheVariants as stages
+use Rattle.he_sessions.specs.Talks.{HasGreeted, Talks, welcome}
+use Rattle.he_handshake.specs.declared.asking.Ask.TheVariants as asks
+use Rattle.he_handshake.specs.declared.asking.Stage.{Stage}
+use Rattle.he_handshake.specs.declared.asking.Stage.TheVariants as stages
 use Rattle.he_sessions.specs.declared.states.Asking.{Asking}
 
 -- the answer to a greeting leads neither back nor past the password

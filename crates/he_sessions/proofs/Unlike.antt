@@ -6,11 +6,12 @@ use Rattle.he_front.specs.Responses.{head_text, response_text, status_text}
 use Rattle.he_front.specs.declared.replies.Ended.{Ended}
 use Rattle.he_front.specs.declared.replies.Ended.TheVariants as ends
 use Rattle.he_front.specs.declared.socks.Method.TheVariants as ways
-use Rattle.he_sessions.specs.Asks.{IsFailure}
+use Rattle.he_users.specs.declared.users.Users.{Users}
+use Rattle.he_handshake.specs.Asks.{IsFailure}
 use Rattle.he_sessions.specs.Laws.{NoRefusalSucceeds}
 use Rattle.he_sessions.specs.Talks.{IsToldOf, IsTurnedAway}
-use Rattle.he_sessions.specs.declared.asking.Protocol.{Protocol}
-use Rattle.he_sessions.specs.declared.asking.Protocol.TheVariants as protocols
+use Rattle.he_handshake.specs.declared.asking.Protocol.{Protocol}
+use Rattle.he_handshake.specs.declared.asking.Protocol.TheVariants as protocols
 
 -- the octet at this place
 abbrev at : List ℕ → ℕ → ℕ
@@ -132,11 +133,11 @@ no_user told is (inr (inl (first, second, fourth, sixth))) = let e : ◌≡◌ {
 no_user told is (inr (inr (inl (first, status)))) = let e : ◌≡◌ {A = ℕ} 5 72 = sym (ap (λ xs. at xs 0) is) ∙ first in omega arith
 no_user told is (inr (inr (inr (first, code)))) = let e : ◌≡◌ {A = ℕ} 5 0 = sym (ap (λ xs. at xs 0) is) ∙ first in omega arith
 
-unlike : (refused : List ℕ) → IsTurnedAway refused → Succeeds refused → ⊥
-unlike refused (inl none) success = no_method refused none success
-unlike refused (inr (inl none)) success = no_user refused none success
-unlike refused (inr (inr is)) success = fails is.protocol is.ended refused is.failure is.told_of success
+unlike : (users : Users) (ended : Ended) (refused : List ℕ) → IsTurnedAway users ended refused → Succeeds refused → ⊥
+unlike users ended refused (inl none) success = no_method refused none.0 success
+unlike users ended refused (inr (inl none)) success = no_user refused none.0 success
+unlike users ended refused (inr (inr is)) success = fails is.protocol ended refused is.failure is.told_of success
 
 pub no_refusal_succeeds : NoRefusalSucceeds
-no_refusal_succeeds users refused asked asks told more away opened same =
-    unlike refused away (rw same (succeeds opened.protocol told more opened.told_of))
+no_refusal_succeeds users ended refused asked asks told more away opened same =
+    unlike users ended refused away (rw same (succeeds opened.protocol told more opened.told_of))

@@ -20,8 +20,8 @@ use Rattle.he_users.specs.declared.users.Users.{Users}
 use Rattle.he_sessions.specs.Talks.{AsksBy, Talks}
 use Rattle.he_sessions.specs.Went.{Went}
 use Rattle.he_sessions.specs.Won.{IsWon}
-use Rattle.he_sessions.specs.declared.asking.Outgoing.{Outgoing}
-use Rattle.he_sessions.specs.declared.asking.Wanted.TheVariants.{Response}
+use Rattle.he_handshake.specs.declared.asking.Outgoing.{Outgoing}
+use Rattle.he_handshake.specs.declared.asking.Wanted.TheVariants.{Response}
 use Rattle.he_sessions.specs.declared.racer.Winner.{Winner}
 use Rattle.he_sessions.specs.declared.racer.Won.{Won}
 use Rattle.he_sessions.specs.declared.states.Parting.{Parting}

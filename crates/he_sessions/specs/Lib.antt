@@ -1,8 +1,6 @@
-pub mod Asks
 pub mod Follows
 pub mod Forwarding
 pub mod Laws
-pub mod Replies
 pub mod Sessions
 pub mod Talks
 pub mod Went

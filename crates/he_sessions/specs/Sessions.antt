@@ -1,5 +1,5 @@
 -- The progress of a session: the octets its client has sent and was sent, and the result of its race.
-use Rattle.std.specs.Prelude.{◌≡◌, ◌⊎◌, ℕ, ⊤, List, [], ◌++◌, Option, Result, drop, string_bytes}
+use Rattle.std.specs.Prelude.{◌≡◌, ◌⊎◌, ℕ, ⊤, List, [], ◌++◌, Option, Some, Result, Err, drop, string_bytes}
 use Rattle.std.specs.declared.alloc.Global.{Global}
 use Rattle.tokio.specs.Io.Moved.{Passes}
 use Rattle.futures.specs.Task.{IsArmed, Keeps}
@@ -8,6 +8,7 @@ use Rattle.futures.specs.declared.task.context.Context.{Context}
 use Rattle.httparse.specs.declared.spans.Span.{Span}
 use Rattle.he_front.specs.declared.asked.Asked.{Asked}
 use Rattle.he_front.specs.declared.replies.Ended.{Ended}
+use Rattle.he_front.specs.declared.replies.Ended.TheVariants as ends
 use Rattle.he_bounded.specs.declared.bounded.Bounded.{Bounded}
 use Rattle.he_relay.specs.Ways.{held}
 use Rattle.he_relay.specs.declared.sockets.Cut.{Cut}
@@ -16,16 +17,17 @@ use Rattle.he_relay.specs.declared.tunnel.Broke.TheVariants as brokes
 use Rattle.he_relay.specs.declared.tunnel.Tunnel.{Tunnel}
 use Rattle.he_response.specs.declared.returned.Returned.{Returned}
 use Rattle.he_users.specs.declared.users.Users.{Users}
-use Rattle.he_sessions.specs.Asks.{Asks, AsksPage, greets, protocol_of}
+use Rattle.he_handshake.specs.Asks.{Asks, AsksPage, greets, protocol_of}
+use Rattle.he_handshake.specs.Replies.{step_reply}
 use Rattle.he_sessions.specs.Follows.{Follows}
 use Rattle.he_sessions.specs.Forwarding.{IsForwarding, IsParting}
-use Rattle.he_sessions.specs.Talks.{AsksBy, HasGreeted, IsOpened, IsTurnedAway, Talks, step_reply, welcome}
+use Rattle.he_sessions.specs.Talks.{AsksBy, HasGreeted, IsOpened, IsRefused, IsTurnedAway, Talks, welcome}
 use Rattle.he_sessions.specs.Went.{Went}
 use Rattle.he_sessions.specs.Won.{IsWon}
-use Rattle.he_sessions.specs.declared.asking.Ask.{Ask}
-use Rattle.he_sessions.specs.declared.asking.Extent.{Extent}
-use Rattle.he_sessions.specs.declared.asking.Stage.{Stage}
-use Rattle.he_sessions.specs.declared.asking.Wanted.{Wanted}
+use Rattle.he_handshake.specs.declared.asking.Ask.{Ask}
+use Rattle.he_handshake.specs.declared.asking.Extent.{Extent}
+use Rattle.he_handshake.specs.declared.asking.Stage.{Stage}
+use Rattle.he_handshake.specs.declared.asking.Wanted.{Wanted}
 use Rattle.he_sessions.specs.declared.ending.Ending.{Ending}
 use Rattle.he_sessions.specs.declared.ending.Ending.TheVariants as endings
 use Rattle.he_sessions.specs.declared.racer.Racer.{Ghosts as RacerOf}
@@ -59,11 +61,15 @@ pub record IsAdvanced {S : Type 0} (next : Stage) (len : ℕ) (old new : Asking 
   pub stage : new.stage ≡ next
   pub reply : new.reply.items ≡ step_reply next
 
--- everything sent to a client with these octets that gets no tunnel: a page that it asked for, or a refusal
-abbrev pub IsLast : Ending → List ℕ → List ℕ → Type 0
-IsLast endings.Page said told =
+-- everything sent to a client with these octets that gets no tunnel: a page that it asked for; that its server gave no
+-- response; or a refusal, by an end that is the session's result, for the log
+abbrev pub IsLast : Users → Option (Result Winner Ended) → Ending → List ℕ → List ℕ → Type 0
+IsLast users result endings.Page said told =
     (extent : Extent) × (path : Span) × (host : Option Span) × AsksPage said extent path host
-IsLast _ said told = IsTurnedAway told
+IsLast users result endings.NoResponse said told = IsRefused ends.Refused told
+IsLast users result endings.Refused said told =
+    (ended : Ended) × (result ≡ Some (Err ended)) × IsTurnedAway users ended told
+IsLast users result _ said told = ⊥
 
 module _ {S : Type 0} (reads writes : Passes S) (first : S) where
   -- it has sent what leads to its stage, and the octets that have come, and is sent only the answers that lead there
@@ -107,11 +113,11 @@ module _ {S : Type 0} (reads writes : Passes S) (first : S) where
     pub server : Went reads writes won.stream (received ++ held tunnel.back) sent tunnel.server
 
   -- after its request, it is sent the final reply why there is no tunnel, or a page
-  pub record IsClosing (closing : Closing S) : Type 0 where
+  pub record IsClosing (users : Users) (result : Option (Result Winner Ended)) (closing : Closing S) : Type 0 where
     pub asks : List ℕ
     pub later : List ℕ
     pub told : List ℕ
-    pub last : IsLast closing.how asks told
+    pub last : IsLast users result closing.how asks told
     pub talks : Talks reads writes first (asks ++ later) closing.client closing.reply.items told
 
   -- a tunnel was open between these two
@@ -153,7 +159,8 @@ module _ {K Q S F P : Type 0} (racer : RacerOf Q S F P) (race : FutureOf F (Resu
       IsRacing reads writes first race (users_of session) (MayEnd session) session.asked racing
   IsAt first session (states.Answering answering) =
       IsAnswering reads writes first (users_of session) (MayEnd session) session.asked session.result answering
-  IsAt first session (states.Closing closing) = IsClosing reads writes first closing
+  IsAt first session (states.Closing closing) =
+      IsClosing reads writes first (users_of session) session.result closing
   IsAt first session (states.Relaying relaying) =
       IsRelaying reads writes first (users_of session) (MayEnd session) session.asked session.result relaying.tunnel
   IsAt first session (states.Forwarding forwarding) =

@@ -6,14 +6,14 @@ use Rattle.he_front.specs.declared.asked.Asked.{Asked}
 use Rattle.he_front.specs.declared.replies.Ended.{Ended}
 use Rattle.he_front.specs.declared.replies.Ended.TheVariants as ends
 use Rattle.he_users.specs.declared.users.Users.{Users}
-use Rattle.he_sessions.specs.Asks.{AsksServer, IsAdmitted, IsFailure, LeadsTo, greets, protocol_of}
-use Rattle.he_sessions.specs.Replies.{IsReply}
+use Rattle.he_handshake.specs.Asks.{AsksServer, IsAdmitted, IsFailure, LeadsTo, ended_without_method, greets, protocol_of}
+use Rattle.he_handshake.specs.Replies.{IsReply}
 use Rattle.he_sessions.specs.Went.{Went}
-use Rattle.he_sessions.specs.declared.asking.Protocol.{Protocol}
-use Rattle.he_sessions.specs.declared.asking.Stage.{Stage}
-use Rattle.he_sessions.specs.declared.asking.Stage.TheVariants as stages
-use Rattle.he_sessions.specs.declared.asking.Wanted.{Wanted}
-use Rattle.he_sessions.specs.declared.asking.Wanted.TheVariants as wanteds
+use Rattle.he_handshake.specs.declared.asking.Protocol.{Protocol}
+use Rattle.he_handshake.specs.declared.asking.Stage.{Stage}
+use Rattle.he_handshake.specs.declared.asking.Stage.TheVariants as stages
+use Rattle.he_handshake.specs.declared.asking.Wanted.{Wanted}
+use Rattle.he_handshake.specs.declared.asking.Wanted.TheVariants as wanteds
 
 -- Since the client was accepted, as `first`, it has sent `said`; of `all` that it is sent, `rest` is not written yet.
 pub record Talks {S : Type 0} (reads writes : Passes S) (first : S) (said : List ℕ) (client : S) (rest all : List ℕ) : Type 0 where
@@ -41,14 +41,6 @@ HasGreeted users stages.Admitted octets =
     × IsFront (λ come len. LeadsTo users stages.New come stages.Authenticating len) greeting
     × IsFront (λ come len. LeadsTo users stages.Authenticating come stages.Admitted len) message
     × (octets ≡ greeting ++ message)
-
--- the answer that leads to this stage: no authentication, or name and password (RFC 1928 section 3); success (RFC 1929
--- section 2)
-abbrev pub step_reply : Stage → List ℕ
-step_reply stages.New = []
-step_reply stages.Greeted = 5 ∷ 0 ∷ []
-step_reply stages.Authenticating = 5 ∷ 2 ∷ []
-step_reply stages.Admitted = 1 ∷ 0 ∷ []
 
 -- all answers to a client before it came to this stage
 abbrev pub welcome : Stage → List ℕ
@@ -79,14 +71,16 @@ pub record IsOpened (users : Users) (asked : Asked Global) (asks told : List ℕ
   pub asks_by : AsksBy users (wanteds.Tunnel protocol) asked asks
   pub told_of : IsToldOf protocol ends.Connected told
 
--- it is sent a failure
-pub record IsRefused (told : List ℕ) : Type 0 where
+-- it is sent this failure
+pub record IsRefused (ended : Ended) (told : List ℕ) : Type 0 where
   pub protocol : Protocol
-  pub ended : Ended
   pub failure : IsFailure ended
   pub told_of : IsToldOf protocol ended told
 
--- it is sent that no method of its greeting is acceptable (RFC 1928 section 3); that its name and password are those
--- of no user (RFC 1929 section 2); or a failure
-abbrev pub IsTurnedAway : List ℕ → Type 0
-IsTurnedAway told = (told ≡ 5 ∷ 255 ∷ []) ⊎ (told ≡ 5 ∷ 2 ∷ 1 ∷ 1 ∷ []) ⊎ IsRefused told
+-- The end of its request, and all that it is sent: that no method of its greeting is acceptable (RFC 1928 section 3);
+-- that its name and password are those of no user (RFC 1929 section 2); or the failure.
+abbrev pub IsTurnedAway : Users → Ended → List ℕ → Type 0
+IsTurnedAway users ended told =
+    ((told ≡ 5 ∷ 255 ∷ []) × (ended ≡ ended_without_method users))
+    ⊎ ((told ≡ 5 ∷ 2 ∷ 1 ∷ 1 ∷ []) × (ended ≡ ends.NoUser))
+    ⊎ IsRefused ended told

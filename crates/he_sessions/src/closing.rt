@@ -1,17 +1,16 @@
 //! The session's steps that send a final reply: why there is no tunnel, or a page.
-ghost use Rattle.std.specs.Prelude.{◌≡◌, ℕ, List, [], ◌++◌};
-ghost use Rattle.he_sessions.specs.Asks.{IsFailure, greets};
+ghost use Rattle.std.specs.Prelude.{◌≡◌, ℕ, IfOk, List, [], ◌++◌};
+ghost use Rattle.he_handshake.specs.Asks.{IsFailure, greets};
+ghost use Rattle.he_handshake.specs.Replies.{IsReply};
 ghost use Rattle.he_sessions.specs.Follows.{come_to};
 ghost use Rattle.he_sessions.specs.Sessions.{IsAt, IsLast, IsNext, IsPolled, IsStep, TellsOn};
 ghost use Rattle.he_sessions.specs.Talks.{Talks, welcome};
 ghost use Rattle.he_sessions.specs.declared.session.Next.{Next};
 
-use crate::asking::Protocol;
 use crate::ending::Ending;
 use crate::hearing::poll_linger;
 use crate::racer::Racer;
-use crate::reply::failure;
-use crate::session::{Next, Session};
+use crate::session::{Asker, Next, Session};
 use crate::states::{Closing, State};
 use crate::timing::restart;
 use bytes::BytesMut;
@@ -19,10 +18,12 @@ use futures::Future;
 use futures::task::{Context, Poll};
 use he_addr::Memory;
 use he_front::Ended;
+use he_handshake::{Protocol, http_reply, reason_of, reply_to};
 use std::time::Clock;
 use tokio::io::poll_write_all_buf;
 
 impl<'q, K: Clock, Q: Racer> Session<'q, K, Q> {
+    // Sends the client why it gets no connection. The log gets that too.
     pub(crate) fn refuse(&mut self, client: Q::Stream, protocol: Protocol, ended: Ended) -> Next
         requires failure { IsFailure ended }
         requires over { self.old.state ≡ State.Over }
@@ -31,16 +32,33 @@ impl<'q, K: Clock, Q: Racer> Session<'q, K, Q> {
         ensures next { IsNext self.old self.new }
         ensures on { result ≡ Next.Waits → ⊥ }
     {
-        match failure(self.alloc, protocol, ended) {
+        self.result = Some(Err(ended));
+        match self.refusal(protocol, ended) {
             Ok(reply) => self.close(client, reply, Ending::Refused),
             Err(Memory) => Next::Ends(Ending::Failed),
+        }
+    }
+
+    // The reply that says why there is no connection; by HTTP also what was tried.
+    fn refusal(&self, protocol: Protocol, ended: Ended) -> Result<BytesMut, Memory>
+        ensures { IfOk result (λ reply. IsReply protocol ended reply.items) }
+    {
+        let Asker { racer, address } = self.asker;
+        match protocol {
+            Protocol::Http => {
+                let mut reason = Vec::from_slice(self.alloc, reason_of(ended).as_bytes())?;
+                racer.write_tried(address, &mut reason)?;
+                http_reply(self.alloc, ended, &reason)
+            }
+            _ => reply_to(self.alloc, protocol, ended),
         }
     }
 
     // Writes this final reply.
     pub(crate) fn close(&mut self, client: Q::Stream, reply: BytesMut, how: Ending) -> Next
         ensures told { (first : Q.Stream) (said told : List ℕ)
-            → Talks Q.Stream.reads Q.Stream.writes first said client [] told → IsLast how said (told ++ reply.items)
+            → Talks Q.Stream.reads Q.Stream.writes first said client [] told
+            → IsLast (Q.all_users self.old.asker.racer.now) self.old.result how said (told ++ reply.items)
             → IsAt Q.Racer Q.Race.Future Q.Stream.reads Q.Stream.writes Q.Stream.cuts first self.new
             self.new.state }
         ensures next { IsNext self.old self.new }

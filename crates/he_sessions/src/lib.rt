@@ -26,9 +26,9 @@
 //!   its request, and what came after these; it was sent the answer to its greeting and a part of one reply.
 //!   `Session::new` begins like this, and `Session::poll` keeps it (`IsStep`).
 //! - A race is begun only for the host and port that the client's octets name, as `he_front` and `he_forward` define
-//!   it (`AsksServer` in `specs/Asks`), and for this client.
+//!   it (`AsksServer` of he_handshake), and for this client.
 //! - With users, a race is begun only for a client whose octets have the name and the password of one of them: in the
-//!   message before a request of SOCKS 5 (`LeadsTo` in `specs/Asks`), which is answered by success only then, or in
+//!   message before a request of SOCKS 5 (`LeadsTo` of he_handshake), which is answered by success only then, or in
 //!   the head of a request of HTTP (`IsAdmitted`). Without users nobody is asked for a password.
 //! - Success is sent to the client only if such a race gave a connection, and once. From then on, the client is
 //!   written that connection's octets, in order, none twice and none left out except those held for it; that
@@ -40,8 +40,9 @@
 //!   that comes after it; and it ends in order only where it is whole or ends with the connection (`IsForwarding` in
 //!   `specs/Forwarding`).
 //! - A client without a server is sent the reason, by its protocol's reply for an end other than a connection
-//!   (`IsTurnedAway` in `specs/Talks`, `IsReply` in `specs/Replies`), whatever the racer returns, or a page that it
-//!   requested by GET or HEAD. No such reply begins with a success ([`laws::no_refusal_succeeds`]).
+//!   (`IsTurnedAway` in `specs/Talks`, `IsReply` of he_handshake), whatever the racer returns, or a page that it
+//!   requested by GET or HEAD. No such reply begins with a success ([`laws::no_refusal_succeeds`]). While a refusal is
+//!   sent, the session's result is its reason (`IsLast` in `specs/Sessions`).
 //! - A session never goes back: it reads, races, answers and relays in this order, and a client that was sent a
 //!   success or a response, even in part, is sent no failure (`Follows` in `specs/Follows`, `IsClosing` in
 //!   `specs/Sessions`).
@@ -54,8 +55,6 @@
 //! each session is reported once, and its counts.
 #![tactic(auto)]
 
-mod admitting;
-pub mod asking;
 mod closing;
 pub mod connection;
 pub mod ending;
@@ -65,7 +64,6 @@ pub mod laws;
 mod pages;
 pub mod racer;
 mod races;
-mod reply;
 mod requests;
 pub mod session;
 pub mod states;
@@ -74,5 +72,5 @@ mod tunnels;
 
 pub use connection::Connection;
 pub use ending::{Ending, SessionEnd};
-pub use racer::{PageAsked, Place, Racer, Winner, Won};
+pub use racer::{PageAsked, Place, RaceAsked, Racer, Winner, Won};
 pub use session::{Limits, Session};

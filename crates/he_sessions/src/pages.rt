@@ -1,8 +1,8 @@
 // The racer's pages.
 
-use crate::asking::Extent;
 use crate::racer::{PageAsked, Racer};
 use he_addr::Memory;
+use he_handshake::Extent;
 use std::alloc::Global;
 
 // The response to a request for a page.

@@ -36,6 +36,21 @@ pub struct Won<S> {
     pub winner: Winner,
 }
 
+/// A request for a connection.
+#[derive(Clone, Copy, Debug, PartialEq, Eq)]
+pub struct RaceAsked<'a> {
+    /// The client's address.
+    pub client: SocketAddr,
+    /// The name of its user, if it gave one: any octets.
+    pub user: Option<&'a [u8]>,
+    /// The method of a request to forward: any octets.
+    pub method: Option<&'a [u8]>,
+    /// The host: an address or a name in text.
+    pub host: &'a str,
+    /// The port.
+    pub port: u16,
+}
+
 /// A request for a page.
 #[derive(Clone, Copy, Debug, PartialEq, Eq)]
 pub struct PageAsked<'a> {
@@ -91,15 +106,15 @@ pub trait Racer {
     /// Those of the clock, and `OutOfMemory`.
     fn place(&self, client: SocketAddr) -> io::Result<Self::Place>;
 
-    /// Begins a race for a connection to the host, an address or a name in text, at the port.
+    /// Begins a race for a connection to the host at the port.
     ///
     /// # Errors
     ///
     /// The end of the session: `Forbidden` if this client may not reach this target, as if that is the proxy itself.
-    fn race(&self, client: SocketAddr, host: &str, port: u16) -> Result<Self::Race, Ended>
+    fn race(&self, asked: &RaceAsked<'_>) -> Result<Self::Race, Ended>
         ensures can { IfOk result Self.Race.can_poll }
-        ensures answers { IfOk result (λ race. (end : Result (Won Self.Stream) Ended)
-            → Self.Race.gives race end → Self.answers self.now client host.now port end) };
+        ensures answers { IfOk result (λ race. (end : Result (Won Self.Stream) Ended) → Self.Race.gives race end
+            → Self.answers self.now asked.now.client asked.now.host.now asked.now.port end) };
 
     /// Writes the whole HTTP response to a GET of a page.
     ///
@@ -107,6 +122,13 @@ pub trait Racer {
     ///
     /// `Memory` if an allocation fails.
     fn page(&self, asked: &PageAsked<'_>, out: &mut Vec<u8>) -> Result<(), Memory>;
+
+    /// Appends, to the reason that the client of a lost race gets as text, what the race tried.
+    ///
+    /// # Errors
+    ///
+    /// `Memory` if an allocation fails.
+    fn write_tried(&self, client: SocketAddr, reason: &mut Vec<u8>) -> Result<(), Memory>;
 
     /// The client of this address has left during its race. The race is polled once more after that, and then
     /// dropped.

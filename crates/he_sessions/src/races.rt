@@ -1,16 +1,15 @@
 //! The session's steps during its race.
 ghost use Rattle.std.specs.Prelude.{◌≡◌, Ok, string_bytes};
 ghost use Rattle.futures.specs.Task.{IsArmed, Keeps};
-ghost use Rattle.he_sessions.specs.Asks.{greets, protocol_of};
+ghost use Rattle.he_handshake.specs.Asks.{IsFailure, greets, protocol_of};
+ghost use Rattle.he_handshake.specs.declared.asking.Wanted.{Wanted};
 ghost use Rattle.he_sessions.specs.Sessions.{HasAsked, IsAt, IsNext, IsPolled, IsStep, MayPoll, TellsOn};
 ghost use Rattle.he_sessions.specs.Talks.{welcome};
 ghost use Rattle.he_sessions.specs.declared.session.Next.{Next};
 
-use crate::asking::{Protocol, Wanted, protocol_of};
 use crate::ending::Ending;
 use crate::hearing::{Heard, poll_hear};
 use crate::racer::{Racer, Won};
-use crate::reply::{failure_of, success};
 use crate::session::{Next, Session};
 use crate::states::{Answering, Racing, State};
 use crate::timing::restart;
@@ -18,6 +17,7 @@ use futures::Future;
 use futures::task::{Context, Poll};
 use he_addr::Memory;
 use he_front::Ended;
+use he_handshake::{Protocol, Wanted, protocol_of, reply_to};
 use std::time::Clock;
 
 // The most octets kept for the server during a race.
@@ -149,7 +149,7 @@ impl<'q, K: Clock, Q: Racer> Session<'q, K, Q> {
         ensures on { result ≡ Next.Waits → ⊥ }
     {
         self.result = Some(Ok(won.winner));
-        match success(self.alloc, protocol) {
+        match reply_to(self.alloc, protocol, Ended::Connected) {
             Ok(reply) => {
                 restart(self.clock, &mut self.sleep, self.limits.request);
                 self.state = State::Answering(Answering {
@@ -172,8 +172,19 @@ impl<'q, K: Clock, Q: Racer> Session<'q, K, Q> {
         ensures next { IsNext self.old self.new }
         ensures on { result ≡ Next.Waits → ⊥ }
     {
-        self.result = Some(Err(ended));
         self.refuse(client, protocol, failure_of(ended))
+    }
+}
+
+// The failure to report for a race that gave no connection.
+#[tactic(auto, using(crate::proofs::Failures::not_connected))]
+fn failure_of(ended: Ended) -> Ended
+    ensures { IsFailure result }
+{
+    if ended == Ended::Connected {
+        Ended::Failed
+    } else {
+        ended
     }
 }
 

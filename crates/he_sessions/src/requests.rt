@@ -2,26 +2,26 @@
 ghost use Rattle.std.specs.Prelude.{◌≡◌, [], IfOk, Result, drop, string_bytes};
 ghost use Rattle.futures.specs.Task.{Keeps};
 ghost use Rattle.he_front.specs.declared.replies.Ended.{Ended};
+ghost use Rattle.he_handshake.specs.declared.asking.Ask.{Ask};
 ghost use Rattle.he_sessions.specs.Sessions.{IsAdvanced, IsPolled, IsStep, MayAnswer};
 ghost use Rattle.he_sessions.specs.declared.session.Next.{Next};
 ghost use Rattle.he_sessions.specs.declared.racer.Won.{Won};
 
-use crate::admitting::user_in;
-use crate::asking::{
-    Ask, Extent, Protocol, Stage, Wanted, piece, protocol_at, protocol_of, read_ask, rest_after,
-};
 use crate::connection::Connection;
 use crate::ending::Ending;
 use crate::hearing::{Heard, poll_hear};
 use crate::pages::page_of;
-use crate::racer::{PageAsked, Place, Racer, Winner};
-use crate::reply::{answer_to, no_method, no_user};
-use crate::session::{Asker, Next, Session};
+use crate::racer::{PageAsked, Place, RaceAsked, Racer};
+use crate::session::{Asker, Next, Session, octets_of};
 use crate::states::{Asking, Racing, State};
 use bytes::BytesMut;
 use futures::task::{Context, Poll};
 use he_addr::Memory;
 use he_front::{Asked, Ended, Read, read_password, request_line};
+use he_handshake::{
+    Ask, Extent, Protocol, Stage, Wanted, answer_to, ended_without_method, no_method, no_user,
+    piece, protocol_at, protocol_of, read_ask, user_in,
+};
 use he_users::Users;
 use httparse::spans::Span;
 use std::alloc::Global;
@@ -136,6 +136,8 @@ impl<'q, K: Clock, Q: Racer> Session<'q, K, Q> {
             (State.Asking asking) self.new }
         ensures on { result ≡ Next.Waits → ⊥ }
     {
+        let ended = ended_without_method(self.asker.racer.users());
+        self.result = Some(Err(ended));
         match no_method(self.alloc) {
             Ok(reply) => self.close(asking.client, reply, Ending::Refused),
             Err(Memory) => Next::Ends(Ending::Failed),
@@ -173,7 +175,6 @@ impl<'q, K: Clock, Q: Racer> Session<'q, K, Q> {
         if protocol == Protocol::Http {
             self.request = Some(come);
         }
-        self.result = noted(ended);
         self.refuse(client, protocol, ended)
     }
 
@@ -219,9 +220,15 @@ impl<'q, K: Clock, Q: Racer> Session<'q, K, Q> {
             Ok(early) => early,
             Err(Memory) => return Err(Ended::Failed),
         };
-        let (host, port) = (self.asked.host.as_str(), self.asked.port);
         let Asker { racer, address } = self.asker;
-        match racer.race(address, host, port) {
+        let asked = RaceAsked {
+            client: address,
+            user: octets_of(&self.user),
+            method: octets_of(&self.request),
+            host: self.asked.host.as_str(),
+            port: self.asked.port,
+        };
+        match racer.race(&asked) {
             Ok(race) => Ok((race, early)),
             Err(ended) => Err(ended),
         }
@@ -270,14 +277,6 @@ fn logged(alloc: Global, wanted: &Wanted, octets: &[u8]) -> Option<Vec<u8>> {
     }
 }
 
-// The log's result of a refused request: only that its client has not shown a user.
-fn noted(ended: Ended) -> Option<Result<Winner, Ended>> {
-    match ended {
-        Ended::NoUser => Some(Err(ended)),
-        _ => None,
-    }
-}
-
 // The name in the message that leads to this stage, if it has one, and there is memory for it.
 fn named(alloc: Global, stage: Stage, octets: &[u8]) -> Option<Vec<u8>> {
     if stage != Stage::Admitted {
@@ -297,6 +296,17 @@ fn or_shown(alloc: Global, users: &Users, name: Option<Vec<u8>>, octets: &[u8]) 
     match user_in(alloc, users, octets) {
         Ok(found) => found,
         Err(Memory) => None,
+    }
+}
+
+// The octets after the first ones.
+fn rest_after(octets: &[u8], len: usize) -> &[u8]
+    ensures { result.now ≡ drop len octets.now }
+{
+    if len <= octets.len() {
+        &octets[len..]
+    } else {
+        &[]
     }
 }
 

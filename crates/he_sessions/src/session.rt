@@ -2,7 +2,6 @@
 ghost use Rattle.std.specs.Prelude.{IfOk};
 ghost use Rattle.he_sessions.specs.Sessions.{IsAt, IsPolled, IsStep, MayPoll};
 
-use crate::asking::Stage;
 use crate::ending::{Ending, SessionEnd};
 use crate::racer::{Racer, Winner};
 use crate::states::{Asking, State};
@@ -10,6 +9,7 @@ use bytes::BytesMut;
 use futures::Future;
 use futures::task::{Context, Poll};
 use he_front::{Asked, Ended, RequestLine, request_line};
+use he_handshake::Stage;
 use std::alloc::Global;
 use std::io;
 use std::mem::replace;
@@ -193,8 +193,8 @@ impl<K: Clock, Q: Racer> Future for Session<'_, K, Q> {
     }
 }
 
-fn octets_of(name: &Option<Vec<u8>>) -> Option<&[u8]> {
-    match name {
+pub(crate) fn octets_of(owned: &Option<Vec<u8>>) -> Option<&[u8]> {
+    match owned {
         Some(octets) => Some(octets.as_slice()),
         None => None,
     }

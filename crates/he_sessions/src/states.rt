@@ -1,10 +1,10 @@
 //! The states of a session.
 
-use crate::asking::{Stage, Wanted};
 use crate::ending::Ending;
 use crate::racer::Won;
 use bytes::BytesMut;
 use he_bounded::Bounded;
+use he_handshake::{Stage, Wanted};
 use he_relay::{Cut, Tunnel};
 use he_response::Returned;
 use std::time::Instant;

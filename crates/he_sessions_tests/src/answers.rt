@@ -133,6 +133,39 @@ fn other_methods_and_versions_are_refused(rt: HostRuntime) -> Result<(), Fail> {
     Ok(())
 }
 
+// Whether a client that sends this is refused, and this is the reason.
+fn is_refused_for<R: Lender + Net<Listener = TcpListener, Stream = TcpStream>>(
+    rt: &R,
+    sends: &[u8],
+    reason: Ended,
+) -> Result<bool, Fail> {
+    let outcome = ask(rt, Course::GoesOn, sends)?;
+    Ok(match outcome.told {
+        Some(told) => told.how == Ending::Refused && told.result == Some(Err(reason)),
+        None => false,
+    })
+}
+
+#[test]
+fn a_refusal_has_its_reason(rt: HostRuntime) -> Result<(), Fail> {
+    // BIND, by SOCKS 5 and SOCKS 4, and another method than CONNECT.
+    let bind = b"\x05\x01\x00\x05\x02\x00\x01\x7f\x00\x00\x01\x00\x50";
+    assert!(rt; is_refused_for(&rt, bind, Ended::Command)?);
+    assert!(rt; is_refused_for(&rt, b"\x04\x02", Ended::Command)?);
+    assert!(rt; is_refused_for(&rt, b"POST / HTTP/1.1\r\n\r\n", Ended::Command)?);
+    // A reserved octet that isn't 0, an unknown type of addresses, no port, and two hosts.
+    assert!(rt; is_refused_for(&rt, b"\x05\x01\x00\x05\x01\x07", Ended::Kind)?);
+    assert!(rt; is_refused_for(&rt, b"\x05\x01\x00\x05\x01\x00\x02", Ended::Kind)?);
+    assert!(rt; is_refused_for(&rt, b"CONNECT a HTTP/1.1\r\n\r\n", Ended::Kind)?);
+    let hosts = b"GET http://a/ HTTP/1.1\r\nHost: a\r\nHost: a\r\n\r\n";
+    assert!(rt; is_refused_for(&rt, hosts, Ended::Kind)?);
+    // A greeting that offers only a password, and a transfer coding before chunked.
+    assert!(rt; is_refused_for(&rt, b"\x05\x01\x02", Ended::Kind)?);
+    let coded = b"POST http://a/ HTTP/1.1\r\nHost: a\r\nTransfer-Encoding: gzip, chunked\r\n\r\n";
+    assert!(rt; is_refused_for(&rt, coded, Ended::Coding)?);
+    Ok(())
+}
+
 #[test]
 fn http_is_answered_by_its_status(rt: HostRuntime) -> Result<(), Fail> {
     assert!(rt;

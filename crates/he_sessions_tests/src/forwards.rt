@@ -144,7 +144,7 @@ fn a_coding_that_is_not_understood_gets_501(rt: HostRuntime) -> Result<(), Fail>
     assert!(rt;
         outcome
             .client_got
-            .ends_with(b" transfer coding but chunked\n")
+            .ends_with(b" transfer coding but chunked: 192.0.2.1\n")
     );
     Ok(())
 }

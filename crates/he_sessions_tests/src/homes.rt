@@ -7,7 +7,9 @@ use futures::future::join3;
 use futures::task::{Context, Poll};
 use he_addr::{Ip, Memory};
 use he_front::Ended;
-use he_sessions::{Ending, Limits, PageAsked, Place, Racer, Session, SessionEnd, Winner, Won};
+use he_sessions::{
+    Ending, Limits, PageAsked, Place, RaceAsked, Racer, Session, SessionEnd, Winner, Won,
+};
 use he_users::{Users, read_users};
 use std::alloc::{AllocGlobal, Global};
 use std::cell::Cell;
@@ -96,6 +98,14 @@ pub struct Told {
     pub has_user: bool,
 }
 
+/// Who asks for a race.
+#[derive(Clone, Copy, PartialEq, Eq)]
+pub struct Who {
+    pub has_user: bool,
+    /// Whether the request to forward has the method GET.
+    pub is_get: bool,
+}
+
 /// Begins the one race that it has, for one target.
 #[derive(Drop)]
 pub struct OneTarget {
@@ -104,6 +114,7 @@ pub struct OneTarget {
     pub users: Users,
     pub is_place_lost: bool,
     pub race: Cell<Option<Result<Race, Ended>>>,
+    pub asked: Cell<Option<Who>>,
     pub told: Cell<Option<Told>>,
 }
 
@@ -152,8 +163,12 @@ impl Racer for OneTarget {
         })
     }
 
-    fn race(&self, _client: SocketAddr, host: &str, port: u16) -> Result<Race, Ended> {
-        if host != self.host || port != self.port {
+    fn race(&self, asked: &RaceAsked<'_>) -> Result<Race, Ended> {
+        self.asked.set(Some(Who {
+            has_user: asked.user.is_some(),
+            is_get: asked.method == Some(b"GET".as_slice()),
+        }));
+        if asked.host != self.host || asked.port != self.port {
             return Err(Ended::Forbidden);
         }
         match self.race.replace(None) {
@@ -166,6 +181,10 @@ impl Racer for OneTarget {
         out.extend_from_slice(asked.path)?;
         out.extend_from_slice(b" at ")?;
         out.extend_from_slice(asked.host.unwrap_or(b"none"))
+    }
+
+    fn write_tried(&self, _client: SocketAddr, reason: &mut Vec<u8>) -> Result<(), Memory> {
+        reason.extend_from_slice(b": 192.0.2.1")
     }
 
     fn left(&self, _client: SocketAddr) {}
@@ -281,6 +300,7 @@ impl Future for Peer {
 pub struct Outcome {
     pub client_got: Vec<u8>,
     pub server_got: Vec<u8>,
+    pub asked: Option<Who>,
     pub told: Option<Told>,
 }
 
@@ -366,6 +386,7 @@ fn run_of_users<R: Lender + Net<Listener = TcpListener, Stream = std::net::TcpSt
         users,
         is_place_lost: course == Course::LosesPlace,
         race: Cell::new(Some(race_of(rt, &handle, course, to_server)?)),
+        asked: Cell::new(None),
         told: Cell::new(None),
     };
     let limits = Limits {
@@ -385,6 +406,7 @@ fn run_of_users<R: Lender + Net<Listener = TcpListener, Stream = std::net::TcpSt
         Ok((client_got, server_got, _)) => Ok(Outcome {
             client_got,
             server_got,
+            asked: racer.asked.get(),
             told: racer.told.get(),
         }),
         Err(_) => Err(io::ErrorKind::TimedOut.into()),

@@ -1,7 +1,8 @@
 // The clients of a proxy with users: by SOCKS 5 as in RFC 1928 and RFC 1929, by HTTP as in RFC 7617. The Base64 texts
 // are those of base64(1).
 
-use crate::homes::{Course, Lender, Outcome, Part, run_of};
+use crate::homes::{Course, Lender, Outcome, Part, Who, run_of};
+use he_front::Ended;
 use he_sessions::Ending;
 use std::io;
 use std::net::{Net, TcpListener, TcpStream};
@@ -37,7 +38,7 @@ fn outcome<R: Lender + Net<Listener = TcpListener, Stream = TcpStream>>(
     run_of(rt, USERS, TARGET, course, [client, server])
 }
 
-// Whether the client is refused and gets this first. A race for it would not end.
+// Whether the client is refused as no user, and gets this first. A race for it would not end.
 fn is_turned_away<R: Lender + Net<Listener = TcpListener, Stream = TcpStream>>(
     rt: &R,
     sends: &[&[u8]],
@@ -45,7 +46,10 @@ fn is_turned_away<R: Lender + Net<Listener = TcpListener, Stream = TcpStream>>(
 ) -> Result<bool, Fail> {
     let outcome = outcome(rt, Course::GoesOn, sends)?;
     let is_refused = match outcome.told {
-        Some(told) => told.how == Ending::Refused && !told.has_user,
+        Some(told) => {
+            let is_no_user = told.result == Some(Err(Ended::NoUser));
+            told.how == Ending::Refused && is_no_user && !told.has_user
+        }
         None => false,
     };
     Ok(is_refused && outcome.client_got.starts_with(gets))
@@ -58,11 +62,15 @@ fn is_let_in<R: Lender + Net<Listener = TcpListener, Stream = TcpStream>>(
     gets: &[u8],
 ) -> Result<bool, Fail> {
     let outcome = outcome(rt, Course::Wins, sends)?;
+    let asks = match outcome.asked {
+        Some(asked) => asked.has_user && !asked.is_get,
+        None => false,
+    };
     let has_user = match outcome.told {
         Some(told) => told.has_user,
         None => false,
     };
-    Ok(has_user && outcome.client_got.as_slice() == gets)
+    Ok(asks && has_user && outcome.client_got.as_slice() == gets)
 }
 
 const BOTH: &[u8] = b"\x05\x02\x00\x02";
@@ -135,6 +143,11 @@ Proxy-Authorization: Basic bWU6c2VjcmV0\r\n\r\n";
             .starts_with(b"HTTP/1.1 502 Bad Gateway\r\n")
     );
     assert!(rt; outcome.server_got.as_slice() == SENT_ON);
+    let who = Some(Who {
+        has_user: true,
+        is_get: true,
+    });
+    assert!(rt; outcome.asked == who);
     Ok(())
 }
 

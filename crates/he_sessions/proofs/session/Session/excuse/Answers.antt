@@ -3,4 +3,4 @@ use Rattle.he_sessions.proofs.session.Session.excuse.Goals as goal
 
 pub returns-in-Ok-clause-told : goal.returns-in-Ok-clause-told
 returns-in-Ok-clause-told g c = λ first said talks.
-    c.close.ensures.told first said _ talks (no_response_last _ said c.in-Ok.ensures)
+    c.close.ensures.told first said _ talks (no_response_last _ c.in-Ok.ensures)

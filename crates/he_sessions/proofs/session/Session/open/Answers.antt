@@ -1,6 +1,6 @@
 use Rattle.std.proofs.Common.{subst}
 use Rattle.he_sessions.specs.Sessions.{HasAsked}
-use Rattle.he_sessions.specs.declared.asking.Wanted.{Wanted}
+use Rattle.he_handshake.specs.declared.asking.Wanted.{Wanted}
 use Rattle.he_sessions.proofs.session.Session.open.Goals as goal
 
 pub returns-in-Response-clause-asked : goal.returns-in-Response-clause-asked

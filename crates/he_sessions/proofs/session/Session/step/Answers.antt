@@ -12,6 +12,11 @@ returns-in-Answering-clause-step g c =
     step_from _ _ _ _ _ _ _ _ (sym c.replace.ensures.value ∙ c.in-Answering.is) c.step_answering.ensures.step.goes_on c.step_answering.ensures.step.follows
     c.step_answering.ensures.step.same
 
+pub returns-in-Closing-clause-step : goal.returns-in-Closing-clause-step
+returns-in-Closing-clause-step g c =
+    step_from _ _ _ _ _ _ _ _ (sym c.replace.ensures.value ∙ c.in-Closing.is) c.step_closing.ensures.step.goes_on c.step_closing.ensures.step.follows
+    c.step_closing.ensures.step.same
+
 pub returns-in-Relaying-clause-step : goal.returns-in-Relaying-clause-step
 returns-in-Relaying-clause-step g c =
     step_from _ _ _ _ _ _ _ _ (sym c.replace.ensures.value ∙ c.in-Relaying.is) c.step_relaying.ensures.step.goes_on c.step_relaying.ensures.step.follows
