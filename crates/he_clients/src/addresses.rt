@@ -2,16 +2,15 @@
 
 use crate::beginning::counted_as;
 use std::alloc::Global;
-use std::cell::Cell;
+use std::cell::RefCell;
 use std::net::IpAddr;
 
 /// The running sessions of each client's address, if they are limited. The addresses of an IPv6 /64 network count as
 /// one.
 #[derive(Drop)]
 pub struct PerAddress {
-    alloc: Global,
     most: Option<u32>,
-    counts: Cell<Vec<Count>>,
+    counts: RefCell<Vec<Count>>,
 }
 
 #[derive(Clone, Copy)]
@@ -24,9 +23,8 @@ impl PerAddress {
     /// No sessions, of at most `most` for an address; None: without limit.
     pub fn new(alloc: Global, most: Option<u32>) -> PerAddress {
         PerAddress {
-            alloc,
             most,
-            counts: Cell::new(Vec::new(alloc)),
+            counts: RefCell::new(Vec::new(alloc)),
         }
     }
 
@@ -36,20 +34,17 @@ impl PerAddress {
         let Some(most) = self.most else {
             return true;
         };
-        let mut counts = self.counts.replace(Vec::new(self.alloc));
-        let is_added = add_to(&mut counts, counted_as(from), most);
-        self.counts.set(counts);
-        is_added
+        match self.counts.try_borrow_mut() {
+            Ok(mut counts) => add_to(&mut counts, counted_as(from), most),
+            Err(_) => false,
+        }
     }
 
     /// Removes a session of this address.
     pub fn remove(&self, from: IpAddr) {
-        if self.most.is_none() {
-            return;
+        if let Ok(mut counts) = self.counts.try_borrow_mut() {
+            remove_from(&mut counts, counted_as(from));
         }
-        let mut counts = self.counts.replace(Vec::new(self.alloc));
-        remove_from(&mut counts, counted_as(from));
-        self.counts.set(counts);
     }
 }
 

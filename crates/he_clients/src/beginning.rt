@@ -4,7 +4,7 @@ ghost use Rattle.futures.specs.Task.{Keeps};
 use futures::task::{Context, Poll, Source, Waker};
 use he_sessions::Place;
 use std::alloc::{AllocError, Global};
-use std::cell::Cell;
+use std::cell::{Cell, RefCell};
 use std::mem::drop;
 use std::net::{IpAddr, Ipv6Addr};
 use std::time::{Duration, Instant};
@@ -28,8 +28,7 @@ const MOST_GOING: u32 = 64;
 /// for the next.
 #[derive(Drop)]
 pub struct Beginning {
-    alloc: Global,
-    waiting: Cell<Vec<Waiting>>,
+    waiting: RefCell<Vec<Waiting>>,
     // The number of the next client.
     next: Cell<u64>,
     // Clients with lower numbers had used up their time at the last check.
@@ -51,8 +50,7 @@ impl Beginning {
     /// No clients.
     pub fn new(alloc: Global) -> Beginning {
         Beginning {
-            alloc,
-            waiting: Cell::new(Vec::new(alloc)),
+            waiting: RefCell::new(Vec::new(alloc)),
             next: Cell::new(0),
             had_time: Cell::new(0),
             going: Cell::new(0),
@@ -66,21 +64,22 @@ impl Beginning {
         if self.going.get() >= MOST_GOING {
             return true;
         }
-        let waiting = self.waiting.replace(Vec::new(self.alloc));
-        let is_full = match next_to_go(&waiting) {
+        let Ok(waiting) = self.waiting.try_borrow() else {
+            return true;
+        };
+        match next_to_go(&waiting) {
             Some(first) => !self.may_go(&waiting, first, now),
             None => false,
-        };
-        self.waiting.set(waiting);
-        is_full
+        }
     }
 
     /// The number of clients that have sent nothing yet.
     pub fn count(&self) -> usize {
-        let waiting = self.waiting.replace(Vec::new(self.alloc));
-        let count = waiting.len();
-        self.waiting.set(waiting);
-        count.saturating_add(self.going.get() as usize)
+        let waiting = match self.waiting.try_borrow() {
+            Ok(waiting) => waiting.len(),
+            Err(_) => 0,
+        };
+        waiting.saturating_add(self.going.get() as usize)
     }
 
     // Whether the client's time was up at the last check. If it is up only now, the client may be removed at the next
@@ -115,19 +114,19 @@ impl Beginning {
         let from = counted_as(from);
         let number = self.next.get();
         self.next.set(number.wrapping_add(1));
-        let mut waiting = self.waiting.replace(Vec::new(self.alloc));
+        let Ok(mut waiting) = self.waiting.try_borrow_mut() else {
+            return Err(AllocError);
+        };
         if let Some(first) = first_to_go(&waiting, from) {
             remove_at(&mut waiting, first);
             self.going.set(self.going.get().saturating_add(1));
         }
-        let entered = waiting.push(Waiting {
+        waiting.push(Waiting {
             number,
             from,
             since: now,
             waker: None,
-        });
-        self.waiting.set(waiting);
-        entered?;
+        })?;
         Ok(ClientPlace {
             of: self,
             number,
@@ -136,12 +135,13 @@ impl Beginning {
     }
 
     fn leave(&self, number: u64) {
-        let mut waiting = self.waiting.replace(Vec::new(self.alloc));
+        let Ok(mut waiting) = self.waiting.try_borrow_mut() else {
+            return;
+        };
         match place_of(&waiting, number) {
             Some(at) => remove_at(&mut waiting, at),
             None => self.going.set(self.going.get().saturating_sub(1)),
         }
-        self.waiting.set(waiting);
     }
 }
 
@@ -154,10 +154,10 @@ pub struct ClientPlace<'b> {
 
 impl Place for ClientPlace<'_> {
     fn poll_lost(&mut self, cx: &mut Context<'_>) -> Poll<()> {
-        let mut waiting = self.of.waiting.replace(Vec::new(self.of.alloc));
-        let polled = poll_place(&mut waiting, self.number, &self.source, cx);
-        self.of.waiting.set(waiting);
-        polled
+        match self.of.waiting.try_borrow_mut() {
+            Ok(mut waiting) => poll_place(&mut waiting, self.number, &self.source, cx),
+            Err(_) => cx.yield_now(),
+        }
     }
 }
 

@@ -1,5 +1,5 @@
 -- What a cache holds after an answer was kept.
-use Rattle.std.proofs.Common.{◌≡◌, ◌⊎◌, ◌≢◌, ℕ, Bool, true, false, List, [], ◌∷◌, ◌++◌, Option, Some, None, map, suc, zero, refl, sym, ◌∙◌, ap, subst, inl, inr, arith, string_bytes}
+use Rattle.std.proofs.Common.{◌≡◌, ◌⊎◌, ◌≢◌, ℕ, true, false, List, [], ◌∷◌, Option, Some, None, map, refl, sym, ◌∙◌, ap, subst, inl, inr, arith, string_bytes}
 use Rattle.std.specs.Prelude.{Result, Ok, Err, OnOk, OnErr}
 use Rattle.std.specs.Char.{to_ascii_lowercase}
 use Rattle.std.specs.List.{Contains}
@@ -12,7 +12,6 @@ use Rattle.he_addr.specs.declared.ip.Family.TheVariants.{V4, V6}
 use Rattle.he_cache.specs.Keeping.{is_same, kept_of, seconds_for}
 use Rattle.he_cache.specs.declared.cache.AnswerCache.{AnswerCache}
 use Rattle.he_cache.specs.declared.cache.Kept.{Kept}
-use Rattle.he_kept.specs.Answers.{IsAbout}
 use Rattle.he_kept.specs.Own.{IsOwn, IsPlaced}
 use Rattle.he_kept.specs.declared.answer.KeptAnswer.{KeptAnswer}
 

@@ -1,12 +1,12 @@
 //! The answers that races share, and the questions that name servers are being asked.
-ghost use Rattle.std.specs.Prelude.{◌≡◌, IfOk, IfSome};
+ghost use Rattle.std.specs.Prelude.{IfOk, IfSome};
 ghost use Rattle.he_kept.specs.Answers.{IsAbout, IsOfHost, Serves};
 
 use crate::answer::{KeptAnswer, KeptHost, Question};
 use crate::table::KeptTable;
 use he_addr::{Family, Memory};
 use std::alloc::Global;
-use std::cell::Cell;
+use std::cell::RefCell;
 use std::io;
 use std::mem::drop;
 use std::time::{Clock, Instant};
@@ -18,8 +18,8 @@ pub struct KeptAnswers {
     alloc: Global,
     // The start from which seconds are counted.
     start: Instant,
-    table: Cell<Option<KeptTable>>,
-    asked: Cell<Option<Vec<Question>>>,
+    table: RefCell<KeptTable>,
+    asked: RefCell<Vec<Question>>,
     /// Fires when a race that asks has its answer, or goes away.
     pub answered: Notify,
 }
@@ -52,8 +52,8 @@ impl KeptAnswers {
         Ok(KeptAnswers {
             alloc,
             start: Instant::now(rt)?,
-            table: Cell::new(Some(table)),
-            asked: Cell::new(Some(Vec::new(alloc))),
+            table: RefCell::new(table),
+            asked: RefCell::new(Vec::new(alloc)),
             answered: Notify::new(alloc)?,
         })
     }
@@ -68,10 +68,8 @@ impl KeptAnswers {
     pub fn known_of(&self, now: u64, host: &str, family: Family) -> Option<KeptAnswer>
         ensures { IfSome result (λ answer. Serves answer now host.now family) }
     {
-        let table = self.table.take()?;
-        let known = known_in(self.alloc, &table, now, host, family);
-        self.table.set(Some(table));
-        known
+        let table = self.table.try_borrow().ok()?;
+        known_in(self.alloc, &table, now, host, family)
     }
 
     /// The answers kept for the host and valid at this second, if there is one for each family that is tried. `only`
@@ -97,9 +95,8 @@ impl KeptAnswers {
 
     /// Keeps an answer. If an allocation fails, it is not kept.
     pub fn keep(&self, answer: KeptAnswer) {
-        if let Some(mut table) = self.table.take() {
+        if let Ok(mut table) = self.table.try_borrow_mut() {
             let _ = table.keep(answer);
-            self.table.set(Some(table));
         } else {
             drop(answer);
         }
@@ -110,10 +107,8 @@ impl KeptAnswers {
     pub fn asked(&self, host: &str, family: Family) -> Option<Question>
         ensures { IfSome result (λ question. IsAbout question host.now family) }
     {
-        let asked = self.asked.take()?;
-        let found = asked_in(self.alloc, &asked, host, family);
-        self.asked.set(Some(asked));
-        found
+        let asked = self.asked.try_borrow().ok()?;
+        asked_in(self.alloc, &asked, host, family)
     }
 
     /// Notes that a race asks for the family of the host.
@@ -126,32 +121,21 @@ impl KeptAnswers {
     {
         let question = Question::of(self.alloc, host, family)?;
         let noted = Question::of(self.alloc, host, family)?;
-        let Some(mut asked) = self.asked.take() else {
+        let Ok(mut asked) = self.asked.try_borrow_mut() else {
             return Err(Memory);
         };
-        let pushed = asked.push(noted);
-        self.asked.set(Some(asked));
-        match pushed {
-            Ok(()) => Ok(Asking {
-                kept: self,
-                question,
-            }),
-            Err(_) => Err(Memory),
-        }
+        asked.push(noted)?;
+        Ok(Asking {
+            kept: self,
+            question,
+        })
     }
 
     // Notes that the race has its answer, or goes away, and wakes those that wait.
     fn remove(&self, question: &Question) {
-        let Some(mut asked) = self.asked.take() else {
-            return;
-        };
-        let place = asked
-            .iter()
-            .position(|other| other.is_of(&question.host, question.family));
-        if let Some(place) = place {
-            drop(asked.swap_remove(place));
+        if let Ok(mut asked) = self.asked.try_borrow_mut() {
+            remove_in(&mut asked, question);
         }
-        self.asked.set(Some(asked));
         self.answered.notify_waiters();
     }
 }
@@ -176,4 +160,13 @@ fn asked_in(alloc: Global, asked: &[Question], host: &str, family: Family) -> Op
 {
     let found = asked.iter().find(|question| question.is_of(host, family))?;
     Question::of(alloc, found.host.as_str(), found.family).ok()
+}
+
+fn remove_in(asked: &mut Vec<Question>, question: &Question) {
+    let place = asked
+        .iter()
+        .position(|other| other.is_of(&question.host, question.family));
+    if let Some(place) = place {
+        drop(asked.swap_remove(place));
+    }
 }

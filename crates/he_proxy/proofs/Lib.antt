@@ -1,5 +1,2 @@
 mod Runs
-mod Hearing
-mod Asked
 mod Recorded
-mod Session

@@ -6,15 +6,13 @@ use Rattle.he_setup.specs.Embedding.{MayEmbed}
 use Rattle.he_setup.specs.Races.{IsSetUp}
 use Rattle.he_setup.specs.declared.request.ConnectRequest.{ConnectRequest}
 use Rattle.he_setup.specs.declared.setup.Setup.{Setup}
-use Rattle.he_front.specs.declared.replies.Ended.{Ended}
 use Rattle.he_live.proofs.Records.{EndsHeard}
 use Rattle.he_live.specs.declared.endpoint.Endpoint.{Endpoint}
 use Rattle.he_turns.specs.Winner.{WinnerGoes}
 use Rattle.he_turns.specs.declared.live.Raced.{Raced}
-use Rattle.he_sessions.specs.declared.racer.Won.{Won}
 use Rattle.he_loop.specs.Dials.{GoesTo}
-use Rattle.he_proxy.specs.Answers.{AnswersFor, IsSourceFor, hears_session}
-use Rattle.he_proxy.specs.declared.answering.SessionAnswers.{SessionAnswers}
+use Rattle.he_source.specs.Answers.{IsSourceFor, hears_session}
+use Rattle.he_source.specs.declared.answering.SessionAnswers.{SessionAnswers}
 use Rattle.he_proxy.specs.Races.{AsksFor, HandsOut, IsReachOf, IsWonBy, RunsFrom, Wins}
 use Rattle.he_access.specs.declared.reach.Place.{Place}
 use Rattle.he_loop.specs.declared.access.Reach.{Reach}

@@ -1,9 +1,6 @@
-pub mod Answers
 pub mod Counting
-pub mod Kept
 pub mod Limits
 pub mod Races
 pub mod Recorded
 pub mod Sockets
-pub mod Sources
 pub mod Users

@@ -25,7 +25,7 @@ use Rattle.he_loop.specs.Dials.{GoesTo}
 use Rattle.he_access.specs.declared.reach.Place.{Place}
 use Rattle.he_loop.specs.declared.access.Reach.{Reach}
 use Rattle.he_loop.specs.declared.dial.Joined.{Joined}
-use Rattle.he_proxy.specs.Answers.{AnswersFor}
+use Rattle.he_source.specs.Answers.{AnswersFor}
 use Rattle.he_proxy.specs.declared.request.ProxyRequest.{ProxyRequest}
 
 -- the race was won at this place and tick: by this address, in this number of milliseconds, of which it lost `lost`

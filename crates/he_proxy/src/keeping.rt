@@ -5,17 +5,16 @@ ghost use Rattle.he_proxy.specs.Recorded.{IsRecordOf, IsSessionFacts, client_ip,
 
 use crate::counting::counted_loss;
 use crate::sockets::Noted;
+use crate::state::ProxyState;
 use he_addr::{Ip, Memory};
 use he_course::Course;
 use he_front::Ended;
-use he_history::{
-    GivenUp, KnownAddresses, Learnt, Recent, RecordName, Records, Shown, given_up_at,
-};
+use he_history::{GivenUp, Learnt, RecordName, Shown, given_up_at};
 use he_kernel::sockets::NO_SCOPE;
 use he_live::attempt_failures;
-use he_log::{Begun, Facts, Lost, SessionFacts};
+use he_log::{Facts, Lost};
 use he_loop::{Joined, Reach, SharedLoop, ip_of};
-use he_metrics::{Event, Loss, Metrics, Win};
+use he_metrics::{Event, Loss, Win};
 use he_plan::{Line, Mark, Outcome3, Transcript};
 use he_record::{ClientEnd, Moment};
 use he_recording::{Facts as RecordFacts, Target, text_of};
@@ -24,7 +23,6 @@ use he_setup::{Families, KnownFacts, Nat64, facts_for, nat64_prefixes};
 use he_timeline::Timeline;
 use he_turns::Raced;
 use std::alloc::{AllocGlobal, Global};
-use std::cell::Cell;
 use std::mem::drop;
 use std::net::{Net, SocketAddr};
 use std::random::RandomSource;
@@ -36,20 +34,10 @@ use tokio::net::TcpStream;
 #[derive(Drop)]
 pub struct Keeping<'h, R> {
     pub shared: SharedLoop<'h, R>,
-    /// The directory of its record.
-    pub records: Option<&'h Records>,
-    /// The page that shows it.
-    pub recent: &'h Recent,
-    /// The history that its results go to.
-    pub known: &'h KnownAddresses,
-    /// The log's facts of it.
-    pub facts: &'h SessionFacts,
-    /// The counts of all races.
-    pub metrics: &'h Metrics,
+    /// The state that takes its record, its results and its facts.
+    pub state: &'h ProxyState,
     /// The client of its session.
     pub client: SocketAddr,
-    /// The last client that left during its race.
-    pub left: &'h Cell<Option<SocketAddr>>,
     /// When it began, as in the name of its record.
     pub began: String,
     /// The time of its tick 0.
@@ -66,19 +54,9 @@ pub struct Keeping<'h, R> {
 impl<'h, R: Clock + Files + RandomSource + AllocGlobal + Net + Copy> Keeping<'h, R> {
     /// If the race's client has left, has the race end at its next poll.
     pub fn hear_leaving(&self) {
-        if self.left.get() == Some(self.client) {
-            self.left.set(None);
+        if self.state.left.get() == Some(self.client) {
+            self.state.left.set(None);
             self.noted.progress.leave();
-        }
-    }
-
-    /// The race, for the log.
-    pub fn begun(&self) -> Begun<'_> {
-        Begun {
-            client: self.client,
-            host: self.host.as_str(),
-            port: self.port,
-            began: self.began.as_str(),
         }
     }
 
@@ -89,7 +67,7 @@ impl<'h, R: Clock + Files + RandomSource + AllocGlobal + Net + Copy> Keeping<'h,
     }
 
     fn count(&self, event: Event) {
-        self.metrics.count(event);
+        self.state.metrics.count(event);
     }
 
     /// Keeps the record of the race and its results for addresses, and returns its winner, or why there is none. Of a
@@ -163,7 +141,7 @@ impl<'h, R: Clock + Files + RandomSource + AllocGlobal + Net + Copy> Keeping<'h,
             source,
             delay: recorded.settings().attempt(),
         };
-        self.known.learn(self.shared.rt, transcript, learnt);
+        self.state.known.learn(self.shared.rt, transcript, learnt);
     }
 
     // Keeps the record with this text, if records are kept, and notes the log's facts of the race. Returns the text;
@@ -187,14 +165,14 @@ impl<'h, R: Clock + Files + RandomSource + AllocGlobal + Net + Copy> Keeping<'h,
         facts.hosts = self.hosts_in(transcript);
         facts.lost = lost;
         facts.given_up = given_up;
-        self.facts.note(self.client, facts);
+        self.state.facts.note(self.client, facts);
         text
     }
 
     // Writes the record, if records are kept, and returns the name of its file. If it can't be written, the session
     // goes on, and the log has the reason.
     fn record(&self, text: &[u8]) -> Option<String> {
-        let records = self.records?;
+        let records = self.state.records.as_ref()?;
         let name = RecordName {
             began: self.began.as_str(),
             host: self.host.as_str(),
@@ -283,7 +261,7 @@ impl<'h, R: Clock + Files + RandomSource + AllocGlobal + Net + Copy> Keeping<'h,
     fn show(&self, recorded: Timeline, text: Option<Vec<u8>>) {
         let (began, host, port) = (&self.began, &self.host, self.port);
         match format!(in self.shared.alloc; "{host} port {port}, {began}") {
-            Ok(name) => self.recent.add(Shown {
+            Ok(name) => self.state.recent.add(Shown {
                 name,
                 recorded,
                 text,

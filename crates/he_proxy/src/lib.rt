@@ -5,7 +5,7 @@
 //! session's race is that of `he connect`: it starts as set up by `he_setup`, its ticks are from `he_live`, and its
 //! turns are those of `he_turns`. Its record is a file in the records' directory, for `he replay`. Name servers'
 //! answers are shared with other races to the host: those that begin while the name servers are asked, and those
-//! within the TTL (`he_kept`). The history of an address counts in later races for a day (`he_history`). A race whose
+//! within the TTL (`he_source`). The history of an address counts in later races for a day (`he_history`). A race whose
 //! client leaves ends at its next poll, and is recorded up to then. Each session is a line on standard error
 //! (`he_log`); `GET /` is a page of the last hundred races, and `GET /proxy.pac` the proxy's auto-config file. Its
 //! counts are `GET /metrics` (`he_metrics`), and `GET /healthz` says that it serves.
@@ -37,37 +37,28 @@
 //!   transcript, and the lost time is that of its course (`HandsOut`). That race started as `he_setup` sets one up
 //!   for the host and the port, its record keeps the start and replays to its transcript, and the connection goes to
 //!   the address of the winning line, which the client's races may reach (`IsWonBy`).
-//! - The record of that race has the answers of a source that began for the request (`specs/Answers`). On a machine
-//!   with only IPv6 it may embed IPv4 hosts, as in `he_setup`: only if IPv6 and this machine's lines are requested.
-//!   Then it answers with the host's IPv6 addresses; or, if there are none, with its IPv4 addresses, embedded by the
-//!   prefixes that the answer for `ipv4only.arpa.` shows; or with none.
-//! - A look-up's answer is cached for the race's own host and family, with the answer's addresses and TTL
-//!   (`to_keep`). A cached answer that a race gets was cached for its own host and family (`AreKeptFor` in
-//!   `specs/Kept`), by a look-up less than its TTL ago (`he_kept`).
+//! - The record of that race has the answers of a source of `he_source` that began for the request (`AnswersFor`).
+//!   IPv4 hosts are embedded only if IPv6 and this machine's lines are requested.
 //! - The text of a race's record has the session's host and port, its client's address, the tick at which the client
 //!   left if it did, an attempt for each failed one of the transcript, and a look-up only for a family whose answer is
 //!   empty. It reads back as the race with these lines (`IsRecordOf` in `specs/Recorded`).
 //! - The history and log lines of a race, and the record of one that was given up, are as specified by `he_history`
 //!   and `he_log`.
-//! - A running race gets its look-up's answers or, if another race does the host's look-up, addresses with the lines
-//!   that the look-up would give them; the history of addresses changes neither them nor the lines (`specs/Sources`).
 //! - The numbers in the documents are the program's (`specs/Limits`).
 //! - A pending race has registered for what it waits for, or asked to be polled again; each session that is begun may
 //!   be polled.
 //!
 //! All this holds if the calls return: they wait for the system.
 //!
-//! Tested only: that it connects, and when; that the prefixes are cached; the time, the reasons and the name servers
-//! in record lines; the facts in the log's lines; the page; when an event is counted.
+//! Tested only: that it connects, and when; the time, the reasons and the name servers in record lines; the facts in
+//! the log's lines; the page; when an event is counted.
 #![tactic(auto)]
 
-pub mod answering;
 pub mod counting;
 pub mod fault;
 pub mod keeping;
 pub mod limits;
 mod listening;
-pub mod lookups;
 pub mod pages;
 pub mod proxy;
 pub mod race;
@@ -75,7 +66,6 @@ pub mod racer;
 pub mod request;
 pub mod server;
 pub mod sockets;
-pub mod source;
 pub mod state;
 mod users;
 

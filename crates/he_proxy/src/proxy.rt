@@ -13,6 +13,7 @@ use crate::state::ProxyState;
 use crate::users::{read_users_of, tell_readable};
 use futures::stream::SelectAll;
 use futures::{Future, Stream, StreamExt};
+use he_access::reach::Place;
 use he_clients::{Beginning, Clients, PerAddress, Running, Service};
 use he_history::{Cause, KnownAddresses, KnownAtStart, Recent, Records};
 use he_kept::KeptAnswers;
@@ -21,6 +22,7 @@ use he_loop::{Prefixes, SharedLoop};
 use he_metrics::Metrics;
 use he_sessions::{Limits, Racer};
 use he_setup::{ConnectFault, Lines, read_lines, start_race};
+use he_users::Users;
 use std::alloc::{AllocGlobal, Global};
 use std::cell::Cell;
 use std::convert::Infallible;
@@ -75,64 +77,32 @@ where
         wrong,
         moved,
     } = open_known(rt, alloc, request)?;
-    let state = ProxyState {
-        own,
-        users,
-        answers: KeptAnswers::new(rt, alloc)?,
-        known,
-        prefixes: Prefixes::new(alloc),
-        records: open_records(rt, alloc, request)?,
-        recent: Recent::new(alloc),
-        beginning: Beginning::new(alloc),
-        running: Running::new(request.most),
-        per_address: PerAddress::new(alloc, request.most_per_client),
-        log: Log::new(alloc, request.log, faults),
-        facts: SessionFacts::new(alloc),
-        metrics: Metrics::new(),
-        turned_away: TurnedAway::new(alloc),
-        too_many: TurnedAway::new(alloc),
-        left: Cell::new(None),
-    };
-    state.log.tell_passed_over(&wrong);
+    let state = open_state(rt, request, users, own, known)?;
+    let log = Log::new(alloc, request.log, faults);
+    log.tell_passed_over(&wrong);
     if let Some(to) = &moved {
-        state.log.tell_moved(to);
+        log.tell_moved(to);
     }
-    tell_readable(rt, &state.log, request.users);
-    state.log.tell_places(&state.own);
-    let shared = SharedLoop {
-        rt: &*rt,
-        alloc,
-        handle: &handle,
-    };
-    race_sessions(&mut runtime, shared, &*request, &state, sockets)?;
-    Err(ProxyFault::Runtime)
-}
-
-// Serves the clients of the sockets, with races on the event loop.
-fn race_sessions<'x, R, F>(
-    runtime: &mut LocalRuntime,
-    shared: SharedLoop<'x, R>,
-    request: &'x ProxyRequest<'x>,
-    state: &'x ProxyState<F>,
-    sockets: SelectAll<Incoming>,
-) -> io::Result<()>
-where
-    F: Write + Drop,
-    R: Wait + Clock + RandomSource + AllocGlobal + Net + Files + Copy,
-    requires { MayAccept sockets }
-{
+    tell_readable(rt, &log, request.users);
+    log.tell_places(&state.own);
     let racer = LoopRacer {
-        shared,
-        request,
-        state,
+        shared: SharedLoop {
+            rt: &*rt,
+            alloc,
+            handle: &handle,
+        },
+        request: &*request,
+        state: &state,
+        log: &log,
     };
-    serve_racer(runtime, &racer, &racer, sockets)
+    serve_racer(&mut runtime, &racer, &racer, sockets)?;
+    Err(ProxyFault::Runtime)
 }
 
 // Serves the clients of the sockets with any racer: the prover does not cover both in one function.
 fn serve_racer<'x, R, Q, F>(
     runtime: &mut LocalRuntime,
-    parts: &LoopRacer<'x, R, F>,
+    parts: &'x LoopRacer<'x, R, F>,
     racer: &'x Q,
     sockets: SelectAll<Incoming>,
 ) -> io::Result<()>
@@ -142,13 +112,9 @@ where
     R: Wait + Clock + RandomSource + AllocGlobal + Copy,
     requires { MayAccept sockets }
 {
-    let LoopRacer {
-        shared,
-        request,
-        state,
-    } = *parts;
+    let request = parts.request;
     let server = Server {
-        shared,
+        parts,
         racer,
         limits: Limits {
             request: Duration::from_secs(REQUEST_SECONDS),
@@ -156,9 +122,8 @@ where
                 .idle
                 .map(|seconds| Duration::from_secs(u64::from(seconds))),
         },
-        state: &*state,
     };
-    serve_sockets(runtime, shared, &server, sockets, request.most)
+    serve_sockets(runtime, parts.shared, &server, sockets, request.most)
 }
 
 // Serves the clients of the sockets, at most `most` at once.
@@ -197,6 +162,34 @@ where
 {
     let running = sessions.for_each_concurrent(alloc, most as usize, |session| session)?;
     runtime.block_on(rt, running)
+}
+
+// The state of a proxy that has served no client yet.
+fn open_state<R: Clock + Files + AllocGlobal + Copy>(
+    rt: &R,
+    request: &ProxyRequest<'_>,
+    users: Users,
+    own: Vec<Place>,
+    known: KnownAddresses,
+) -> Result<ProxyState, ProxyFault> {
+    let alloc = rt.alloc();
+    Ok(ProxyState {
+        own,
+        users,
+        answers: KeptAnswers::new(rt, alloc)?,
+        known,
+        prefixes: Prefixes::new(alloc),
+        records: open_records(rt, alloc, request)?,
+        recent: Recent::new(alloc),
+        beginning: Beginning::new(alloc),
+        running: Running::new(request.most),
+        per_address: PerAddress::new(alloc, request.most_per_client),
+        facts: SessionFacts::new(alloc),
+        metrics: Metrics::new(),
+        turned_away: TurnedAway::new(alloc),
+        too_many: TurnedAway::new(alloc),
+        left: Cell::new(None),
+    })
 }
 
 // The lines of the races, if a file has them: it is read once, and its lines are checked.

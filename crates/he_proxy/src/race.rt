@@ -5,7 +5,6 @@ use crate::keeping::Keeping;
 use futures::Future;
 use futures::task::{Context, Poll};
 use he_front::Ended;
-use he_log::Begun;
 use he_loop::Joined;
 use he_sessions::Won;
 use he_turns::{RaceFault, Raced};
@@ -41,9 +40,9 @@ impl<'h, R, F: Drop> LoopRace<'h, R, F> {
 }
 
 impl<'h, R: Clock + Files + RandomSource + AllocGlobal + Net + Copy, F: Drop> LoopRace<'h, R, F> {
-    /// The race, for the log.
-    pub fn begun(&self) -> Begun<'_> {
-        self.keeping.begun()
+    /// When it began, as in the name of its record.
+    pub fn began(&self) -> &str {
+        self.keeping.began.as_str()
     }
 }
 

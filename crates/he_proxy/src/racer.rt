@@ -1,5 +1,5 @@
 //! Races for the sessions, on the sockets of the event loop.
-ghost use Rattle.std.specs.Prelude.{◌≡◌, IfOk, Ok, OnOk, true};
+ghost use Rattle.std.specs.Prelude.{IfOk, Ok, OnOk, true};
 ghost use Rattle.he_access.specs.Rules.{MayFit, Settles};
 ghost use Rattle.he_setup.specs.Races.{KnowsHost};
 ghost use Rattle.he_proxy.specs.Races.{AsksFor, IsReachOf, IsWonBy, RunsFrom, Wins};
@@ -10,7 +10,6 @@ use crate::pages::{Asked, Shown, write_answer};
 use crate::race::LoopRace;
 use crate::request::ProxyRequest;
 use crate::sockets::{Noted, SocketRace, socket_race};
-use crate::source::Earlier;
 use crate::state::ProxyState;
 use futures::Future;
 use he_access::reach::is_served;
@@ -20,12 +19,13 @@ use he_clients::ClientPlace;
 use he_front::Ended;
 use he_history::{Records, second_now, stamp_of};
 use he_kernel::asked::AskedWays;
-use he_log::{Facts, Lost};
+use he_log::{Facts, Log, Lost};
 use he_loop::{Client, Reach, SharedLoop, ip_of, place_of};
 use he_metrics::{Event, Now};
 use he_recording::moment_now;
-use he_sessions::{PageAsked, Racer, SessionEnd};
+use he_sessions::{PageAsked, RaceAsked, Racer, SessionEnd};
 use he_setup::{ConnectFault, ConnectRequest, Setup, set_up_any};
+use he_source::Earlier;
 use he_users::Users;
 use std::alloc::AllocGlobal;
 use std::io;
@@ -42,7 +42,8 @@ use tokio::net::TcpStream;
 pub struct LoopRacer<'h, R, F: Drop> {
     pub shared: SharedLoop<'h, R>,
     pub request: &'h ProxyRequest<'h>,
-    pub state: &'h ProxyState<F>,
+    pub state: &'h ProxyState,
+    pub log: &'h Log<F>,
 }
 
 impl<'h, R, F> LoopRacer<'h, R, F>
@@ -159,13 +160,8 @@ where
         };
         Ok(Keeping {
             shared: self.shared,
-            records: self.state.records.as_ref(),
-            recent: &self.state.recent,
-            known: &self.state.known,
-            facts: &self.state.facts,
-            metrics: &self.state.metrics,
+            state: self.state,
             client,
-            left: &self.state.left,
             began: stamp_of(alloc, at)?,
             at: Some(at),
             host: String::from_str(alloc, setup.request.host)?,
@@ -199,7 +195,7 @@ where
             metrics: &self.state.metrics,
             now: Now {
                 waiting: self.state.beginning.count() as u64,
-                lines_lost: self.state.log.lines_lost(),
+                lines_lost: self.log.lines_lost(),
             },
         }
     }
@@ -210,7 +206,7 @@ where
         if let Some(now) = second_now(rt)
             && self.state.turned_away.is_news(ip, now)
         {
-            self.state.log.tell_turned_away(rt, client);
+            self.log.tell_turned_away(rt, client);
         }
     }
 }
@@ -257,13 +253,13 @@ where
         Ok(self.state.beginning.enter(client.ip(), now)?)
     }
 
-    fn race(&self, client: SocketAddr, host: &str, port: u16) -> Result<Self::Race, Ended> {
-        match self.begin_allowed(client, host, port) {
+    fn race(&self, asked: &RaceAsked<'_>) -> Result<Self::Race, Ended> {
+        match self.begin_allowed(asked.client, asked.host, asked.port) {
             Ok(race) => {
-                self.state.log.tell_begun(self.shared.rt, race.begun());
+                self.log.tell_begun(self.shared.rt, asked, race.began());
                 Ok(race)
             }
-            Err(lost) => Err(self.lose(client, lost)),
+            Err(lost) => Err(self.lose(asked.client, lost)),
         }
     }
 
@@ -287,26 +283,28 @@ where
         }
     }
 
+    fn write_tried(&self, client: SocketAddr, reason: &mut Vec<u8>) -> Result<(), Memory> {
+        self.state.facts.write_tried(client, reason)
+    }
+
     fn left(&self, client: SocketAddr) {
         self.state.left.set(Some(client));
     }
 
     fn ended(&self, end: &SessionEnd<'_>) {
         let facts = self.state.facts.take(end.client);
-        self.state.log.tell(self.shared.rt, end, &facts);
+        self.log.tell(self.shared.rt, end, &facts);
         drop(facts);
         self.state.metrics.count(Event::Ended(counted_end(end.how)));
         self.state.per_address.remove(end.client.ip());
         if self.state.running.remove() {
-            self.state.log.tell_room(self.state.running.most());
+            self.log.tell_room(self.state.running.most());
         }
         if let Some(fault) = self.state.records.as_ref().and_then(Records::fault) {
-            self.state.log.tell_unkept("records", fault);
+            self.log.tell_unkept("records", fault);
         }
         if let Some(fault) = self.state.known.fault() {
-            self.state
-                .log
-                .tell_unkept("what is known of addresses", fault);
+            self.log.tell_unkept("what is known of addresses", fault);
         }
     }
 }

@@ -1,7 +1,6 @@
 //! Handles clients: a session for each that is served.
-ghost use Rattle.std.specs.Prelude.{IfSome};
 
-use crate::state::ProxyState;
+use crate::racer::LoopRacer;
 use he_clients::Service;
 use he_history::second_now;
 use he_live::Reason;
@@ -13,27 +12,29 @@ use std::net::SocketAddr;
 use std::time::{Clock, Instant};
 use tokio::net::TcpStream;
 
-/// The parts of each session.
+/// Begins a session for each client that is served.
 #[derive(Drop)]
 pub struct Server<'q, K, Q, F: Drop> {
-    pub shared: SharedLoop<'q, K>,
+    /// The event loop, the state and the log.
+    pub parts: &'q LoopRacer<'q, K, F>,
+    /// The races of the sessions, which are those of `parts`.
     pub racer: &'q Q,
     pub limits: Limits,
-    pub state: &'q ProxyState<F>,
 }
 
 impl<'q, K: Clock, Q, F: Write + Drop> Server<'q, K, Q, F> {
     fn count(&self, event: Event) {
-        self.state.metrics.count(event);
+        self.parts.state.metrics.count(event);
     }
 
     // Logs once a minute and network that a client with the most sessions is refused another one.
     fn tell_too_many(&self, client: SocketAddr) {
-        let rt = self.shared.rt;
+        let parts = self.parts;
+        let rt = parts.shared.rt;
         if let Some(now) = second_now(rt)
-            && self.state.too_many.is_news(ip_of(client.ip()), now)
+            && parts.state.too_many.is_news(ip_of(client.ip()), now)
         {
-            self.state.log.tell_too_many(rt, client);
+            parts.log.tell_too_many(rt, client);
         }
     }
 }
@@ -42,41 +43,43 @@ impl<'q, K: Clock, Q: Racer<Stream = TcpStream>, F: Write + Drop> Service for Se
     type Session = Session<'q, K, Q>;
 
     fn begin(&self, client: TcpStream, address: SocketAddr) -> Option<Session<'q, K, Q>> {
+        let parts = self.parts;
         if !self.racer.is_served(address) {
             self.count(Event::Refused(Refusal::TurnedAway));
             return None;
         }
-        if !self.state.per_address.add(address.ip()) {
+        if !parts.state.per_address.add(address.ip()) {
             self.count(Event::Refused(Refusal::TooMany));
             self.tell_too_many(address);
             return None;
         }
-        let SharedLoop { rt, alloc, handle } = self.shared;
+        let SharedLoop { rt, alloc, handle } = parts.shared;
         let (timers, racer) = (handle.time(), self.racer);
         match Session::new(rt, alloc, timers, racer, client, address, self.limits) {
             Ok(session) => {
                 self.count(Event::Begun);
-                if self.state.running.add() {
-                    self.state.log.tell_most(self.state.running.most());
+                if parts.state.running.add() {
+                    parts.log.tell_most(parts.state.running.most());
                 }
                 Some(session)
             }
             Err(_) => {
-                self.state.per_address.remove(address.ip());
+                parts.state.per_address.remove(address.ip());
                 None
             }
         }
     }
 
     fn is_full(&self) -> bool {
-        match Instant::now(self.shared.rt) {
-            Ok(now) => self.state.beginning.is_full(now),
+        let parts = self.parts;
+        match Instant::now(parts.shared.rt) {
+            Ok(now) => parts.state.beginning.is_full(now),
             Err(_) => false,
         }
     }
 
     fn tell_rest(&self, why: Reason) {
-        self.state.log.say(match why {
+        self.parts.log.say(match why {
             Reason::TooManyFiles | Reason::TooManyFilesInSystem => {
                 "no descriptor is left for another client: waiting until one is"
             }

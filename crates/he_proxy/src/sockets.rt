@@ -3,8 +3,6 @@ ghost use Rattle.std.specs.Prelude.{IfOk, Ok};
 ghost use Rattle.he_setup.specs.Races.{KnowsHost};
 ghost use Rattle.he_proxy.specs.Races.{RunsFrom};
 
-use crate::answering::{SessionAnswers, answers_of};
-use crate::source::Earlier;
 use futures::Future;
 use futures::task::{Context, Poll};
 use he_addr::Memory;
@@ -12,6 +10,7 @@ use he_kernel::asked::AskedWays;
 use he_live::{LiveTicker, Quiet, Steps};
 use he_loop::{Joined, LoopConnector, Progress, RaceTicker, Reach, SharedLoop, Target};
 use he_setup::{ConnectFault, LookupFaults, Setup};
+use he_source::{Earlier, SessionAnswers, answers_of};
 use he_turns::{RaceFault, Raced, ResolvingRace};
 use std::alloc::{AllocGlobal, Global};
 use std::net::Net;
@@ -91,7 +90,7 @@ where
         → ⟦<SocketRace<'h, R> as Future>⟧.gives race (Ok raced) → RunsFrom R setup.now reach.entry raced) }
 {
     let SharedLoop { rt, alloc, handle } = shared;
-    let source = answers_of(shared, setup, earlier, noted)?;
+    let source = answers_of(shared, setup, earlier, &noted.why)?;
     let steps = noted.steps.share()?;
     let ways = noted.asked.share()?;
     let asked = String::from_str(alloc, setup.request.host)?;

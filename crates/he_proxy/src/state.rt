@@ -1,19 +1,19 @@
-//! The state that all sessions of a proxy share, beside the event loop.
+//! The state that all sessions of a proxy share, beside the event loop and the log.
 
 use he_access::reach::Place;
 use he_clients::{Beginning, PerAddress, Running};
 use he_history::{KnownAddresses, Recent, Records};
 use he_kept::KeptAnswers;
-use he_log::{Log, SessionFacts, TurnedAway};
+use he_log::{SessionFacts, TurnedAway};
 use he_loop::Prefixes;
 use he_metrics::Metrics;
 use he_users::Users;
 use std::cell::Cell;
 use std::net::SocketAddr;
 
-/// The state that all sessions of a proxy share, beside the event loop.
+/// The state that all sessions of a proxy share, beside the event loop and the log.
 #[derive(Drop)]
-pub struct ProxyState<F: Drop> {
+pub struct ProxyState {
     /// The places that the proxy listens at.
     pub own: Vec<Place>,
     /// Who may use the proxy.
@@ -28,7 +28,6 @@ pub struct ProxyState<F: Drop> {
     pub running: Running,
     /// The sessions of each client's address.
     pub per_address: PerAddress,
-    pub log: Log<F>,
     /// The log's facts of sessions, beside their ends.
     pub facts: SessionFacts,
     /// The counts of all sessions.

@@ -4,7 +4,7 @@ use Rattle.he_addr.specs.declared.ip.Ip.{Ip}
 use Rattle.he_live.proofs.Records.{gives_heard}
 use Rattle.he_loop.specs.Dials.{GoesTo}
 use Rattle.he_loop.specs.declared.dial.Joined.{Joined}
-use Rattle.he_proxy.specs.Answers.{IsSourceFor, hears_session}
+use Rattle.he_source.specs.Answers.{IsSourceFor, hears_session}
 use Rattle.he_proxy.proofs.Runs.{runs_so}
 use Rattle.he_proxy.proofs.sockets.socket_race.Goals as goal
 
