@@ -1,3 +1,4 @@
+pub mod Families
 pub mod Ports
 pub mod Refusals
 pub mod Resolvers

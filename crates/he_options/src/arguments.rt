@@ -1,6 +1,6 @@
 //! The arguments that several commands have, and what the line gives them.
-ghost use Rattle.std.specs.Prelude.{◌≡◌, ◌≤◌, IfOk, codes, length, map};
-ghost use Rattle.clap.specs.Matches.{found_of};
+ghost use Rattle.std.specs.Prelude.{◌≡◌, ◌≤◌, IfOk, codes, length, map, option_map};
+ghost use Rattle.clap.specs.Matches.{first_value, found_of};
 ghost use Rattle.he_options.specs.Words.{HasFlag, HasNumber, values_of};
 ghost use Rattle.he_options.specs.declared.limits.TheConstants.{MOST_FILES};
 
@@ -21,6 +21,9 @@ Of a directory all files *.timeline in it are read";
 
 const LIST_HELP: &str = "Read the files named in FILE (- is standard input),\n\
 each name ended by a NUL byte, as by `find -print0`";
+
+const MACHINE_HELP: &str = "Read this machine's addresses, routes and policy\n\
+table from FILE, lines as `he host` prints them";
 
 const VERBOSE_HELP: &str =
     "Explain the fault of a file as `he check` does,\nand say why a file can't be read or written";
@@ -83,6 +86,11 @@ pub fn verbose<'a>(alloc: Global) -> Arg<'a> {
     flag(alloc, "verbose", VERBOSE_HELP).short('v')
 }
 
+/// The option that names a file of source, route and policy lines, which are read in place of this machine's.
+pub fn machine<'a>(alloc: Global) -> Arg<'a> {
+    value(alloc, "host-lines", "FILE", MACHINE_HELP).long("machine")
+}
+
 /// The argument that names the files to read.
 pub fn files<'a>(alloc: Global, help: &'a str) -> Arg<'a> {
     word(alloc, "file", "FILE", help).action(ArgAction::Append)
@@ -115,6 +123,22 @@ pub fn files_of<'a>(alloc: Global, matches: &ArgMatches<'a>) -> Result<Vec<&'a s
         return Err(Refusal::Option(OptionFault::Files));
     }
     Ok(files)
+}
+
+/// The file or the folder of the records that the line names, if it names one.
+///
+/// # Errors
+///
+/// `NoName` where the name is empty.
+pub fn record_of<'a>(matches: &ArgMatches<'a>) -> Result<Option<&'a str>, OptionFault>
+    ensures { IfOk result (λ file. option_map (λ path. path.now) file
+        ≡ first_value (found_of matches.now) (codes "record")) }
+{
+    let record = matches.get_str("record");
+    if record == Some("") {
+        return Err(OptionFault::NoName);
+    }
+    Ok(record)
 }
 
 /// Whether the line has this flag.

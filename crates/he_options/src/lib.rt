@@ -1,9 +1,10 @@
 //! The options of a command line that several commands of the program `he` have, and the values that they give.
 //!
 //! A module for each kind of value has its words as clap takes them and reads it from what clap found of a line: a
-//! port, a resolver, settings of a race and the rows of a comparison, times, the texts of races and the task that is
-//! done with them. Beside them are the refusal of a line ([`Refusal`]), the limits of all its numbers ([`limits`]),
-//! and a line's words as a terminal may show them ([`shown`]). The commands are those of `he_request`.
+//! port, a family of addresses, a resolver, settings of a race and the rows of a comparison, times, the texts of races
+//! and the task that is done with them. Beside them are the refusal of a line ([`Refusal`]), the limits of all its
+//! numbers ([`limits`]), and a line's words as a terminal may show them ([`shown`]). The commands are those of
+//! `he_request` and, for `he proxy`, of `he_proxy_request`.
 //!
 //! Proved, by what clap found of the words:
 //!
@@ -12,7 +13,7 @@
 //!   (`specs/Rows`); the files are those of the line, in order, no more than are taken (`specs/Texts`).
 //! - The port is the number that the word says, or the name of a service by its form (`specs/Ports`). The text of a
 //!   resolver names an address, at port 53, or one with a port other than 0 (`specs/Resolvers`); a time is as `5s`,
-//!   `500ms`, or a number alone (`specs/Times`).
+//!   `500ms`, or a number alone (`specs/Times`). The family is that of -4 or -6 (`specs/Families`).
 //! - Help, wrong words and lack of memory are distinguished (`specs/Refusals`).
 //! - A word as a terminal may show it has no character that controls one (`specs/Shown`).
 //!
@@ -20,6 +21,7 @@
 #![tactic(auto)]
 
 pub mod arguments;
+pub mod family;
 pub mod limits;
 pub mod port;
 pub mod refusal;

@@ -33,6 +33,8 @@ pub enum Refusal {
 /// Which option has a value that it can't have.
 #[derive(Clone, Copy, Debug, PartialEq, Eq, Error)]
 pub enum OptionFault {
+    #[error("invalid value for HOST: the host is empty")]
+    Host,
     #[error("invalid value for PORT: neither a number from 1 to 65535 nor the name of a service, as `https`")]
     Port,
     #[error("invalid value for '--resolver <RESOLVER>': neither an address, alone or with a port or an interface, nor `system`")]
@@ -61,6 +63,8 @@ pub enum OptionFault {
     Idle,
     #[error("invalid value for '--interval <SECONDS>': expected 1 to 1000000 seconds, as 60 or 60s, or less, as 500ms")]
     Interval,
+    #[error("invalid value for '--count <N>': expected a number from 1 to 1000000")]
+    Count,
     #[error("invalid value for '--record <FILE>': `-` goes with none of --json, --openmetrics and -q")]
     Output,
     #[error("invalid value for '--record': the name is empty")]
@@ -72,6 +76,9 @@ pub enum OptionFault {
     /// A setting isn't a number, or has a name that there isn't.
     #[error("invalid value for '--set <NAME=N>': expected NAME=N, with NAME one of attempt, resolution, count, limit, floor")]
     Form,
+    /// A setting has a list of numbers, which only a comparison takes.
+    #[error("invalid value for '--set <NAME=N>': a list of numbers is for `he compare`")]
+    List,
     #[error("invalid value for '--set <NAME=N,..>': one NAME may have a list, of at most 64 numbers")]
     Lists,
     /// This setting is out of its range.

@@ -37,7 +37,7 @@ pub fn set<'a>(alloc: Global) -> Arg<'a> {
 ///
 /// # Errors
 ///
-/// `Form`, `Range`, `Timeout` where one is no setting or out of its range.
+/// `Form`, `List`, `Range`, `Timeout` where one is no setting or out of its range.
 pub fn changes_of(matches: &ArgMatches<'_>) -> Result<Changes, OptionFault>
     ensures { IfOk result (AsksChanges (found_of matches.now)) }
 {
@@ -50,12 +50,12 @@ pub fn changes_of(matches: &ArgMatches<'_>) -> Result<Changes, OptionFault>
 ///
 /// # Errors
 ///
-/// `Form`, `Range`.
+/// `Form`, `List`, `Range`.
 pub fn changes_in(texts: &[&str], timeout: Option<u64>) -> Result<Changes, OptionFault>
     ensures { IfOk result (AsksSettings (map (λ text. text.now) texts.now) timeout) }
 {
     if !are_settings(texts) {
-        return Err(OptionFault::Form);
+        return Err(form_fault(texts));
     }
     Changes::new(
         last_number(b"resolution=", texts),
@@ -90,6 +90,23 @@ fn are_settings(texts: &[&str]) -> bool
         }
     }
     true
+}
+
+// Why texts of which one gives no setting a number are refused.
+fn form_fault(texts: &[&str]) -> OptionFault {
+    if texts.iter().any(|text| is_list(text)) {
+        OptionFault::List
+    } else {
+        OptionFault::Form
+    }
+}
+
+// Whether the text gives a setting several numbers, as `attempt=100,150`.
+fn is_list(text: &str) -> bool {
+    match text.split_once(',') {
+        Some((first, _)) => is_setting(first.as_bytes()),
+        None => false,
+    }
 }
 
 fn is_setting(text: &[u8]) -> bool

@@ -1,4 +1,1 @@
 mod Drawn
-mod Named
-mod Ports
-mod Ruled

@@ -4,8 +4,6 @@ use Rattle.std.specs.Option.{unwrap_or}
 use Rattle.std.specs.Str.{bytes_eq}
 use Rattle.clap.specs.Matches.{first_value}
 use Rattle.clap.specs.declared.parser.matches.Found.{Found}
-use Rattle.he_addr.specs.declared.ip.Family.{Family}
-use Rattle.he_addr.specs.declared.ip.Family.TheVariants as families
 use Rattle.he_timeline.specs.Changes.{ChangeValues}
 use Rattle.he_options.specs.Ports.{IsPort, NamesPort}
 use Rattle.he_options.specs.Resolvers.{AsksResolver}
@@ -15,7 +13,7 @@ use Rattle.he_options.specs.Words.{AsksChanges, HasFlag, HasNumber, connect_sett
 use Rattle.he_request.specs.declared.connect.Connection.{Connection}
 use Rattle.he_options.specs.declared.limits.TheConstants.{DEFAULT_WORKERS}
 use Rattle.he_request.specs.declared.live.Live.{Live}
-use Rattle.he_request.specs.Families.{AsksFamily}
+use Rattle.he_options.specs.Families.{AsksFamily}
 use Rattle.he_request.specs.Probes.{IsProbe}
 use Rattle.he_request.specs.declared.request.Request.{Request}
 use Rattle.he_request.specs.declared.request.Request.TheVariants as requests

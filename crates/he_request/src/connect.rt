@@ -1,14 +1,14 @@
 //! `he connect`.
-ghost use Rattle.std.specs.Prelude.{◌≡◌, [], IfOk, codes, option_map};
+ghost use Rattle.std.specs.Prelude.{◌≡◌, [], IfOk, codes};
 ghost use Rattle.std.specs.Option.{unwrap_or};
 ghost use Rattle.clap.specs.Matches.{first_value, found_of};
 ghost use Rattle.he_options.specs.Ports.{IsPort};
-ghost use Rattle.he_request.specs.Families.{AsksFamily};
 ghost use Rattle.he_request.specs.Requests.{AsksConnection};
 
 use clap::{ArgMatches, Command, value_parser};
 use he_addr::{Family, Memory};
-use he_options::arguments::{flag, flag_of, letter, plain, value, word};
+use he_options::arguments::{flag, flag_of, letter, machine, plain, record_of, value, word};
+use he_options::family::{family_of, four, six};
 use he_options::limits::MOST_WAIT;
 use he_options::port::port_of;
 use he_options::resolver::{resolver_argument, resolver_of};
@@ -27,9 +27,6 @@ const TRY_HELP: &str = "Only check the port: connect, close, exit 0";
 
 const WAIT_HELP: &str = "Wait MS milliseconds for standard input after the\n\
 remote has closed its side; default is 500";
-
-pub(crate) const LINES_HELP: &str = "Read this machine's addresses, routes and policy\n\
-table from FILE, lines as `he host` prints them";
 
 const RECORD_HELP: &str = "Write the race to FILE, for `he replay`;\n\
 with -z `-` is standard output";
@@ -87,20 +84,19 @@ none was made; 3 after a fault or on a usage error.";
 // Its arguments, in the order in which help has them. They are made in one list: a chain of `arg`, each of which may
 // be refused memory, takes minutes to prove.
 pub(crate) fn command<'a>(alloc: Global) -> Result<Command<'a>, Memory> {
-    let six = letter(alloc, "six", '6', "Use IPv6 only").conflicts_with("four")?;
     let wait = value(alloc, "wait", "MS", WAIT_HELP);
     let check = flag(alloc, "check", CHECK_HELP).conflicts_with("json")?;
     let warn = value(alloc, "warn", "MS", WARN_HELP).requires_arg("check")?;
     let args = vec![in alloc;
         word(alloc, "host", "HOST", "The host: a name or an address").required(true),
         word(alloc, "port", "PORT", PORT_HELP).required(true),
-        letter(alloc, "four", '4', "Use IPv4 only"),
-        six,
+        four(alloc),
+        six(alloc)?,
         letter(alloc, "try", 'z', TRY_HELP),
         timeout(alloc),
         set(alloc),
         wait.value_parser(value_parser!(u32).range(0..=i64::from(MOST_WAIT))),
-        value(alloc, "host-lines", "FILE", LINES_HELP).long("machine"),
+        machine(alloc),
         resolver_argument(alloc),
         value(alloc, "record", "FILE", RECORD_HELP),
         flag(alloc, "json", JSON_HELP),
@@ -157,7 +153,7 @@ pub(crate) fn connection_of<'a>(
     ensures port { IfOk result (λ connection. IsPort connection.port) }
     ensures asks { IfOk result (AsksConnection ⟦<u32 as FromStr>⟧.from_str_gives (found_of matches.now)) }
 {
-    let record = record_of(matches)?;
+    let (host, record) = (host_of(matches)?, record_of(matches)?);
     let (only_tries, checks) = (flag_of(matches, "try"), flag_of(matches, "check"));
     if record == Some(STANDARD) && checks {
         return Err(OptionFault::Check);
@@ -171,7 +167,7 @@ pub(crate) fn connection_of<'a>(
     }
     let (port, resolver) = (port_of(matches)?, resolver_of(alloc, matches)?);
     Ok(Connection {
-        host: host_of(matches),
+        host,
         port,
         only: family_of(matches),
         settings: settings_of(changes_of(matches)?),
@@ -188,38 +184,12 @@ pub(crate) fn connection_of<'a>(
     })
 }
 
-// The host that the line names.
-pub(crate) fn host_of<'a>(matches: &ArgMatches<'a>) -> &'a str
-    ensures { result.now ≡ unwrap_or (first_value (found_of matches.now) (codes "host")) [] }
+// The host that the line names. clap has tested that it names one.
+pub(crate) fn host_of<'a>(matches: &ArgMatches<'a>) -> Result<&'a str, OptionFault>
+    ensures { IfOk result (λ host. host.now ≡ unwrap_or (first_value (found_of matches.now) (codes "host")) []) }
 {
     match matches.get_str("host") {
-        Some(host) => host,
-        None => "",
-    }
-}
-
-// The file of the record that the line names, if it names one.
-pub(crate) fn record_of<'a>(matches: &ArgMatches<'a>) -> Result<Option<&'a str>, OptionFault>
-    ensures { IfOk result (λ file. option_map (λ path. path.now) file
-        ≡ first_value (found_of matches.now) (codes "record")) }
-{
-    let record = matches.get_str("record");
-    if record == Some("") {
-        return Err(OptionFault::NoName);
-    }
-    Ok(record)
-}
-
-// The only family that the line asks for.
-pub(crate) fn family_of(matches: &ArgMatches<'_>) -> Option<Family>
-    ensures { AsksFamily (found_of matches.now) result }
-{
-    let (four, six) = (flag_of(matches, "four"), flag_of(matches, "six"));
-    if four {
-        Some(Family::V4)
-    } else if six {
-        Some(Family::V6)
-    } else {
-        None
+        Some(host) if !host.is_empty() => Ok(host),
+        _ => Err(OptionFault::Host),
     }
 }

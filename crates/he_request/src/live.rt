@@ -4,10 +4,9 @@ ghost use Rattle.clap.specs.Matches.{found_of};
 ghost use Rattle.he_options.specs.Ports.{IsPort};
 ghost use Rattle.he_request.specs.Requests.{AsksLive};
 
-use crate::connect::record_of;
 use clap::{ArgMatches, Command};
 use he_addr::Memory;
-use he_options::arguments::{flag, flag_of, plain, value, word};
+use he_options::arguments::{flag, flag_of, plain, record_of, value, word};
 use he_options::port::port_of;
 use he_options::settings::{changes_of, set, timeout};
 use he_options::{OptionFault, Port, STANDARD};

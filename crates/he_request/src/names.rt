@@ -1,9 +1,9 @@
 //! `he names`.
 
-use crate::connect::record_of;
+use crate::connect::host_of;
 use clap::{ArgMatches, Command};
 use he_addr::Memory;
-use he_options::arguments::{flag, flag_of, plain, value, word};
+use he_options::arguments::{flag, flag_of, plain, record_of, value, word};
 use he_options::resolver::{resolver_argument, resolver_of};
 use he_options::{OptionFault, Resolver, STANDARD};
 use std::alloc::Global;
@@ -83,7 +83,7 @@ pub(crate) fn names_of<'a>(
         return Err(OptionFault::Answers);
     }
     Ok(Names {
-        host: matches.get_str("host").unwrap_or(""),
+        host: host_of(matches)?,
         resolver: resolver_of(alloc, matches)?,
         record,
         is_json: flag_of(matches, "json"),

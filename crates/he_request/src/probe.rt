@@ -4,13 +4,14 @@ ghost use Rattle.std.specs.Option.{unwrap_or};
 ghost use Rattle.clap.specs.Matches.{first_value, found_of};
 ghost use Rattle.he_options.specs.Times.{time_of};
 ghost use Rattle.he_options.specs.declared.limits.TheConstants.{MOST_PACE, MOST_WAIT, SECOND};
-ghost use Rattle.he_request.specs.Probes.{AsksProbe, IsProbe, judging_settings};
+ghost use Rattle.he_request.specs.Probes.{AsksProbe, IsProbe, count_in, judging_settings, rounds_of};
 ghost use Rattle.he_request.specs.declared.probe.TheConstants.{DEFAULT_TIMEOUT};
 
-use crate::connect::{LINES_HELP, family_of, host_of, record_of};
+use crate::connect::host_of;
 use clap::{ArgMatches, Command, value_parser};
-use he_addr::{Family, Memory};
-use he_options::arguments::{flag, flag_of, letter, plain, value, word};
+use he_addr::{Family, Memory, read_number};
+use he_options::arguments::{flag, flag_of, machine, plain, record_of, value, word};
+use he_options::family::{family_of, four, six};
 use he_options::limits::{MOST_IDLE, MOST_PACE, MOST_ROUNDS, MOST_WAIT, SECOND};
 use he_options::port::port_of;
 use he_options::resolver::{resolver_argument, resolver_of};
@@ -77,21 +78,19 @@ Of several rounds the worst counts: 1, then 3, then 4.";
 
 // Its arguments, in the order in which help has them.
 pub(crate) fn command<'a>(alloc: Global) -> Result<Command<'a>, Memory> {
-    let six = letter(alloc, "six", '6', "Use IPv6 only").conflicts_with("four")?;
     let pace = value(alloc, "pace", "MS", PACE_HELP);
-    let count = value(alloc, "count", "N", COUNT_HELP);
     let metrics = flag(alloc, "openmetrics", METRICS_HELP).conflicts_with("json")?;
     let quiet = flag(alloc, "quiet", QUIET_HELP).short('q');
     let args = vec![in alloc;
         word(alloc, "host", "HOST", "The host: a name or an address").required(true),
         word(alloc, "port", "PORT", PORT_HELP).required(true),
-        letter(alloc, "four", '4', "Use IPv4 only"),
-        six,
+        four(alloc),
+        six(alloc)?,
         value(alloc, "timeout", "MS", TIMEOUT_HELP),
         pace.value_parser(value_parser!(u32).range(0..=i64::from(MOST_PACE))),
-        count.value_parser(value_parser!(u32).range(1..=i64::from(MOST_ROUNDS))),
+        value(alloc, "count", "N", COUNT_HELP),
         value(alloc, "interval", "SECONDS", INTERVAL_HELP),
-        value(alloc, "host-lines", "FILE", LINES_HELP).long("machine"),
+        machine(alloc),
         resolver_argument(alloc),
         value(alloc, "record", "FILE", RECORD_HELP),
         flag(alloc, "json", JSON_HELP),
@@ -161,7 +160,7 @@ pub(crate) fn probe_of<'a>(
     ensures range { IfOk result IsProbe }
     ensures asks { IfOk result (AsksProbe (found_of matches.now)) }
 {
-    let record = record_of(matches)?;
+    let (host, record) = (host_of(matches)?, record_of(matches)?);
     let form = form_of(matches);
     let has_output = record == Some(STANDARD);
     if has_output && form != ProbeForm::Table {
@@ -171,13 +170,13 @@ pub(crate) fn probe_of<'a>(
     let interval = interval_of(matches)?;
     let (port, resolver) = (port_of(matches)?, resolver_of(alloc, matches)?);
     Ok(Probe {
-        host: host_of(matches),
+        host,
         port,
         only: family_of(matches),
         timeout,
         pace: pace_of(matches),
         settings: judging_settings(timeout)?,
-        rounds: rounds_of(matches.get_one::<u32>("count"), interval),
+        rounds: rounds_of(count_of(matches)?, interval),
         interval: or_second(interval),
         lines: matches.get_str("host-lines"),
         resolver,
@@ -257,11 +256,26 @@ fn judging_settings(timeout: u64) -> Result<Settings, OptionFault>
     }
 }
 
+// The number of `--count`.
+fn count_of(matches: &ArgMatches<'_>) -> Result<Option<u32>, OptionFault>
+    ensures { IfOk result (λ count. count ≡ count_in (first_value (found_of matches.now) (codes "count"))) }
+{
+    let Some(text) = matches.get_str("count") else {
+        return Ok(None);
+    };
+    match read_number(text.as_bytes()) {
+        Some(count) if 1 <= count && count <= u64::from(MOST_ROUNDS) => Ok(Some(count as u32)),
+        _ => Err(OptionFault::Count),
+    }
+}
+
 // The number of rounds; None if they don't end.
-fn rounds_of(count: Option<u32>, interval: Option<u64>) -> Option<u32> {
+fn rounds_of(count: Option<u32>, interval: Option<u64>) -> Option<u32>
+    ensures { result ≡ rounds_of count interval }
+{
     match (count, interval) {
+        (Some(count), _) => Some(count),
         (None, Some(_)) => None,
         (None, None) => Some(1),
-        (count, _) => count,
     }
 }

@@ -9,14 +9,14 @@ use crate::live::Live;
 use crate::meant::or_meant;
 use crate::names::Names;
 use crate::probe::Probe;
-use crate::proxy::Proxy;
 use crate::{
-    check, compare, connect, draw, explain, host, live, names, order, probe, proxy, replay, summary,
+    check, compare, connect, draw, explain, host, live, names, order, probe, replay, summary,
 };
 use clap::{ArgMatches, Command, Error};
 use he_addr::Memory;
 use he_options::texts::texts_of;
 use he_options::{Refusal, Task, Texts};
+use he_proxy_request::{Proxy, proxy};
 use std::alloc::Global;
 
 /// A request that a command line makes.

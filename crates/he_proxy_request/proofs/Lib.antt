@@ -1,0 +1,3 @@
+mod Named
+mod Ports
+mod Ruled

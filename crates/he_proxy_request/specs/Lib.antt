@@ -1,0 +1,3 @@
+pub mod Listening
+pub mod Proxies
+pub mod Rules

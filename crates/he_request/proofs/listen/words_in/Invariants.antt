@@ -1,7 +1,0 @@
-use Rattle.std.proofs.Common.{map, take}
-use Rattle.he_request.specs.Listening.{NamesListen}
-use Rattle.he_request.specs.Proxies.{AreNamed}
-use Rattle.he_request.proofs.listen.words_in.Given as goal
-
-abbrev pub invariant-loop-text : goal.invariant-loop-text
-invariant-loop-text l = AreNamed NamesListen (map (λ text. text.now) (take l.text-index l.texts)) l.words.items
