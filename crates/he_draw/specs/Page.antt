@@ -7,7 +7,7 @@ use Rattle.he_print.specs.declared.part.Fact.TheVariants.{Said, Number, Place}
 use Rattle.he_print.specs.Parts.{States}
 use Rattle.he_record.specs.Said.{Said as RecordSaid}
 use Rattle.he_story.specs.Story.{Tells, race_facts}
-use Rattle.he_story.specs.declared.said.Said.{Said as Words}
+use Rattle.he_statements.specs.declared.said.Said.{Said as Words}
 use Rattle.he_draw.specs.declared.rows.Row.{Row}
 use Rattle.he_draw.specs.declared.rows.What.{What}
 use Rattle.he_draw.specs.declared.rows.What.TheVariants.{Answer, Wait, Missing, Pause, Attempt}

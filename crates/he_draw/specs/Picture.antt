@@ -9,8 +9,8 @@ use Rattle.he_print.specs.declared.part.Part.{Part}
 use Rattle.he_print.specs.Parts.{States, fact_of}
 use Rattle.he_record.specs.Said.{Said as RecordSaid}
 use Rattle.he_story.specs.Story.{race_facts}
-use Rattle.he_story.specs.declared.said.Said.{Said as Words}
-use Rattle.he_story.specs.declared.said.Said.TheVariants as says
+use Rattle.he_statements.specs.declared.said.Said.{Said as Words}
+use Rattle.he_statements.specs.declared.said.Said.TheVariants as says
 use Rattle.he_draw.specs.declared.rows.Row.{Row}
 use Rattle.he_draw.specs.declared.rows.What.{What}
 use Rattle.he_draw.specs.declared.rows.What.TheVariants.{Answer, Wait, Missing, Pause, Attempt}

@@ -17,8 +17,8 @@ use Rattle.he_record.specs.Said.{Said as RecordSaid, ServerSaid}
 use Rattle.he_story.specs.Recorded.{say}
 use Rattle.he_story.specs.Slow.{are_names_slow}
 use Rattle.he_story.specs.Why.{reason_of_both}
-use Rattle.he_story.specs.declared.said.Said.{Said}
-use Rattle.he_story.specs.declared.said.Said.TheVariants as says
+use Rattle.he_statements.specs.declared.said.Said.{Said}
+use Rattle.he_statements.specs.declared.said.Said.TheVariants as says
 use Rattle.he_story.specs.declared.verdict.Charge.{Charge}
 
 -- the name servers are why a name has no address

@@ -7,8 +7,8 @@ use Rattle.he_plan.specs.declared.transcript.Mark.{Mark}
 use Rattle.he_plan.specs.declared.transcript.Mark.TheVariants as marks
 use Rattle.he_record.specs.Given.{is_untried_given}
 use Rattle.he_record.specs.Said.{Said as RecordSaid}
-use Rattle.he_story.specs.declared.said.Said.{Said}
-use Rattle.he_story.specs.declared.said.Said.TheVariants as says
+use Rattle.he_statements.specs.declared.said.Said.{Said}
+use Rattle.he_statements.specs.declared.said.Said.TheVariants as says
 
 -- an attempt that was under way for a number of ticks when its race ended: its outcome is unknown, as no client tried
 -- the address; or it gave no answer in the Connection Attempt Delay (RFC 8305 section 5); or it was stopped sooner

@@ -11,8 +11,8 @@ use Rattle.he_print.specs.declared.part.Fact.TheVariants as facts
 use Rattle.he_record.specs.Given.{nat64_given}
 use Rattle.he_record.specs.Said.{Said as RecordSaid}
 use Rattle.he_story.specs.Recorded.{say}
-use Rattle.he_story.specs.declared.said.Said.{Said}
-use Rattle.he_story.specs.declared.said.Said.TheVariants as says
+use Rattle.he_statements.specs.declared.said.Said.{Said}
+use Rattle.he_statements.specs.declared.said.Said.TheVariants as says
 
 -- the prefixes of the race's network, and the well-known one, 64:ff9b::/96
 abbrev pub prefixes_of : List RecordSaid → List PrefixBits

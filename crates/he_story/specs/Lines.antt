@@ -32,8 +32,8 @@ use Rattle.he_story.specs.Ends.{cut_at}
 use Rattle.he_story.specs.Hosts.{block_facts, prefixes_of}
 use Rattle.he_story.specs.Recorded.{because_facts, course_said, reason_at, say}
 use Rattle.he_story.specs.declared.happening.TheConstants.{LEAST_PAUSE}
-use Rattle.he_story.specs.declared.said.Said.{Said}
-use Rattle.he_story.specs.declared.said.Said.TheVariants as says
+use Rattle.he_statements.specs.declared.said.Said.{Said}
+use Rattle.he_statements.specs.declared.said.Said.TheVariants as says
 use Rattle.he_story.specs.declared.story.Story.{Story}
 
 -- the facts of the story so far

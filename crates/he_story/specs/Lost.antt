@@ -15,8 +15,8 @@ use Rattle.he_story.specs.Ends.{end_said}
 use Rattle.he_story.specs.Recorded.{say}
 use Rattle.he_story.specs.Slow.{are_names_slow}
 use Rattle.he_story.specs.Why.{server_facts}
-use Rattle.he_story.specs.declared.said.Said.{Said}
-use Rattle.he_story.specs.declared.said.Said.TheVariants as says
+use Rattle.he_statements.specs.declared.said.Said.{Said}
+use Rattle.he_statements.specs.declared.said.Said.TheVariants as says
 use Rattle.he_story.specs.declared.verdict.Charge.{Charge}
 use Rattle.he_story.specs.declared.verdict.TheConstants.{MAX_NAMED}
 

@@ -16,8 +16,8 @@ use Rattle.he_record.specs.declared.reasons.LookupReason.{LookupReason}
 use Rattle.he_record.specs.Given.{at_given, attempt_given, from_given, lookup_given, to_given}
 use Rattle.he_record.specs.Moments.{moment_text}
 use Rattle.he_record.specs.Said.{Said as RecordSaid, Nat64Said, ServerSaid, UntriedSaid, ticks_of}
-use Rattle.he_story.specs.declared.said.Said.{Said}
-use Rattle.he_story.specs.declared.said.Said.TheVariants as says
+use Rattle.he_statements.specs.declared.said.Said.{Said}
+use Rattle.he_statements.specs.declared.said.Said.TheVariants as says
 
 -- a statement, with the facts in its words
 abbrev pub say : Said → List (Fact Said) → List (Fact Said)

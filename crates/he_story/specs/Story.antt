@@ -24,8 +24,8 @@ use Rattle.he_story.specs.Lines.{happening_facts, preferred_facts}
 use Rattle.he_story.specs.Lost.{verdict_facts}
 use Rattle.he_story.specs.Why.{ended_with}
 use Rattle.he_story.specs.Recorded.{byte_facts, client_facts, named_facts, note_facts, say, unseen_reason, why_facts}
-use Rattle.he_story.specs.declared.said.Said.{Said}
-use Rattle.he_story.specs.declared.said.Said.TheVariants as says
+use Rattle.he_statements.specs.declared.said.Said.{Said}
+use Rattle.he_statements.specs.declared.said.Said.TheVariants as says
 
 -- how a race ended
 abbrev pub ended_by : Option Line → ℕ → Outcome3 → List (Fact Said)

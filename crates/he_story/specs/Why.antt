@@ -16,8 +16,8 @@ use Rattle.he_record.specs.declared.reasons.LookupReason.TheVariants as lookups
 use Rattle.he_record.specs.Given.{attempt_given, is_untried_given, lookup_given}
 use Rattle.he_record.specs.Said.{Said as RecordSaid, ServerSaid}
 use Rattle.he_story.specs.Recorded.{say}
-use Rattle.he_story.specs.declared.said.Said.{Said}
-use Rattle.he_story.specs.declared.said.Said.TheVariants as says
+use Rattle.he_statements.specs.declared.said.Said.{Said}
+use Rattle.he_statements.specs.declared.said.Said.TheVariants as says
 
 -- the place of a reason among them
 abbrev pub reason_place : AttemptReason → ℕ

@@ -5,7 +5,6 @@ ghost use Rattle.he_record.specs.Left.{said_of, target_shown};
 ghost use Rattle.he_story.specs.Check.{are_names_cause, asked_facts, attempt_facts, check_facts, check_of, is_alone, is_unfound, look_at, only_charge, only_server, port_facts, servers_of};
 ghost use Rattle.he_story.specs.Lines.{told};
 
-use crate::said::Said;
 use crate::story::Story;
 use crate::verdict::{Charge, are_names_slow};
 use crate::why::reason_of_both;
@@ -13,6 +12,7 @@ use he_addr::{Family, Ip, Memory};
 use he_course::{Course, Times};
 use he_print::Part;
 use he_record::{AttemptReason, LookupReason, Record, RecordLine};
+use he_statements::Said;
 use std::alloc::Allocator;
 
 // Whether the name servers are why a name has no address.

@@ -6,14 +6,14 @@ ghost use Rattle.he_story.specs.Lines.{told};
 ghost use Rattle.he_story.specs.Story.{answer_facts, answered_by, closing_facts, first_of, gap_facts, seen_facts, sooner_facts};
 
 use crate::recorded::unseen_reason;
-use crate::said::Said;
 use crate::story::Story;
-use crate::words::{name_of, version_of};
 use he_addr::{Family, Memory};
 use he_course::{Course, Ended, Seen};
 use he_plan::Line;
 use he_print::Part;
 use he_record::Record;
+use he_statements::Said;
+use he_statements::words::{name_of, version_of};
 use he_timeline::limits::MIN_FLOOR;
 use std::alloc::Allocator;
 

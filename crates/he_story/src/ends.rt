@@ -3,10 +3,10 @@
 ghost use Rattle.std.specs.Prelude.{◌≡◌};
 ghost use Rattle.he_story.specs.Ends.{cut_at, cut_said, end_said};
 
-use crate::said::Said;
 use he_addr::Ip;
 use he_plan::{Line, Mark};
 use he_record::Record;
+use he_statements::Said;
 use std::alloc::Allocator;
 
 /// The word for the end of an attempt: `Said::Won`, `Said::Failed`, or, if the race ended first, `Said::Unknown` at an

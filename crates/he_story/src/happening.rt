@@ -7,14 +7,14 @@ ghost use Rattle.he_story.specs.Lines.{became_facts, cause_facts, event_facts, h
 use crate::ends::cut_at;
 use crate::preferred::width_of;
 use crate::recorded::{course_said, reason_at};
-use crate::said::Said;
 use crate::story::Story;
-use crate::words::{name_of, noun, turn_words};
 use he_addr::{Family, Memory};
 use he_course::{Cause, Course, Event, EventKind, Listed, Seen, Start};
 use he_plan::Line;
 use he_print::Part;
 use he_record::{LookupReason, Record};
+use he_statements::Said;
+use he_statements::words::{name_of, noun, turn_words};
 use std::alloc::Allocator;
 
 /// The shortest pause, in milliseconds, that has a line in a story.

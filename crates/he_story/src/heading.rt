@@ -6,14 +6,14 @@ ghost use Rattle.he_print.specs.Parts.{fact_of};
 ghost use Rattle.he_story.specs.Lines.{told};
 ghost use Rattle.he_story.specs.Story.{ending_facts, file_facts, heading_facts, is_named, name_of, number_facts, outcome_facts, place_facts, race_facts, result_facts};
 
-use crate::said::Said;
 use crate::story::Story;
-use crate::words::{noun, version_of};
 use he_addr::Memory;
 use he_course::{Course, Ended};
 use he_plan::Outcome3;
 use he_print::{Part, push_parts};
 use he_record::Record;
+use he_statements::Said;
+use he_statements::words::{noun, version_of};
 use std::alloc::Allocator;
 
 impl<A: Allocator> Story<A> {

@@ -14,7 +14,7 @@
 //! event of the course has its line, with its tick, places, addresses, times and cause (`specs/Lines`); the numbers of
 //! the first lines are those of the course's account (`specs/Lost`), and what is to be checked is the only address or
 //! name server that took the time (`specs/Check`). If memory is refused, the vector is unchanged. he_course defines
-//! the course of a race. All words are in `src/words.rt`.
+//! the course of a race, and he_statements has all words.
 //!
 //! [`Record`]: he_record::Record
 #![tactic(auto)]
@@ -26,14 +26,11 @@ mod happening;
 mod heading;
 mod preferred;
 mod recorded;
-mod said;
 pub mod story;
 mod verdict;
 mod why;
-mod words;
 
 pub use ends::end_said;
+pub use he_statements::{Said, end_word};
 pub use heading::{heading_parts, outcome_parts};
-pub use said::Said;
 pub use story::write_story;
-pub use words::end_word;

@@ -5,7 +5,6 @@ ghost use Rattle.he_print.specs.Parts.{fact_of};
 ghost use Rattle.he_story.specs.Hosts.{block_facts, extracted, host_by, host_facts, host_of, prefixes_of};
 ghost use Rattle.he_story.specs.Lines.{address_lines, compared, numbered, preferred_facts, ranked_facts, reached_facts, reason_facts, rule_facts, source_label, source_scope, title_facts, told};
 
-use crate::said::Said;
 use crate::story::Story;
 use he_addr::{Ip, Memory, Prefix};
 use he_course::Preferred;
@@ -13,6 +12,7 @@ use he_nat64::Prefix64;
 use he_print::Part;
 use he_record::Record;
 use he_select::{DestinationAttributes, DestinationRule};
+use he_statements::Said;
 use itoa::Buffer;
 use std::alloc::Allocator;
 

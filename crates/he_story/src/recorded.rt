@@ -7,13 +7,13 @@ ghost use Rattle.he_record.specs.declared.moment.TheConstants.{MOMENT_LEN};
 ghost use Rattle.he_story.specs.Lines.{told};
 ghost use Rattle.he_story.specs.Recorded.{because_facts, byte_facts, client_address_facts, client_facts, course_said, moment_facts, named_facts, note_facts, reason_at, target_facts, time_facts, unseen_reason, why_facts};
 
-use crate::said::Said;
 use crate::story::Story;
 use he_addr::{Family, Ip, Memory};
 use he_course::Seen;
 use he_plan::Line;
 use he_print::{Part, push_parts};
 use he_record::{AttemptReason, ClientEnd, LookupReason, Moment, Record, RecordLine};
+use he_statements::Said;
 use std::alloc::Allocator;
 
 // Words that separate a statement from those before it, if there are any.

@@ -7,12 +7,12 @@ ghost use Rattle.he_print.specs.declared.part.Fact.TheVariants as facts;
 ghost use Rattle.he_story.specs.Lines.{told};
 ghost use Rattle.he_story.specs.Story.{Tells, name_of, story_facts};
 
-use crate::said::Said;
-use crate::words::{piece, words_of};
 use he_addr::Memory;
 use he_course::Course;
 use he_print::{Part, push_parts, write_parts};
 use he_record::Record;
+use he_statements::Said;
+use he_statements::words::{piece, words_of};
 use std::alloc::Allocator;
 
 // Room for the parts of most stories: per line, and for the other lines.

@@ -7,14 +7,14 @@ ghost use Rattle.he_story.specs.Slow.{are_names_slow};
 ghost use Rattle.he_story.specs.Lost.{charge_facts, charge_of, charges_of, each_facts, lost_facts, more_facts, names_facts, nothing_facts, rest_facts, share_facts, ticks_of, times_facts, verdict_facts};
 
 use crate::ends::end_said;
-use crate::said::Said;
 use crate::story::Story;
-use crate::words::end_word;
 use he_addr::{Ip, Memory};
 use he_course::{Course, Times};
 use he_plan::Line;
 use he_print::Part;
 use he_record::Record;
+use he_statements::Said;
+use he_statements::words::end_word;
 use std::alloc::Allocator;
 
 /// The most attempts on which a story names lost time.

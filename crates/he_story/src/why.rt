@@ -6,14 +6,14 @@ ghost use Rattle.he_record.specs.Left.{said_of};
 ghost use Rattle.he_story.specs.Lines.{told};
 ghost use Rattle.he_story.specs.Why.{all_have, common_reason, ended_with, exhausted_facts, failed_count, failed_facts, given_up_facts, have_untried, is_failed, limit_facts, none_facts, rank_of, reason_of_all, reason_of_both, reason_place, same_reason, server_facts, unanswered_facts, unfound_facts, won_facts};
 
-use crate::said::Said;
 use crate::story::Story;
-use crate::words::{noun, version_of};
 use he_addr::{Family, Memory};
 use he_course::Ended;
 use he_plan::{Line, Mark, Outcome3};
 use he_print::Part;
 use he_record::{AttemptReason, LookupReason, Record, RecordLine};
+use he_statements::Said;
+use he_statements::words::{noun, version_of};
 use std::alloc::Allocator;
 
 // The place of a reason among them.

@@ -4,8 +4,8 @@ use Rattle.he_print.specs.declared.part.Fact.{Fact}
 use Rattle.he_print.specs.declared.part.Fact.TheVariants as facts
 use Rattle.he_story.specs.Lines.{event_facts, kind_facts, late_at, told}
 use Rattle.he_story.specs.Recorded.{say}
-use Rattle.he_story.specs.declared.said.Said.{Said}
-use Rattle.he_story.specs.declared.said.Said.TheVariants as says
+use Rattle.he_statements.specs.declared.said.Said.{Said}
+use Rattle.he_statements.specs.declared.said.Said.TheVariants as says
 use Rattle.he_story.proofs.Pauses.{among_short}
 use Rattle.he_story.proofs.story.Story.tell_event.Goals as goal
 

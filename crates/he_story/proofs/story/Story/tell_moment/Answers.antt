@@ -3,7 +3,7 @@ use Rattle.he_print.specs.declared.part.Fact.{Fact}
 use Rattle.he_record.specs.Moments.{moment_text}
 use Rattle.he_story.specs.Lines.{told}
 use Rattle.he_story.specs.Recorded.{time_facts}
-use Rattle.he_story.specs.declared.said.Said.{Said}
+use Rattle.he_statements.specs.declared.said.Said.{Said}
 use Rattle.he_story.proofs.story.Story.tell_moment.Goals as goal
 
 pub returns-in-Some : goal.returns-in-Some

@@ -1,4 +1,4 @@
-// The words of a story.
+//! The words of a story.
 
 use crate::said::Said;
 use he_addr::Family;
@@ -7,7 +7,7 @@ use he_record::{AttemptReason, LookupReason, ServerReason};
 use he_select::DestinationRule;
 
 /// Words, in pieces: a part of the statement comes between each two pieces, in order.
-pub(crate) type Pieces = &'static [&'static [u8]];
+pub type Pieces = &'static [&'static [u8]];
 
 const NOTHING_LEFT: Pieces = &[
     b"not connected: no address left to try after ",
@@ -62,7 +62,8 @@ const PASSED: Pieces = &[
 
 const CHECK_SERVER: Pieces = &[b"\ncheck: the name server ", b" (/etc/resolv.conf)"];
 
-pub(crate) fn words_of(said: Said) -> Pieces {
+/// The words of a statement.
+pub fn words_of(said: Said) -> Pieces {
     match said {
         Said::Target | Said::Moment | Said::File => &[],
         Said::For => &[b"", b"for ", b""],
@@ -329,7 +330,8 @@ fn rule_words(rule: DestinationRule) -> Pieces {
     }
 }
 
-pub(crate) fn turn_words(turn: Turn, family: Family) -> &'static [u8] {
+/// The words for why it is the turn of an address of this family.
+pub fn turn_words(turn: Turn, family: Family) -> &'static [u8] {
     match (turn, family) {
         (Turn::Leads, Family::V6) => b"IPv6 first",
         (Turn::Leads, Family::V4) => b"IPv4 first",
@@ -350,28 +352,28 @@ pub fn end_word(said: Said) -> &'static [u8] {
     }
 }
 
-// The name of a family's addresses.
-pub(crate) fn version_of(family: Family) -> &'static [u8] {
+/// The name of a family's addresses.
+pub fn version_of(family: Family) -> &'static [u8] {
     match family {
         Family::V6 => b"IPv6",
         Family::V4 => b"IPv4",
     }
 }
 
-// The name of the answer of a family.
-pub(crate) fn name_of(family: Family) -> &'static [u8] {
+/// The name of the answer of a family.
+pub fn name_of(family: Family) -> &'static [u8] {
     match family {
         Family::V6 => b"AAAA",
         Family::V4 => b"A",
     }
 }
 
-// The word for one, or the word for another number.
-pub(crate) fn noun(count: usize, one: &'static [u8], many: &'static [u8]) -> &'static [u8] {
+/// The word for one, or the word for another number.
+pub fn noun(count: usize, one: &'static [u8], many: &'static [u8]) -> &'static [u8] {
     if count == 1 { one } else { many }
 }
 
-// The piece of this place, counted from 0.
-pub(crate) fn piece(words: Pieces, place: usize) -> &'static [u8] {
+/// The piece of this place, counted from 0.
+pub fn piece(words: Pieces, place: usize) -> &'static [u8] {
     words.get(place).copied().unwrap_or(b"")
 }
