@@ -1,9 +1,8 @@
 -- The record lines of a look-up.
-use Rattle.std.proofs.Common.{◌≡◌, ℕ, List, Bool, false, ne_eqb, subst, sym}
+use Rattle.std.proofs.Common.{◌≡◌, ℕ, List, Bool, subst, sym}
 use Rattle.std.specs.Global.{Vec}
-use Rattle.std.specs.Prelude.{◌==◌, Result, Ok, Err, IfOk, OnOk}
+use Rattle.std.specs.Prelude.{Result, Ok, Err, IfOk, OnOk}
 use Rattle.he_resolver.specs.declared.naming.LookupReport.{LookupReport}
-use Rattle.he_tasks.specs.declared.reports.TheConstants.{DONE}
 use Rattle.he_command.specs.Names.{IsLookupText, KeepsLookup, WasKept}
 
 pub was_kept : {E F : Type 0} (IsWritten : List ℕ → Type 0) (given : Result (Vec ℕ) F) (text : Vec ℕ) (own : List ℕ) (result : Result (Unit {0}) E)
@@ -16,6 +15,3 @@ pub kept_lookup : {F : Type 0} (IsWritten : List ℕ → Type 0) (lookup : Looku
     → IfOk given (λ text. IsLookupText lookup is_found text.items) → WasKept IsWritten given → KeepsLookup IsWritten lookup is_found
 kept_lookup IsWritten lookup is_found (Ok text) is written = (text.items, is, written)
 kept_lookup IsWritten lookup is_found (Err fault) is none = absurd none
-
-pub not_done : (n : ℕ) → (n ≡ 0 → ⊥) → false ≡ (n == DONE)
-not_done n other = sym (ne_eqb n 0 other)

@@ -1,7 +1,9 @@
 mod Checked
 mod Ended
 mod Files
+mod FoundNames
 mod Kept
+mod Machines
 mod RaceObjects
 mod Rounds
 mod Service

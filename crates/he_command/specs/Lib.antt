@@ -2,6 +2,7 @@ pub mod Checks
 pub mod Connection
 pub mod Files
 pub mod Live
+pub mod Machines
 pub mod Names
 pub mod Objects
 pub mod Probes

@@ -1,30 +1,38 @@
 -- The effects of `he names`.
 use Rattle.std.specs.Global.{Vec}
-use Rattle.std.specs.Prelude.{◌≡◌, ◌⊎◌, ℕ, Bool, true, false, List, [], IsSome, Option, Some, None, Result, Ok, Err, is_ok}
+use Rattle.std.specs.Prelude.{◌≡◌, ◌⊎◌, ◌==◌, ℕ, Bool, true, false, List, [], IsSome, Option, Some, None, Result, Ok, Err}
 use Rattle.std.specs.Borrow.{Bor}
+use Rattle.he_addr.specs.declared.ip.Family.TheVariants as families
 use Rattle.he_failures.specs.Recorded.{IsLookupRecord}
 use Rattle.he_failures.specs.declared.recorded.HeardFaults.{HeardFaults}
+use Rattle.he_json.specs.Names.{names_text}
+use Rattle.he_names.specs.Answers.{Answers, IsFound, answer_of, answers_text}
 use Rattle.he_record.specs.declared.moment.Moment.{Moment}
 use Rattle.he_request.specs.declared.names.Names.{Names}
-use Rattle.he_resolver.specs.Told.{TellsNames}
 use Rattle.he_resolver.specs.declared.naming.LookupReport.{LookupReport}
-use Rattle.he_resolver.specs.declared.tell_fault.TellFault.{TellFault}
 use Rattle.he_stream.specs.declared.stream.OutputStream as outputs
-use Rattle.he_tasks.specs.Status.{status_of}
-use Rattle.he_tasks.specs.Streams.{TookAll, TookPart}
-use Rattle.he_tasks.specs.declared.reports.TheConstants.{FAULT}
+use Rattle.he_tasks.specs.declared.reports.TheConstants.{DONE, FAULT}
 use Rattle.he_command.specs.Files.{WasWritten}
-use Rattle.he_command.specs.Objects.{ShowsNames}
+use Rattle.he_command.specs.Objects.{ShowsSuch}
 use Rattle.he_command.specs.declared.names.NamesEnd.{NamesEnd}
 
--- The addresses are found and written, or neither. The status is FAULT also if one family's look-up failed and the
--- other's addresses were written. With JSON they are written as an object.
-abbrev pub FindsNames : {O : Type 0} → outputs.Ghosts O → Bool → O → O → NamesEnd → Type 0
-FindsNames output true before after end = ShowsNames output before after end
-FindsNames output false before after end =
-    (result : Result (Unit {0}) TellFault)
-    × TellsNames (TookAll output before after) (TookPart output before after) (after ≡ before) result
-    × (end.is_found ≡ is_ok result) × ((end.status ≡ status_of result) ⊎ (end.status ≡ FAULT))
+-- the object of the addresses of this host, or their lines
+abbrev pub names_output : Bool → List ℕ → Answers → List ℕ
+names_output true host found = names_text host (answer_of families.V6 found) (answer_of families.V4 found)
+names_output false host found = answers_text found
+
+-- The addresses are written: names are found if all of that is. The status is FAULT also if one family's look-up failed
+-- and the other's addresses were written.
+abbrev pub ShowsNames : {O : Type 0} → outputs.Ghosts O → Names → Answers → O → O → NamesEnd → Type 0
+ShowsNames output names found before after end =
+    (shown : ℕ) × ShowsSuch output (λ text. text ≡ names_output names.is_json names.host.now found) before after shown
+    × (end.is_found ≡ (shown == DONE)) × ((end.status ≡ shown) ⊎ (end.status ≡ FAULT))
+
+-- addresses are found and written, or neither
+abbrev pub FindsNames : {O : Type 0} → outputs.Ghosts O → Names → O → O → NamesEnd → Type 0
+FindsNames output names before after end =
+    ((found : Answers) × IsFound found × ShowsNames output names found before after end)
+    ⊎ ((end.is_found ≡ false) × (end.status ≡ FAULT) × (after ≡ before))
 
 -- the faults and the events are those of the look-up's report
 pub record IsHeardIn (lookup : LookupReport) (heard : HeardFaults) : Type 0 where
@@ -59,7 +67,7 @@ EndsNames IsWritten lookup end (Some path) status =
 abbrev pub RunsLookup : {P O : Type 0} → outputs.Ghosts P → outputs.Ghosts O → Names → LookupReport → O → O → ℕ
     → Type 0
 RunsLookup page output names lookup before after status =
-    ((end : NamesEnd) × FindsNames output names.is_json before after end
+    ((end : NamesEnd) × FindsNames output names before after end
     × EndsNames (WasWritten page) lookup end names.record status)
     ⊎ (IsSome names.record × (after ≡ before) × (status ≡ FAULT))
 

@@ -7,9 +7,9 @@ use Rattle.he_log.specs.declared.log.LogForm.{LogForm}
 use Rattle.he_log.specs.declared.log.LogForm.TheVariants as forms
 use Rattle.he_proxy.specs.declared.request.ProxyRequest.{ProxyRequest}
 use Rattle.he_proxy.specs.declared.limits.TheConstants.{DEFAULT_RECORDS, DEFAULT_SESSIONS}
-use Rattle.he_request.specs.declared.proxy.Proxy.{Proxy}
-use Rattle.he_request.specs.declared.proxy.SessionLog.{SessionLog}
-use Rattle.he_request.specs.declared.proxy.SessionLog.TheVariants as logs
+use Rattle.he_proxy_request.specs.declared.proxy.Proxy.{Proxy}
+use Rattle.he_proxy_request.specs.declared.proxy.SessionLog.{SessionLog}
+use Rattle.he_proxy_request.specs.declared.proxy.SessionLog.TheVariants as logs
 use Rattle.he_options.specs.declared.resolver.Resolver.{Resolver}
 use Rattle.he_options.specs.declared.resolver.Resolver.TheVariants as resolvers
 use Rattle.he_tasks.specs.declared.reports.TheConstants.{FAULT, USAGE}

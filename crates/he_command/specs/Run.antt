@@ -14,6 +14,7 @@ use Rattle.he_tasks.specs.Whole.{DoesNamed}
 use Rattle.he_tasks.specs.declared.reports.TheConstants.{FAULT, USAGE}
 use Rattle.he_command.specs.Checks.{DoesConnection, is_check, refused_status}
 use Rattle.he_command.specs.Live.{RunsLive}
+use Rattle.he_command.specs.Machines.{RunsHost}
 use Rattle.he_command.specs.Names.{RunsNames}
 use Rattle.he_command.specs.Probes.{RunsProbe}
 use Rattle.he_command.specs.Proxies.{status_of_proxy}
@@ -35,7 +36,7 @@ RunsLine input file page output environment words (Ok (requests.Texts texts)) fi
 RunsLine input file page output environment words (Ok (requests.Live options)) first last before after status =
     RunsLive input file output options first last before after status
 RunsLine input file page output environment words (Ok (requests.Host options)) first last before after status =
-    (last ≡ first) × Shows output before after status
+    (last ≡ first) × RunsHost output options before after status
 RunsLine input file page output environment words (Ok (requests.Proxy proxy)) first last before after status =
     (last ≡ first) × (after ≡ before) × (status ≡ status_of_proxy proxy)
 RunsLine input file page output environment words (Ok (requests.Probe probe)) first last before after status =

@@ -7,7 +7,7 @@ ghost use Rattle.he_tasks.specs.Status.{status_of};
 ghost use Rattle.he_tasks.specs.declared.reports.TheConstants.{FAULT};
 
 use crate::check::{judge, run_check};
-use crate::objects::{race_object, show_object};
+use crate::objects::{race_object, show_text};
 use crate::port::number_of;
 use crate::race_request::race_of;
 use crate::record::{discard_record, keep_record, open_record};
@@ -143,7 +143,7 @@ fn show_race<R, O: OutputStream, F: Write>(
 ) -> u8
     ensures { ShowsRace O.OutputStream text.now session.old.output session.new.output result }
 {
-    show_object(session, race_object(session.alloc, text))
+    show_text(session, race_object(session.alloc, text))
 }
 
 // Relays the connection, if there is one, or closes it with `only_tries`.
@@ -217,7 +217,7 @@ pub(crate) fn report_race<R, O, F: Write>(
     let faults = &mut session.faults;
     match (fault, request.lines) {
         (
-            ConnectFault::File | ConnectFault::Lines(_) | ConnectFault::OtherLines,
+            ConnectFault::File(_) | ConnectFault::Lines(_) | ConnectFault::OtherLines,
             Lines::File(path),
         ) => report_of(alloc, fault, path, faults),
         (fault, _) if fault.is_of_host() => report_of(alloc, fault, request.host, faults),

@@ -1,31 +1,36 @@
 //! `he host`.
-ghost use Rattle.he_tasks.specs.Streams.{Shows};
+ghost use Rattle.std.specs.Prelude.{IfOk};
+ghost use Rattle.he_command.specs.Machines.{IsMachineFor, IsMachineText, RunsHost};
 
-use crate::objects::{machine_object, show_object};
+use crate::objects::show_text;
 use crate::system::System;
 use he_addr::Ip;
-use he_host::machine::write_machine;
+use he_host::machine::read_machine;
+use he_inputs::StreamFault;
+use he_json::write_machine_json;
 use he_kernel::fault::MachineFault;
-use he_kernel::taken::write_machine_to;
+use he_kernel::taken::read_machine_to;
+use he_kernel::writing::write_host;
 use he_request::Host;
+use he_select::Host as Machine;
 use he_stream::OutputStream;
 use he_tasks::Session;
 use he_tasks::reports::report;
-use he_tasks::session::put_all;
+use std::alloc::Global;
 use std::io::Write;
 
-// Writes the source and route lines of all, or for the destinations, or their object, and the remarks on them.
+// Writes the addresses and routes of this machine, or those for the destinations, and the remarks on them.
 pub(crate) fn run_host<R: System, O: OutputStream, F: Write>(
     session: &mut Session<'_, '_, R, O, F>,
     host: &Host,
 ) -> u8
-    ensures { Shows O.OutputStream session.old.output session.new.output result }
+    ensures { RunsHost O.OutputStream host.now session.old.output session.new.output result }
 {
-    let mut lines = Vec::new(session.alloc);
     let mut remarks = Vec::new(session.alloc);
-    match write_lines(session.system, &host.destinations, &mut lines, &mut remarks) {
-        Ok(()) => {
-            let status = show_lines(session, &lines, host.is_json);
+    match read_for(session.system, &host.destinations, &mut remarks) {
+        Ok(machine) => {
+            let text = text_of(session.alloc, &machine, host.is_json);
+            let status = show_text(session, text);
             let _ = session.faults.write_all(remarks.as_slice());
             status
         }
@@ -33,31 +38,30 @@ pub(crate) fn run_host<R: System, O: OutputStream, F: Write>(
     }
 }
 
-// Shows the lines, or their object.
-fn show_lines<R, O: OutputStream, F: Write>(
-    session: &mut Session<'_, '_, R, O, F>,
-    lines: &[u8],
-    is_json: bool,
-) -> u8
-    ensures { Shows O.OutputStream session.old.output session.new.output result }
+// The machine: all of it, or for the destinations, with remarks.
+fn read_for<R: System>(
+    rt: &R,
+    destinations: &[Ip],
+    remarks: &mut Vec<u8>,
+) -> Result<Machine<Global>, MachineFault>
+    ensures { IfOk result (IsMachineFor destinations.now) }
 {
-    if is_json {
-        show_object(session, machine_object(session.alloc, lines))
+    if destinations.is_empty() {
+        read_machine(rt, remarks)
     } else {
-        put_all(session, lines, false)
+        read_machine_to(rt, destinations, remarks)
     }
 }
 
-// The source and route lines of all, or for the destinations, with remarks.
-fn write_lines<R: System>(
-    rt: &R,
-    destinations: &[Ip],
-    lines: &mut Vec<u8>,
-    remarks: &mut Vec<u8>,
-) -> Result<(), MachineFault> {
-    if destinations.is_empty() {
-        write_machine(rt, lines, remarks)
-    } else {
-        write_machine_to(rt, destinations, lines, remarks)
+// The object of the machine, or its lines.
+fn text_of(alloc: Global, machine: &Machine<Global>, is_json: bool) -> Result<Vec<u8>, StreamFault>
+    ensures { IfOk result (λ text. IsMachineText is_json machine.now text.items) }
+{
+    let mut text = Vec::new(alloc);
+    if is_json {
+        write_machine_json(alloc, machine.sources(), machine.routes(), &mut text)?;
+        return Ok(text);
     }
+    write_host(machine, &mut text)?;
+    Ok(text)
 }

@@ -16,15 +16,16 @@
 //! - The status of a check is 0 if the race that was run for the request connected and lost no more than the line
 //!   allows, 1 if it lost more, and 2 if it did not connect, all by the race that its record is; or 3, without such a
 //!   race or after another fault (`specs/Checks`).
+//! - The answers of a look-up, and the sources and routes of a machine, are written as their lines or their object.
+//!   With destinations the machine is that for these, by the kernel's answers (`specs/Names`, `specs/Machines`).
 //! - Rounds of probes are those of the request, at most the requested number, and the output takes the text of each,
 //!   one after the other; the status is the worst of the rounds, by their rows and the faults of their look-ups, or 1
 //!   after another fault (`specs/Probes`).
 //! - A line without a command to run leaves the input alone: help and the version go to the output; a refused line
 //!   writes nothing to the output, and the status is 2, or 1 if an allocation failed, or 3 if it is that of a check.
 //!
-//! Tested only: which files are opened and when they get their names, the output of `he host`, which machine and which
-//! answers an object has, the tables and the metrics of `he probe`, the file of its records, the line of a check, and
-//! the text of help and faults.
+//! Tested only: which files are opened and when they get their names, which answers and which machine are found, the
+//! tables and the metrics of `he probe`, the file of its records, the line of a check, and the text of help and faults.
 #![tactic(auto)]
 
 mod check;

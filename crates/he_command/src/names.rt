@@ -1,24 +1,25 @@
 //! `he names`.
 ghost use Rattle.std.specs.Prelude.{◌≡◌, ◌⊎◌, IfOk, OnOk};
 ghost use Rattle.he_command.specs.Files.{WasWritten};
-ghost use Rattle.he_command.specs.Names.{FindsNames, IsLookupText, RunsLookup, RunsNames, WasKept};
-ghost use Rattle.he_command.specs.Objects.{ShowsNames};
+ghost use Rattle.he_command.specs.Names.{FindsNames, IsLookupText, RunsLookup, RunsNames, ShowsNames, WasKept, names_output};
 ghost use Rattle.he_command.specs.Probes.{family_status};
-ghost use Rattle.he_tasks.specs.Status.{status_of};
+ghost use Rattle.he_names.specs.Answers.{IsFound};
 
-use crate::objects::{names_object, show_object};
+use crate::objects::show_text;
 use crate::race_request::choice_of;
 use crate::record::write_record;
 use crate::system::{System, Variables};
-use he_addr::Memory;
+use he_addr::{Family, Memory};
 use he_failures::{HeardFaults, lookup_record};
 use he_files::{NewName, create_beside};
-use he_names::Environment;
+use he_inputs::StreamFault;
+use he_json::write_names_json;
+use he_names::{Environment, Found};
 use he_options::shown::shown;
 use he_record::Moment;
 use he_recording::moment_now;
 use he_request::Names;
-use he_resolver::{LookupReport, TellFault, write_names};
+use he_resolver::{LookupReport, find_names};
 use he_settings::{NamesFault, Wanted};
 use he_stream::{OutputStream, ToWriter};
 use he_tasks::reports::{report, report_of, report_path};
@@ -52,12 +53,12 @@ fn run_kept<R: System, O: OutputStream, F: Write>(
         session.old.output session.new.output result }
 {
     let Some(path) = names.record else {
-        return find_names(session, names, lookup).status;
+        return look_up(session, names, lookup).status;
     };
     match create_beside(session.system, session.alloc, path) {
         Ok((file, name)) => {
             let at = moment_now(session.system);
-            let end = find_names(session, names, lookup);
+            let end = look_up(session, names, lookup);
             let text = lines_of(session.alloc, at, lookup, end.is_found);
             match keep_lines(session.system, file, name, text) {
                 Ok(()) => end.status,
@@ -116,23 +117,25 @@ fn keep_lines<R: Files>(
     }
 }
 
-fn find_names<R: System, O: OutputStream, F: Write>(
+// Finds the addresses and writes them, and prints the events of the look-up if requested.
+fn look_up<R: System, O: OutputStream, F: Write>(
     session: &mut Session<'_, '_, R, O, F>,
     names: Names<'_>,
     lookup: &mut LookupReport,
 ) -> NamesEnd
-    ensures { FindsNames O.OutputStream names.entry.is_json session.old.output session.new.output result }
+    ensures { FindsNames O.OutputStream names.entry session.old.output session.new.output result }
 {
-    if names.is_json {
-        return run_object(session, names, lookup);
-    }
     let (rt, alloc) = (session.system, session.alloc);
     let variables = Variables::read(rt);
     let wanted = wanted_of(names, variables.environment());
-    let end = write_names(rt, alloc, &mut session.output, wanted, lookup);
-    NamesEnd {
-        status: report_names(session, end, lookup, names),
-        is_found: end.is_ok(),
+    let found = find_names(rt, alloc, wanted, lookup);
+    tell_events(names, lookup, &mut session.faults);
+    match found {
+        Ok(found) => show_names(session, names, &found, lookup),
+        Err(fault) => NamesEnd {
+            status: report_fault(alloc, fault, names.host, &mut session.faults),
+            is_found: false,
+        },
     }
 }
 
@@ -145,66 +148,65 @@ fn wanted_of<'a>(names: Names<'a>, environment: Environment<'a>) -> Wanted<'a> {
     }
 }
 
-// Finds the addresses, and writes them as an object.
-fn run_object<R: System, O: OutputStream, F: Write>(
+// Writes the addresses, and prints why the look-up of a family failed.
+fn show_names<R, O: OutputStream, F: Write>(
     session: &mut Session<'_, '_, R, O, F>,
     names: Names<'_>,
-    lookup: &mut LookupReport,
+    found: &Found,
+    lookup: &LookupReport,
 ) -> NamesEnd
-    ensures { ShowsNames O.OutputStream session.old.output session.new.output result }
+    ensures shows { ShowsNames O.OutputStream names.entry found.now session.old.output session.new.output result }
+    ensures found { IsFound found.now }
 {
-    let (rt, alloc) = (session.system, session.alloc);
-    let mut lines = ToWriter::new(Vec::new(alloc));
-    let variables = Variables::read(rt);
-    let wanted = wanted_of(names, variables.environment());
-    let end = write_names(rt, alloc, &mut lines, wanted, lookup);
-    let status = report_names(session, end, lookup, names);
-    if end.is_err() {
+    let alloc = session.alloc;
+    let text = text_of(alloc, names, found);
+    let shown = show_text(session, text);
+    if shown != DONE {
         return NamesEnd {
-            status: FAULT,
+            status: shown,
             is_found: false,
         };
     }
-    let shown = show_object(session, names_object(alloc, names.host, lines.writer()));
-    if shown == DONE {
-        NamesEnd {
-            status,
-            is_found: true,
-        }
-    } else {
-        NamesEnd {
-            status: shown,
-            is_found: false,
-        }
+    NamesEnd {
+        status: report_families(alloc, lookup, names.host, &mut session.faults),
+        is_found: true,
     }
 }
 
-// Prints the events: `he: 12 ms: AAAA answer: 2 addresses from 192.0.2.1`. A failed write is ignored.
-fn tell_events<F: Write>(lookup: &LookupReport, faults: &mut F) {
+// The object of the addresses, or their lines.
+fn text_of(alloc: Global, names: Names<'_>, found: &Found) -> Result<Vec<u8>, StreamFault>
+    ensures text { IfOk result (λ text. text.items ≡ names_output names.entry.is_json names.entry.host.now found.now) }
+    ensures found { IsFound found.now }
+{
+    let mut text = Vec::new(alloc);
+    if names.is_json {
+        let (aaaa, a) = (found.answer(Family::V6), found.answer(Family::V4));
+        write_names_json(alloc, names.host, aaaa, a, &mut text)?;
+        return Ok(text);
+    }
+    found.write(&mut text)?;
+    Ok(text)
+}
+
+// Prints the events if requested: `he: 12 ms: AAAA answer: 2 addresses from 192.0.2.1`. A failed write is ignored.
+fn tell_events<F: Write>(names: Names<'_>, lookup: &LookupReport, faults: &mut F) {
+    if !names.tells_steps {
+        return;
+    }
     for event in &lookup.events {
         let (tick, event) = (event.tick, *event);
         let _ = writeln!(faults, "he: {tick} ms: {event}");
     }
 }
 
-// Prints the events if requested, and how a search for names ended, and returns the exit status.
-fn report_names<R, O, F: Write>(
-    session: &mut Session<'_, '_, R, O, F>,
-    end: Result<(), TellFault>,
-    lookup: &LookupReport,
-    names: Names<'_>,
-) -> u8
-    ensures status { (result ≡ status_of end) ⊎ (result ≡ FAULT) }
-    ensures output { session.new.output ≡ session.old.output }
+// Prints why there is no address, with the host if the fault concerns it, and returns the exit status.
+fn report_fault<F: Write>(alloc: Global, fault: NamesFault, host: &str, faults: &mut F) -> u8
+    ensures { result ≡ FAULT }
 {
-    let (alloc, faults) = (session.alloc, &mut session.faults);
-    if names.tells_steps {
-        tell_events(lookup, faults);
-    }
-    match end {
-        Ok(()) => report_families(alloc, lookup, names.host, faults),
-        Err(fault) if fault.is_of_host() => report_of(alloc, fault, names.host, faults),
-        Err(fault) => report(fault, faults),
+    if fault.is_of_host() {
+        report_of(alloc, fault, host, faults)
+    } else {
+        report(fault, faults)
     }
 }
 

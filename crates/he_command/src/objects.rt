@@ -1,5 +1,5 @@
-// Objects in place of lines: reads the lines as a race, and writes its contents as JSON.
-ghost use Rattle.std.specs.Prelude.{◌≡◌, [], ◌∷◌, List, Result, None, false, IfOk};
+// The object of a race with its record, from the text of both.
+ghost use Rattle.std.specs.Prelude.{◌≡◌, [], ◌∷◌, List, None, false, IfOk};
 ghost use Rattle.he_course.specs.Course.{IsRecordedCourse};
 ghost use Rattle.he_inputs.specs.Inputs.{HasRaces};
 ghost use Rattle.he_inputs.specs.Recorded.{IsRecordedAs};
@@ -7,12 +7,11 @@ ghost use Rattle.he_record.specs.Given.{untried_given};
 ghost use Rattle.he_record.specs.Said.{Said};
 ghost use Rattle.he_timeline.specs.Race.{Race};
 ghost use Rattle.he_command.specs.Objects.{IsRaceObject, ShowsMade};
-ghost use Rattle.he_tasks.specs.Streams.{Shows};
 
-use he_addr::{Family, Ip};
+use he_addr::Ip;
 use he_course::Course;
 use he_inputs::{NotOneRace, StreamFault, read_one_race, record_of};
-use he_json::{write_explanation_json, write_machine_json, write_names_json};
+use he_json::write_explanation_json;
 use he_record::Record;
 use he_stream::OutputStream;
 use he_tasks::Session;
@@ -22,40 +21,17 @@ use he_timeline::Timeline;
 use std::alloc::Global;
 use std::io::Write;
 
-// Writes an object to the output, or prints why there is none, and returns the exit status.
-pub(crate) fn show_object<R, O: OutputStream, F: Write>(
+// Writes a text to the output, or prints why there is none, and returns the exit status.
+pub(crate) fn show_text<R, O: OutputStream, F: Write>(
     session: &mut Session<'_, '_, R, O, F>,
     made: Result<Vec<u8>, StreamFault>,
 ) -> u8
-    ensures made { ShowsMade O.OutputStream made session.old.output session.new.output result }
-    ensures shows { Shows O.OutputStream session.old.output session.new.output result }
+    ensures { ShowsMade O.OutputStream made session.old.output session.new.output result }
 {
     match made {
-        Ok(object) => put_all(session, &object, false),
+        Ok(text) => put_all(session, &text, false),
         Err(fault) => report(fault, &mut session.faults),
     }
-}
-
-// The object of a machine's lines.
-pub(crate) fn machine_object(alloc: Global, lines: &[u8]) -> Result<Vec<u8>, StreamFault> {
-    let race = race_with(alloc, lines)?;
-    let (sources, routes) = (race.host().sources(), race.host().routes());
-    let mut object = Vec::new(alloc);
-    write_machine_json(alloc, sources, routes, &mut object).map_err(|_| StreamFault::Memory)?;
-    Ok(object)
-}
-
-// The object of the answers of a host.
-pub(crate) fn names_object(
-    alloc: Global,
-    host: &str,
-    lines: &[u8],
-) -> Result<Vec<u8>, StreamFault> {
-    let race = race_with(alloc, lines)?;
-    let (aaaa, a) = (race.answer(Family::V6), race.answer(Family::V4));
-    let mut object = Vec::new(alloc);
-    write_names_json(alloc, host, aaaa, a, &mut object).map_err(|_| StreamFault::Memory)?;
-    Ok(object)
 }
 
 // The object of a race with its record, from the text of both.
@@ -105,14 +81,6 @@ pub(crate) fn course_of(
         Ok(course) => Ok(course),
         Err(_) => Err(StreamFault::Memory),
     }
-}
-
-// The race with only these lines.
-fn race_with(alloc: Global, lines: &[u8]) -> Result<Timeline, StreamFault> {
-    let mut text = Vec::from_slice(alloc, b"race 2\n")?;
-    text.extend_from_slice(lines)?;
-    text.extend_from_slice(b"end\n")?;
-    race_in(alloc, &text)
 }
 
 // The one race of a text.

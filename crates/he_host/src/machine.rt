@@ -1,4 +1,4 @@
-// This machine: reads its files, asks the kernel what they leave open, and writes the lines.
+// This machine: reads its files, and asks the kernel what they leave open.
 //
 // Proved: this is safe and ends. No contract has the system's answers.
 
@@ -19,7 +19,6 @@ use he_kernel::link::Link;
 use he_kernel::parts::field;
 use he_kernel::sockets::{NO_SCOPE, ROOT_SERVER_V4, ROOT_SERVER_V6, ask_source};
 use he_kernel::why::Why;
-use he_kernel::writing::write_host;
 use he_select::{Host, Policy, Route, Source};
 use std::alloc::{AllocGlobal, Global};
 use std::fs;
@@ -240,17 +239,16 @@ fn ask_host<R: Net + AllocGlobal>(
     Ok(found)
 }
 
-/// Appends the `source` and `route` lines of this machine, and a remark for each thing that is left out or is a guess,
-/// and for each file that exists but can't be read.
+/// The sources and routes of this machine. Appends a remark for each thing that is left out or is a guess, and for each
+/// file that exists but can't be read.
 ///
 /// # Errors
 ///
 /// [`MachineFault::NoFiles`] if `/proc/net` can't be read. [`MachineFault::Memory`] if an allocation fails.
-pub fn write_machine<R: FileSystem + Net + AllocGlobal>(
+pub fn read_machine<R: FileSystem + Net + AllocGlobal>(
     rt: &R,
-    lines: &mut Vec<u8>,
     remarks: &mut Vec<u8>,
-) -> Result<(), MachineFault> {
+) -> Result<Host<Global>, MachineFault> {
     let named = read_interfaces(rt, remarks)?;
     let mut interfaces = Vec::new(rt.alloc());
     for interface in named.iter() {
@@ -269,9 +267,8 @@ pub fn write_machine<R: FileSystem + Net + AllocGlobal>(
         ipv6_route: &ipv6_route,
         route: &route,
     };
-    let found = ask_host(rt, files, &interfaces, remarks)?;
-    write_host(&found.host, lines)?;
-    write_remarks(rt.alloc(), files, &found.left_out, remarks)?;
+    let FoundHost { host, left_out } = ask_host(rt, files, &interfaces, remarks)?;
+    write_remarks(rt.alloc(), files, &left_out, remarks)?;
     write_unseen_tables(rt.alloc(), files.fib_trie, remarks)?;
-    Ok(())
+    Ok(host)
 }

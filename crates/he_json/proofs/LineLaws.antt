@@ -1,7 +1,6 @@
 -- Each text is one line.
 use Rattle.std.proofs.Common.{◌≡◌, ◌&&◌, ℕ, Bool, true, false, List, [], ◌∷◌, ◌++◌, map, codes, decimal, refl, ◌∙◌, append_assoc}
 use Rattle.std.specs.Prelude.{Option, None, Some}
-use Rattle.std.specs.Borrow.{Bor}
 use Rattle.std.specs.Cmp.Derive.{both_true}
 use Rattle.std.specs.List.{flat_map, list_all}
 use Rattle.std.proofs.lemmas.Bool.{false≢true}
@@ -22,7 +21,7 @@ use Rattle.he_json.specs.Documents.{Spot, beginning_text, explanation_text, file
 use Rattle.he_json.specs.Json.{address_text, member_text, object_text, objects_text, parted, value_text}
 use Rattle.he_json.specs.Laws.{IsLine}
 use Rattle.he_json.specs.Machine.{machine_text}
-use Rattle.he_json.specs.Names.{addresses_text, answer_text, given_text, names_text}
+use Rattle.he_json.specs.Names.{addresses_text, answer_text, names_text}
 use Rattle.he_json.specs.Recorded.{array_text, attempt_text, client_text, listing_text, lookup_text, nat64_text, object_texts, opening_text, recorded_text, result_text, server_text, target_text, time_text, untried_text}
 use Rattle.he_json.specs.Times.{millis_text, times_text}
 use Rattle.he_json.specs.declared.recorded.Listing.{Listing}
@@ -80,14 +79,10 @@ times_stand times =
 addresses_stand : (ips : List Ip) → Stands (addresses_text ips)
 addresses_stand ips = bracketed (codes "[") (parted [] (map address_text ips)) (codes "]") refl (parted_stands address_text address_stands [] refl ips) refl
 
-given_stands : (tick : ℕ) (ips : List Ip) → Stands (given_text tick ips)
-given_stands tick ips =
+answer_stands : (answer : ℕ × List Ip) → Stands (answer_text answer)
+answer_stands (tick, ips) =
     bracketed (codes "{\"tick\":") (decimal tick) (codes ",\"addresses\":" ++ (addresses_text ips ++ codes "}")) refl (decimal_stands tick)
     (bracketed (codes ",\"addresses\":") (addresses_text ips) (codes "}") refl (addresses_stand ips) refl)
-
-answer_stands : (answer : Option (ℕ × Bor (List Ip))) → Stands (answer_text answer)
-answer_stands None = refl
-answer_stands (Some answer) = given_stands answer.0 answer.1.now
 
 module _ (strings : StringsAreLines) where
   value_stands : (value : Value) → Stands (value_text value)
@@ -281,7 +276,7 @@ module _ (strings : StringsAreLines) where
             (bracketed (codes ",\"routes\":") (objects_text routes) (codes "}") refl (objects_stands routes) refl),
       )
 
-  pub names_is_line : (host : List ℕ) (aaaa a : Option (ℕ × Bor (List Ip))) → IsLine (names_text host aaaa a)
+  pub names_is_line : (host : List ℕ) (aaaa a : ℕ × List Ip) → IsLine (names_text host aaaa a)
   names_is_line host aaaa a =
       let last : List ℕ = codes ",\"a\":" ++ (answer_text a ++ codes "}") in
       let more : List ℕ = codes ",\"aaaa\":" ++ (answer_text aaaa ++ last) in (

@@ -1,6 +1,5 @@
 -- Consequences of the definitions.
-use Rattle.std.specs.Prelude.{ℕ, ◌≡◌, ◌++◌, not, IsTrue, List, [], ◌∷◌, Option}
-use Rattle.std.specs.Borrow.{Bor}
+use Rattle.std.specs.Prelude.{ℕ, ◌≡◌, ◌++◌, not, IsTrue, List, [], ◌∷◌}
 use Rattle.std.specs.List.{list_all}
 use Rattle.he_addr.specs.declared.ip.Ip.{Ip}
 use Rattle.he_addr.specs.Printing.{printed}
@@ -31,7 +30,7 @@ abbrev pub MachinesAreLines : Type 0
 MachinesAreLines = (sources routes : List (List Member)) → IsLine (machine_text sources routes)
 
 abbrev pub NamesAreLines : Type 0
-NamesAreLines = (host : List ℕ) (aaaa a : Option (ℕ × Bor (List Ip))) → IsLine (names_text host aaaa a)
+NamesAreLines = (host : List ℕ) (aaaa a : ℕ × List Ip) → IsLine (names_text host aaaa a)
 
 -- no character of an address needs an escape in a string
 abbrev pub AddressesArePlain : Type 0

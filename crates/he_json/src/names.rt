@@ -2,7 +2,7 @@
 
 ghost use Rattle.std.specs.Prelude.{◌≡◌, ◌++◌, [], map, IfOk, OnErr, OnOk};
 ghost use Rattle.he_json.specs.Json.{address_text, parted};
-ghost use Rattle.he_json.specs.Names.{addresses_text, answer_text, given_text, names_text};
+ghost use Rattle.he_json.specs.Names.{addresses_text, answer_text, names_text};
 
 use crate::members::{write_address, write_words};
 use he_addr::{Ip, Memory, write_number};
@@ -30,12 +30,12 @@ fn write_addresses<A: Allocator + Copy>(ips: &[Ip], text: &mut Vec<u8, A>) -> Re
     write_words(b"]", text)
 }
 
-fn write_given<A: Allocator + Copy>(
+fn write_answer<A: Allocator + Copy>(
     tick: u64,
     ips: &[Ip],
     text: &mut Vec<u8, A>,
 ) -> Result<(), Memory>
-    ensures { OnOk result (text.new.items ≡ text.old.items ++ given_text tick ips.now) }
+    ensures { OnOk result (text.new.items ≡ text.old.items ++ answer_text (tick, ips.now)) }
 {
     write_words(b"{\"tick\":", text)?;
     write_number(tick, text)?;
@@ -44,32 +44,21 @@ fn write_given<A: Allocator + Copy>(
     write_words(b"}", text)
 }
 
-fn write_answer<A: Allocator + Copy>(
-    answer: Option<(u64, &[Ip])>,
-    text: &mut Vec<u8, A>,
-) -> Result<(), Memory>
-    ensures { OnOk result (text.new.items ≡ text.old.items ++ answer_text answer.entry) }
-{
-    match answer {
-        Some(given) => write_given(given.0, given.1, text),
-        None => write_words(b"null", text),
-    }
-}
-
 fn write_names<A: Allocator + Copy>(
     host: &str,
-    aaaa: Option<(u64, &[Ip])>,
-    a: Option<(u64, &[Ip])>,
+    aaaa: (u64, &[Ip]),
+    a: (u64, &[Ip]),
     text: &mut Vec<u8, A>,
 ) -> Result<(), Memory>
-    ensures { OnOk result (text.new.items ≡ text.old.items ++ names_text host.now aaaa.entry a.entry) }
+    ensures { OnOk result (text.new.items ≡ text.old.items ++ names_text host.now (aaaa.entry.0, aaaa.entry.1.now)
+        (a.entry.0, a.entry.1.now)) }
 {
     write_words(b"{\"host\":", text)?;
     write_string(host.as_bytes(), text)?;
     write_words(b",\"aaaa\":", text)?;
-    write_answer(aaaa, text)?;
+    write_answer(aaaa.0, aaaa.1, text)?;
     write_words(b",\"a\":", text)?;
-    write_answer(a, text)?;
+    write_answer(a.0, a.1, text)?;
     write_words(b"}\n", text)
 }
 
@@ -80,15 +69,16 @@ fn write_names<A: Allocator + Copy>(
 /// {"host":"www.example.com","aaaa":{"tick":31,"addresses":["2001:db8:1::1"]},"a":{"tick":12,"addresses":[]}}
 /// ```
 ///
-/// A family without an answer is null. After `Memory` the vector is unchanged.
+/// After `Memory` the vector is unchanged.
 pub fn write_names_json<A: Allocator + Copy, T: Allocator>(
     alloc: A,
     host: &str,
-    aaaa: Option<(u64, &[Ip])>,
-    a: Option<(u64, &[Ip])>,
+    aaaa: (u64, &[Ip]),
+    a: (u64, &[Ip]),
     out: &mut Vec<u8, T>,
 ) -> Result<(), Memory>
-    ensures ok { OnOk result (out.new.items ≡ out.old.items ++ names_text host.now aaaa.entry a.entry) }
+    ensures ok { OnOk result (out.new.items ≡ out.old.items ++ names_text host.now (aaaa.entry.0, aaaa.entry.1.now)
+        (a.entry.0, a.entry.1.now)) }
     ensures err { OnErr result (out.new.items ≡ out.old.items) }
 {
     let mut text = Vec::new(alloc);

@@ -3,8 +3,9 @@
 //! A datagram socket gives the source ([`sockets::ask_source`]); `/proc/net/if_inet6` and `/sys/class/net` have its
 //! properties. [`taken::find_machine_to`] returns a machine for some destinations only, for which the rules select
 //! the kernel's sources, without reading routes. [`taken::find_machine_of`] does so for the destinations of one
-//! family, and [`taken::write_machine_to`] appends the lines. [`families::can_use`] checks whether a family has a
-//! route. [`asked::AskedWays`] asks the kernel once for each destination of a race.
+//! family, and [`taken::read_machine_to`] for destinations without a race; [`writing::write_host`] writes a machine's
+//! lines. [`families::can_use`] checks whether a family has a route. [`asked::AskedWays`] asks the kernel once for
+//! each destination of a race.
 //!
 //! Proved, for all bytes: each line of a file is read by the kernel's columns and flags (`specs/IfInet6`, `Ipv4Line`,
 //! `Sysfs`); the kept sources and routes are valid for a machine, whatever is found, with no address and no prefix

@@ -20,7 +20,6 @@ use crate::parts::field;
 use crate::remarks::write_unsaid;
 use crate::sockets::{NO_SCOPE, ask_len};
 use crate::ways::{TakenSource, Way, find_host_to, find_unsaid};
-use crate::writing::write_host;
 use he_addr::prefix::{V4_BITS, V6_BITS};
 use he_addr::{Family, Ip};
 use he_select::limits::ROUTES;
@@ -349,19 +348,20 @@ pub fn find_machine_of<R: FileSystem + Net + AllocGlobal>(
     find_machine(rt, &ways, asking, remarks)
 }
 
-/// Appends the lines for which the rules select the kernel's source for each of these destinations
-/// ([`find_machine_to`]), each IPv4 source with its network's prefix length, and a remark for each destination that
-/// no lines can express. Link-local IPv6 destinations have no interface, and so no way.
+/// The machine for which the rules select the kernel's source for each of these destinations ([`find_machine_to`]),
+/// each IPv4 source with its network's prefix length. Appends a remark for each destination that no lines can express
+/// too. Link-local IPv6 destinations have no interface, and so no way.
 ///
 /// # Errors
 ///
 /// [`MachineFault::Memory`] if an allocation fails.
-pub fn write_machine_to<R: FileSystem + Net + AllocGlobal>(
+pub fn read_machine_to<R: FileSystem + Net + AllocGlobal>(
     rt: &R,
     destinations: &[Ip],
-    lines: &mut Vec<u8>,
     remarks: &mut Vec<u8>,
-) -> Result<(), MachineFault> {
+) -> Result<Host<Global>, MachineFault>
+    ensures { IfOk result (IsMachineTo destinations.now) }
+{
     let asked = AskedWays::new(rt.alloc())?;
     let ways = ask_ways(rt, &asked, destinations, NO_SCOPE, remarks)?;
     let asking = Asking {
@@ -369,9 +369,19 @@ pub fn write_machine_to<R: FileSystem + Net + AllocGlobal>(
         asks_len: true,
     };
     let machine = find_machine(rt, &ways, asking, remarks)?;
-    write_host(&machine, lines)?;
-    let policy = Policy::standard(rt.alloc())?;
-    for way in find_unsaid(rt.alloc(), &machine, &policy, &ways)?.iter() {
+    remark_unsaid(rt.alloc(), &machine, &ways, remarks)?;
+    Ok(machine)
+}
+
+// Appends a remark for each destination for which the rules select another source of the machine than the kernel.
+fn remark_unsaid(
+    alloc: Global,
+    machine: &Host<Global>,
+    ways: &[Way],
+    remarks: &mut Vec<u8>,
+) -> Result<(), MachineFault> {
+    let policy = Policy::standard(alloc)?;
+    for way in find_unsaid(alloc, machine, &policy, ways)?.iter() {
         write_unsaid(*way, remarks)?;
     }
     Ok(())

@@ -35,6 +35,11 @@ pub record IsFound (answers : Answers) : Type 0 where
   pub v4 : IsAnswer families.V4 answers.v4
   pub some : 0 < length answers.v6 + length answers.v4
 
+-- a family's answer: its tick and its addresses
+abbrev pub answer_of : Family → Answers → ℕ × List Ip
+answer_of families.V6 answers = (answers.v6_tick, answers.v6)
+answer_of families.V4 answers = (answers.v4_tick, answers.v4)
+
 -- the answers if one has an address; otherwise None
 abbrev pub Finds : Answers → Option Answers → Type 0
 Finds answers (Some found) = found ≡ answers

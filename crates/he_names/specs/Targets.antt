@@ -1,6 +1,7 @@
 -- The host that a user's text names: an address, this machine, or a name to query.
 use Rattle.std.specs.Prelude.{◌≡◌, ◌⊎◌, ◌==◌, ◌||◌, ⊤, ℕ, Bool, true, false, List, Option, Some, None, find, nat_le, not, string_bytes}
 use Rattle.std.specs.Char.{is_ascii_alphanumeric}
+use Rattle.std.specs.List.{list_any}
 use Rattle.std.specs.Option.{option_map}
 use Rattle.he_addr.specs.declared.ip.Ip.{Ip}
 use Rattle.he_addr.specs.declared.ip.Ip.TheVariants as ips
@@ -37,6 +38,13 @@ UnfitAt ip zone_id other = ⊥
 -- a letter, a digit, a hyphen, a dot or an underscore, or a byte of a non-ASCII character
 abbrev pub is_name_byte : ℕ → Bool
 is_name_byte byte = is_ascii_alphanumeric byte || nat_le 128 byte || byte == 45 || byte == 46 || byte == 95
+
+-- a slash, as in a URL
+abbrev pub is_slash : ℕ → Bool
+is_slash byte = byte == 47
+
+abbrev pub has_slash : List ℕ → Bool
+has_slash text = list_any is_slash text
 
 abbrev pub sign_in : List ℕ → Option ℕ
 sign_in text = find (λ byte. not (is_name_byte byte)) text
@@ -85,9 +93,11 @@ Means text target =
     ((ip : Ip) × (zone_id : Option (List ℕ)) × (literal_in text ≡ Some (ip, zone_id)) × MeansAt ip zone_id target)
     ⊎ ((name : List ℕ) × IsName text name × MeansNamed name target)
 
--- neither: an unfit address, a byte that no name has, a name without an ASCII form, an unfit name
+-- neither: an unfit address, a slash, another byte that no name has, a name without an ASCII form, an unfit name
 abbrev pub IsUnfit : List ℕ → HostFault → Type 0
-IsUnfit text (faults.Sign byte) = (literal_in text ≡ None) × (sign_in text ≡ Some byte)
+IsUnfit text faults.Path = (literal_in text ≡ None) × (has_slash text ≡ true)
+IsUnfit text (faults.Sign byte) =
+    (literal_in text ≡ None) × (has_slash text ≡ false) × (sign_in text ≡ Some byte)
 IsUnfit text faults.NoAsciiForm =
     (literal_in text ≡ None) × (sign_in text ≡ None) × (domain_to_ascii lists.URL text ≡ None)
 IsUnfit text faults.Memory = ⊤

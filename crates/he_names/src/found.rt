@@ -2,7 +2,7 @@
 
 ghost use Rattle.std.specs.Prelude.{◌≡◌, ◌++◌, IfOk, OnOk};
 ghost use Rattle.he_addr.specs.declared.ip.Family.TheVariants as families;
-ghost use Rattle.he_names.specs.Answers.{Finds, IsFound, answers_text, cleaned};
+ghost use Rattle.he_names.specs.Answers.{Finds, IsFound, answer_of, answers_text, cleaned};
 
 use crate::answers::{clean_of, write_answer};
 use he_addr::{Family, Ip, Memory};
@@ -60,6 +60,17 @@ impl<A: Allocator + Copy> Found<A> {
             v4_tick,
             v4,
         }))
+    }
+
+    /// The family's answer: the tick at which it came, and its addresses.
+    pub fn answer(&self, family: Family) -> (u64, &[Ip])
+        ensures answer { (result.0, result.1.now) ≡ answer_of family self.now }
+        ensures found { IsFound self.now }
+    {
+        match family {
+            Family::V6 => (self.v6_tick, self.v6.as_slice()),
+            Family::V4 => (self.v4_tick, self.v4.as_slice()),
+        }
     }
 
     /// Appends both answers as lines of a timeline, that of IPv6 first.

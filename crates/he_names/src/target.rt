@@ -2,7 +2,8 @@
 
 ghost use Rattle.std.specs.Prelude.{◌≡◌, IfErr, IfOk, OnOk, false, string_bytes};
 ghost use Rattle.he_names.specs.Literals.{zoned_of};
-ghost use Rattle.he_names.specs.Targets.{IsUnfit, Means, MeansAt, MeansHere, MeansNamed, IsNumeric, UnfitAt, UnfitNamed, is_name_byte, sign_in};
+ghost use Rattle.he_names.specs.Targets.{IsUnfit, Means, MeansAt, MeansHere, MeansNamed, IsNumeric};
+ghost use Rattle.he_names.specs.Targets.{UnfitAt, UnfitNamed, has_slash, is_name_byte, is_slash, sign_in};
 ghost use Rattle.he_names.specs.Numeric.{ends_in_number};
 ghost use Rattle.he_names.specs.declared.target.HostFault.TheVariants as faults;
 
@@ -44,7 +45,9 @@ pub enum HostFault {
     Interface,
     /// An interface with an address that isn't link-local.
     Zone(Ip),
-    /// The first byte that no host name has.
+    /// A text with a slash, as a URL.
+    Path,
+    /// The first byte that no host name has, of a text without a slash.
     Sign(u8),
     /// A non-ASCII name that has no ASCII form (UTS 46 section 4.2).
     NoAsciiForm,
@@ -71,9 +74,20 @@ impl fmt::Display for HostFault {
                     "{ip} is not link-local and has no interface: write it without '%'"
                 )
             }
+            HostFault::Path => {
+                write!(
+                    f,
+                    "not a host name: write only the host, without a scheme or a path"
+                )
+            }
             HostFault::Sign(byte) => {
                 let sign = char::from(*byte);
-                write!(f, "not a host name: {sign:?}; write HOST and PORT apart")
+                match *byte {
+                    b':' | b' ' => {
+                        write!(f, "not a host name: {sign:?}; write HOST and PORT apart")
+                    }
+                    _ => write!(f, "not a host name: {sign:?}"),
+                }
             }
             HostFault::NoAsciiForm => write!(f, "not a host name: it has no form in ASCII"),
             HostFault::Numeric(Some(ip)) => {
@@ -125,6 +139,9 @@ pub fn read_host(alloc: Global, text: &str) -> Result<Target, HostFault>
 {
     if let Some(literal) = read_literal(text.as_bytes()) {
         return target_at(alloc, literal);
+    }
+    if has_slash(text.as_bytes()) {
+        return Err(HostFault::Path);
     }
     if let Some(byte) = sign_in(text.as_bytes()) {
         return Err(HostFault::Sign(byte));
@@ -185,6 +202,18 @@ fn check_end(alloc: Global, name: &[u8]) -> Result<(), HostFault>
         return Err(HostFault::Numeric(address_of(&labels).map(Ip::V4)));
     }
     Ok(())
+}
+
+fn has_slash(text: &[u8]) -> bool
+    ensures { result ≡ has_slash text.now }
+{
+    text.iter().any(|byte| is_slash(*byte))
+}
+
+fn is_slash(byte: u8) -> bool
+    ensures { result ≡ is_slash byte }
+{
+    byte == b'/'
 }
 
 // The first byte that no host name has.

@@ -2,5 +2,4 @@ mod Asking
 mod Beginning
 mod Faithful
 mod Owned
-mod Tells
 mod Waits

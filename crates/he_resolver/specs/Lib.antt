@@ -2,4 +2,3 @@ pub mod Asking
 pub mod Begins
 pub mod Heard
 pub mod Needs
-pub mod Told

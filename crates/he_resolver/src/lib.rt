@@ -1,9 +1,9 @@
 //! A stub resolver: the addresses of a host, from the files of the system and from name servers.
 //!
 //! [`Lookup`] asks name servers for both families of a host at once (RFC 1035, RFC 3596), and is polled: it returns
-//! each family's addresses as soon as they are known. [`write_names`] finds a host's addresses and writes them as the
-//! two answers of a timeline: `he names` is this call. `he_settings` plans the names and the servers, `he_asking` has
-//! one query to one server, and `he_dns` the messages.
+//! each family's addresses as soon as they are known. [`find_names`] waits for the addresses of both families, as `he
+//! names` writes them. `he_settings` plans the names and the servers, `he_asking` has one query to one server, and
+//! `he_dns` the messages.
 //!
 //! # The queries
 //!
@@ -20,9 +20,9 @@
 //! to the question for one of these names, or from the known ones, with unspecified ones replaced; the TTL is that of
 //! this message; that it has none, or that there is no such name, is a message's answer to this question
 //! (`specs/Heard`). A pending poll has registered for every socket and timer that the family waits for; if it makes
-//! the other family's result final, the task is polled again (`specs/Needs`). [`write_names`] writes the two lines,
-//! and nothing after any fault but `Write` (`specs/Told`). For internal functions: when the next server is asked, and
-//! after which faults (`specs/Asking`). Tested only, on loopback: when queries are sent, and to which server.
+//! the other family's result final, the task is polled again (`specs/Needs`). [`find_names`] returns at least one
+//! address (`Found` of `he_names`). For internal functions: when the next server is asked, and after which faults
+//! (`specs/Asking`). Tested only, on loopback: when queries are sent, and to which server.
 #![tactic(auto)]
 
 mod family_lookup;
@@ -31,9 +31,7 @@ pub mod lookup;
 pub mod naming;
 mod resolver;
 pub mod system;
-pub mod tell_fault;
 
 pub use lookup::Lookup;
-pub use naming::{LookupReport, write_names};
+pub use naming::{LookupReport, find_names};
 pub use system::SystemResolver;
-pub use tell_fault::TellFault;

@@ -1,17 +1,11 @@
-//! Finds and writes the addresses of a name.
-
-ghost use Rattle.std.specs.Prelude.{◌≡◌, IfOk};
-ghost use Rattle.he_stream.specs.Output.{PutsPart, PutsWhole};
-ghost use Rattle.he_resolver.specs.Told.{IsNamesText, TellsNames};
+//! Finds the addresses of a name.
 
 use crate::gathering::{Gathered, Gathering};
 use crate::lookup::Lookup;
 use crate::system::SystemResolver;
-use crate::tell_fault::TellFault;
 use he_asking::LookupEvent;
 use he_names::Found;
 use he_settings::{NamesFault, Wanted, find_known};
-use he_stream::{OutputStream, write_whole};
 use std::alloc::{AllocGlobal, Global};
 use std::net::Net;
 use std::random::RandomSource;
@@ -43,46 +37,16 @@ impl LookupReport {
     }
 }
 
-/// Finds the addresses of a host and writes them as the two answers of a timeline, each with its tick, in
-/// milliseconds since the look-up began. The report has the events, and why a family has no address, even if the
+/// Finds the addresses of a host: starts the look-up and waits for the answers of both families, each with its tick,
+/// in milliseconds since the look-up began. The report has the events, and why a family has no address, even if the
 /// other family has some or the call fails.
 ///
 /// # Errors
 ///
-/// `Names` if the host has no address of either family (`NoSuchName`, `NoAddress`, `NoAnswer`, `Server`, `System`),
-/// is not a host name or may not be queried (`Host`, `Name`), or could not be queried (`Unreadable`, `Interface`,
-/// `Files`, `Runtime`, `Memory`): nothing was written. `Write` after a first part was written.
-pub fn write_names<R, O>(
-    rt: &R,
-    alloc: Global,
-    output: &mut O,
-    wanted: Wanted<'_>,
-    report: &mut LookupReport,
-) -> Result<(), TellFault>
-where
-    R: Wait + Clock + RandomSource + AllocGlobal + Net + Files + Threads,
-    R: SystemResolver + Copy + Send + 'static,
-    O: OutputStream,
-    ensures { TellsNames (PutsWhole O.contents O.puts O.flushes output.old output.new)
-        (PutsPart O.contents O.puts O.flushes output.old output.new) (output.new ≡ output.old) result }
-{
-    let found = find(rt, alloc, wanted, report)?;
-    let text = text_of(alloc, &found)?;
-    write_whole(output, text.as_slice())?;
-    Ok(())
-}
-
-// The two lines.
-fn text_of(alloc: Global, found: &Found) -> Result<Vec<u8>, NamesFault>
-    ensures { IfOk result (λ text. IsNamesText text.items) }
-{
-    let mut text = Vec::new(alloc);
-    found.write(&mut text)?;
-    Ok(text)
-}
-
-// Starts the look-up and waits for both results.
-fn find<R>(
+/// `NoSuchName`, `NoAddress`, `NoAnswer`, `Server` and `System` if the host has no address of either family; `Host`
+/// and `Name` if it is not a host name or may not be queried; `Unreadable`, `Interface`, `Files`, `Runtime` and
+/// `Memory` if it could not be queried.
+pub fn find_names<R>(
     rt: &R,
     alloc: Global,
     wanted: Wanted<'_>,
