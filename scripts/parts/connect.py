@@ -142,7 +142,8 @@ def check_told():
              dead_start + rf"2 addresses tried: {DEAD_SIX} no answer in \d+ ms, {DEAD_FOUR} no answer in \d+ ms\n"),
             (["-4", SIX, port], 3, f"he: {SIX} is an IPv6 address, but -4 was given\n"),
             (["--resolver", "system", "no.such.name.test", port], 1, "he: [^\n]*\n"),
-            (["--machine", "/no/such/file", FOUR, port], 1, "he: [^\n]*--machine file: /no/such/file\n"),
+            (["--machine", "/no/such/file", FOUR, port], 1,
+             "he: cannot read the --machine file: No such file [^\n]*: /no/such/file\n"),
         ]:
             Run(*words).must(status=status, told=told)
     for words in [["--set", "attempt=5"], ["--set", "speed=1"], ["--timeout", "0"], ["-4", "-6"]]:
@@ -636,11 +637,12 @@ def check_monitored_faults():
         ]:
             checked([*words, port], 2, f"CRITICAL - {wanted}")
         for words, wanted in [
-            (["--machine", "/no/such/file", FOUR, port], "cannot read the --machine file: /no/such/file"),
+            (["--machine", "/no/such/file", FOUR, port],
+             "cannot read the --machine file: No such file [^|]*: /no/such/file"),
             ([FOUR, "htps"], "no such service: htps"),
             (["--record", "/no/such/folder/file", FOUR, port], "/no/such/folder/file: No such file.*"),
             (["a..b", port], ".*a\\.\\.b"), ([ON_LINK, port], f"a link-local address needs its interface: {ON_LINK}.*"),
-            (["a|b", port], r"not a host name: '\\x7c'; [^|]*: a\\x7cb"),
+            (["a|b", port], r"not a host name: '\\x7c': a\\x7cb"),
         ]:
             checked(words, 3, f"UNKNOWN - {wanted}")
         for words, status in [

@@ -120,7 +120,7 @@ def check_verdicts():
 
 def check_literals():
     """An address has a row of its own, in either spelling, and nobody is asked for it; of the family that is left out
-    there is no row."""
+    there is no row, and a line says so."""
     with serving(greet) as port, Zone() as names:
         for host, ip, word, status in [(FOUR, FOUR, "connected", 0), (f"[{SIX}]", SIX, "refused", 3)]:
             probe = Probe("--resolver", names.at, host, port)
@@ -129,6 +129,7 @@ def check_literals():
         must(not names.seen, "the name server was asked for an address")
     other = Probe("-6", FOUR, 80)
     other.must(other.status == 3 and other.output == f"{FOUR} port 80: no address to try\nNothing connects\n")
+    other.must(other.told == f"he: {FOUR} is an IPv4 address, but -6 was given\n")
 
 
 def check_lookup():

@@ -10,7 +10,7 @@ use crate::answering::RaceAnswers;
 use crate::kernel::write_other_sources;
 use crate::lookups::look_up;
 use crate::telling::Telling;
-use crate::tried::{excluded, write_excluded, write_tried};
+use crate::tried::write_tried;
 use he_course::Course;
 use he_live::{Dialed, ResolvingRequest, Steps, attempt_failures, resolving_race_on};
 use he_record::nat64::Nat64Prefix;
@@ -19,7 +19,7 @@ use he_recording::laws::recorded_reads_back;
 use he_recording::{ServerFailure, Target, moment_now, record_of, write_recorded};
 use he_resolver::SystemResolver;
 use he_settings::NamesFault;
-use he_setup::families::write_unusable;
+use he_setup::families::{excluded, write_excluded, write_unusable};
 use he_setup::translated::write_translated;
 use he_setup::{
     ConnectFault, ConnectRequest, FamilyFaults, KnownFacts, Lines, LookupFaults, Nat64, OwnMachine,

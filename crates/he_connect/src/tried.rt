@@ -1,6 +1,6 @@
 //! The line that reports the addresses tried if nothing connected.
 
-use he_addr::{Family, Memory, read_ip, write_ip, write_number};
+use he_addr::{Family, Memory, write_ip, write_number};
 use he_live::{Dialed, Reason, Steps};
 use he_plan::{Line, Mark};
 use he_settings::NamesFault;
@@ -44,24 +44,6 @@ fn lacking(families: Families, why: FamilyFaults) -> Option<Family> {
     families
         .only()
         .filter(|family| why.of(*family) == Some(NamesFault::NoAddress))
-}
-
-// The family of the host if it is an address of a family that is not requested.
-pub(crate) fn excluded(request: &ConnectRequest<'_>) -> Option<Family> {
-    let only = request.families.only()?;
-    let family = read_ip(request.host.as_bytes())?.family();
-    if family == only { None } else { Some(family) }
-}
-
-// Appends that the host is an address of this family, which an option excludes.
-pub(crate) fn write_excluded(host: &str, family: Family, out: &mut Vec<u8>) -> Result<(), Memory> {
-    out.extend_from_slice(b"he: ")?;
-    out.extend_from_slice(host.as_bytes())?;
-    out.extend_from_slice(match family {
-        Family::V6 => b" is an IPv6 address, but -4 was given\n",
-        Family::V4 => b" is an IPv4 address, but -6 was given\n",
-    })?;
-    Ok(())
 }
 
 // Why the look-up of a family failed, if it did.

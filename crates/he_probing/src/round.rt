@@ -18,6 +18,7 @@ use he_record::Moment;
 use he_recording::moment_now;
 use he_resolver::SystemResolver;
 use he_settings::NamesFault;
+use he_setup::families::{excluded, write_excluded};
 use he_setup::{
     ConnectFault, FamilyFaults, LookupFaults, Nat64, OwnMachine, Setup, is_by_nat64,
     nat64_prefixes, set_up_any, write_untranslated,
@@ -52,7 +53,7 @@ pub struct Round {
     pub why: FamilyFaults,
     /// Why there is no address at all, if a look-up failed.
     pub nameless: Option<NamesFault>,
-    /// A line that says why no IPv4 host was embedded, if there is no address for that.
+    /// A line that says why there is no address, if that is for an option, or since no IPv4 host was embedded.
     pub told: Vec<u8>,
 }
 
@@ -113,7 +114,7 @@ where
     let servers = why.servers(alloc)?;
     let nat64 = why.take_nat64();
     let prefixes = nat64_prefixes(alloc, nat64.as_ref())?;
-    let told = untranslated(alloc, setup, nat64.as_ref(), &addresses)?;
+    let told = told_of(alloc, setup, nat64.as_ref(), &addresses)?;
     let notes = RoundNotes {
         at,
         why: why.families(),
@@ -127,17 +128,21 @@ where
     judge(alloc, setup, notes, rows, &recorded)
 }
 
-// Why no IPv4 host was embedded, if there is no address for that.
-fn untranslated(
+// Why there is no address, if that is for an option, or since no IPv4 host was embedded.
+fn told_of(
     alloc: Global,
     setup: &Setup<'_>,
     nat64: Option<&Nat64>,
     addresses: &[Ip],
 ) -> Result<Vec<u8>, Memory> {
     let mut told = Vec::new(alloc);
-    match nat64 {
-        Some(nat64) if addresses.is_empty() => write_untranslated(alloc, setup, nat64, &mut told)?,
-        _ => {}
+    if !addresses.is_empty() {
+        return Ok(told);
+    }
+    match (nat64, excluded(&setup.request)) {
+        (Some(nat64), _) => write_untranslated(alloc, setup, nat64, &mut told)?,
+        (None, Some(family)) => write_excluded(setup.request.host, family, &mut told)?,
+        (None, None) => {}
     }
     Ok(told)
 }

@@ -4,7 +4,7 @@ ghost use Rattle.he_setup.specs.Races.{Tries};
 
 use crate::fault::ConnectFault;
 use crate::request::{ConnectRequest, Families, Lines};
-use he_addr::{Family, Memory};
+use he_addr::{Family, Memory, read_ip};
 use he_kernel::asked::AskedWays;
 use he_kernel::families::can_use;
 use he_live::{Reason, Steps};
@@ -60,6 +60,28 @@ pub fn write_lack(host: &str, family: Family, out: &mut Vec<u8>) -> Result<(), M
     out.extend_from_slice(match family {
         Family::V6 => b" has no IPv6 address\n",
         Family::V4 => b" has no IPv4 address\n",
+    })?;
+    Ok(())
+}
+
+/// The family of the host, if the host is an address of a family that is not requested.
+pub fn excluded(request: &ConnectRequest<'_>) -> Option<Family> {
+    let only = request.families.only()?;
+    let family = read_ip(request.host.as_bytes())?.family();
+    if family == only { None } else { Some(family) }
+}
+
+/// Appends that the host is an address of this family, which an option excludes.
+///
+/// # Errors
+///
+/// `Memory` if an allocation fails; part of the line may have been appended.
+pub fn write_excluded(host: &str, family: Family, out: &mut Vec<u8>) -> Result<(), Memory> {
+    out.extend_from_slice(b"he: ")?;
+    out.extend_from_slice(host.as_bytes())?;
+    out.extend_from_slice(match family {
+        Family::V6 => b" is an IPv6 address, but -4 was given\n",
+        Family::V4 => b" is an IPv4 address, but -6 was given\n",
     })?;
     Ok(())
 }

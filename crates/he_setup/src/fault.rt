@@ -6,7 +6,7 @@ use he_live::{LiveFault, Reason};
 use he_settings::NamesFault;
 use he_words::TextFault;
 use std::alloc::AllocFailed;
-use std::io;
+use std::{fmt, io};
 use thiserror::Error;
 
 /// Why a race was not run to its end. It is no fault if no address could be connected to.
@@ -16,8 +16,8 @@ pub enum ConnectFault {
     #[error("cannot read /proc/net: give a file of source and route lines with --machine")]
     Machine,
     /// The file of lines can't be read.
-    #[error("cannot read the --machine file")]
-    File,
+    #[error("cannot read the --machine file: {0}")]
+    File(ReadError),
     /// A line of the file of lines is wrong.
     #[error("the --machine file: {0}")]
     Lines(TextFault),
@@ -36,6 +36,32 @@ pub enum ConnectFault {
     /// An allocation failed.
     #[error("out of memory")]
     Memory,
+}
+
+/// Why a file can't be read.
+#[derive(Clone, Copy, Debug, PartialEq, Eq)]
+pub struct ReadError {
+    kind: io::ErrorKind,
+    number: Option<i32>,
+}
+
+impl ReadError {
+    pub(crate) fn of(error: &io::Error) -> ReadError {
+        ReadError {
+            kind: error.kind(),
+            number: error.raw_os_error(),
+        }
+    }
+}
+
+// In the system's words, if it has a number.
+impl fmt::Display for ReadError {
+    fn fmt<W: fmt::Write>(&self, f: &mut fmt::Formatter<W>) -> fmt::Result {
+        match self.number {
+            Some(number) => fmt::Display::fmt(&io::Error::from_raw_os_error(number), f),
+            None => fmt::Display::fmt(&self.kind, f),
+        }
+    }
 }
 
 impl ConnectFault {
@@ -77,7 +103,10 @@ impl From<NotOneRace> for ConnectFault {
                 line: fault.line.saturating_sub(1),
                 kind: fault.kind,
             }),
-            NotOneRace::Fault(InputFault::Read) => ConnectFault::File,
+            NotOneRace::Fault(InputFault::Read) => ConnectFault::File(ReadError {
+                kind: io::ErrorKind::Other,
+                number: None,
+            }),
             NotOneRace::Count => ConnectFault::OtherLines,
             NotOneRace::Memory => ConnectFault::Memory,
         }

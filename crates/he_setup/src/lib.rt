@@ -34,7 +34,7 @@ pub mod translated;
 pub mod watching;
 
 pub use embedding::set_up_any;
-pub use fault::ConnectFault;
+pub use fault::{ConnectFault, ReadError};
 pub use lines::read_lines;
 pub use recorded::{KnownFacts, facts_for, facts_of};
 pub use request::{ConnectRequest, Families, Lines};

@@ -1,6 +1,6 @@
 //! The lines of a race's machine and policy before its start.
 
-use crate::fault::ConnectFault;
+use crate::fault::{ConnectFault, ReadError};
 use crate::request::Lines;
 use he_addr::Ip;
 use he_kernel::asked::AskedWays;
@@ -62,6 +62,6 @@ fn read_file<R: Files + AllocGlobal>(rt: &R, path: &str) -> Result<Vec<u8>, Conn
     match fs::read(rt, path) {
         Ok(bytes) => Ok(bytes),
         Err(error) if error.kind() == io::ErrorKind::OutOfMemory => Err(ConnectFault::Memory),
-        Err(_) => Err(ConnectFault::File),
+        Err(error) => Err(ConnectFault::File(ReadError::of(&error))),
     }
 }
