@@ -1,12 +1,12 @@
 -- The faults that have a clause after their sentence, and the line that it is about.
-use Rattle.std.specs.Prelude.{ℕ, ◌≡◌, ◌==◌, ◌-◌, ◌++◌, Bool, true, false, List, [], codes, if◌then◌else◌, Option, None}
+use Rattle.std.specs.Prelude.{ℕ, ◌≡◌, ◌==◌, ◌||◌, ◌-◌, ◌++◌, Bool, true, false, List, [], codes, if◌then◌else◌, Option, None}
 use Rattle.std.specs.List.{filter_map, slice_get}
 use Rattle.std.specs.Option.{option_or, unwrap_or}
 use Rattle.he_reading.specs.Parts.{lines_of, tokens_of}
 use Rattle.he_words.specs.declared.fault.TextFault.{TextFault}
 use Rattle.he_words.specs.declared.fault.TextKind.{TextKind}
 use Rattle.he_words.specs.declared.fault.TextKind.TheVariants as kinds
-use Rattle.he_faults.specs.Meant.{begins, input_meant, meant_of}
+use Rattle.he_faults.specs.Meant.{begins, has, input_meant, meant_of}
 use Rattle.he_faults.specs.Sentences.{clause_text}
 use Rattle.he_faults.specs.declared.meant.Meant.{Meant}
 
@@ -14,12 +14,13 @@ use Rattle.he_faults.specs.declared.meant.Meant.{Meant}
 abbrev pub line_at : ℕ → List ℕ → List ℕ
 line_at number input = unwrap_or (slice_get (lines_of input) (number - 1)) []
 
--- the likely meaning of the first word of the line that has one; the host of a record line has none
+-- the likely meaning of the first word of the line that has one; the host of a record line has none, and so has a line
+-- with a NUL byte, which is no text
 abbrev pub words_meant : List ℕ → Option Meant
 words_meant line = slice_get (filter_map meant_of (tokens_of line)) 0
 
 unfoldable pub line_meant : List ℕ → Option Meant
-line_meant line = if begins (codes "record ") line then None else words_meant line
+line_meant line = if begins (codes "record ") line || has 0 line then None else words_meant line
 
 -- a word that is in no text may cause this kind of fault
 abbrev pub is_of_words : TextKind → Bool

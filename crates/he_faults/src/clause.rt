@@ -13,6 +13,9 @@ use he_addr::Memory;
 use he_words::{LINE_END, TOKEN_END, TextFault, TextKind};
 use std::alloc::Allocator;
 
+// A byte that no text has, but most other files.
+const NUL: u8 = 0;
+
 // Appends the clause.
 pub(crate) fn append_clause<A: Allocator>(
     meant: Option<Meant>,
@@ -58,12 +61,13 @@ fn is_of_words(kind: TextKind) -> bool
     }
 }
 
-// The likely meaning of the first word of the line that has one. The host of a record line has none.
+// The likely meaning of the first word of the line that has one. The host of a record line has none, and so has what is
+// no text.
 #[tactic(auto, unfolding(crate::specs::Clauses::line_meant))]
 fn line_meant(line: &[u8]) -> Option<Meant>
     ensures { result ≡ line_meant line.now }
 {
-    if line.starts_with(b"record ") {
+    if line.starts_with(b"record ") || line.contains(&NUL) {
         return None;
     }
     words_meant(line)
