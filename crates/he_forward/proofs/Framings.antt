@@ -1,11 +1,10 @@
 -- What frames no body.
-use Rattle.std.proofs.Common.{◌≡◌, ℕ, ◌^◌, ◌≤◌, Bool, true, false, List, Option, None, Some, length, take, sym, ◌∙◌, subst, arith}
+use Rattle.std.proofs.Common.{◌≡◌, ℕ, ◌^◌, ◌≤◌, Bool, true, false, List, Option, None, Some, take, sym, ◌∙◌, subst, arith}
 use Rattle.std.specs.Prelude.{IfNone, ◌&&◌, ◌==◌}
 use Rattle.std.specs.Str.Parse.{digits_value}
 use Rattle.std.proofs.lemmas.Bool.{false≢true}
 use Rattle.std.proofs.lemmas.Str.Parse.{digits_value-take-le}
 use Rattle.httparse.specs.declared.spans.HeaderSpan.{HeaderSpan}
-use Rattle.he_body.specs.declared.body.Framing.{Framing}
 use Rattle.he_body.specs.declared.body.Framing.TheVariants.{Chunked, Length}
 use Rattle.he_forward.specs.Lengths.{HasLength, IsLength, IsUnframed, by_chunks, coding_count}
 

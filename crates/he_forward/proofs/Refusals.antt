@@ -1,5 +1,5 @@
 -- Why none is forwarded for a head.
-use Rattle.std.proofs.Common.{◌≡◌, ℕ, true, false, List, subst, sym, ◌∙◌}
+use Rattle.std.proofs.Common.{◌≡◌, ℕ, false, List, subst, sym, ◌∙◌}
 use Rattle.std.specs.Prelude.{string_bytes}
 use Rattle.std.proofs.lemmas.Bool.{false≢true}
 use Rattle.httparse.specs.Spans.{span_bytes}

@@ -1,4 +1,3 @@
-use Rattle.std.proofs.Common.{refl}
 use Rattle.he_totals.specs.Hosts.{hosts_in}
 use Rattle.he_summary.proofs.Told.{address_more, no_address}
 use Rattle.he_summary.proofs.addresses.write_addresses.Goals as goal
