@@ -42,7 +42,7 @@ PARTS = {
                 "captures captures_records library library_lines library_clients fuzz",
     "network": "session hosts hosts_bytes live names names_files connect connect_relay nat64 nat64_names probe "
                "proxy proxy_socks proxy_users proxy_rules proxy_clients proxy_log proxy_load proxy_names proxy_strangers "
-               "proxy_http proxy_responses proxy_metrics proxy_drawn proxy_programs",
+               "proxy_http proxy_responses proxy_metrics proxy_drawn proxy_programs proxy_service",
     "hostile": "hostile refused refused_nat64 faults",
 }
 # Those that look at no time and share nothing run side by side, before the others, the longest first.

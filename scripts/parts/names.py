@@ -188,7 +188,7 @@ def check_server():
     lacks("cnames.test", f"he: name server {server.at}: {aliases}\n", *words)
     for host in ("a..b", "x" * 64 + ".test"):
         lacks(host, "he: not a host name: .*\n", *words)
-    lacks("", "he: not a host name.*", *words)
+    lacks("", "he: invalid value for HOST: the host is empty\n.*", *words, status=2)
     down = f"{DOWN}:{server.port}"
     lacks("both.test", f"he: name server {down}: cannot be reached\n", "--resolver", down)
     for resolver in ("nonsense", "192.0.2.1:0"):

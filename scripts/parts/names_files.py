@@ -53,8 +53,9 @@ HOSTS = (
     (["x.invalid"], "no name in .invalid exists", []),
     (["both.corp.local", "both.CORP.Local."], ([V6], [V4]), ["both.corp.local"]),
     (["x.local"], "names in .local are not asked of name servers: try --resolver system", []),
-    (["http://x/", "x:80"], "not a host name: ':'; write HOST and PORT apart", []),
-    (["u@x"], "not a host name: '@'; write HOST and PORT apart", []),
+    (["http://x/", "x:80/"], "not a host name: write only the host, without a scheme or a path", []),
+    (["x:80"], "not a host name: ':'; write HOST and PORT apart", []),
+    (["u@x"], "not a host name: '@'", []),
     (["a b"], "not a host name: ' '; write HOST and PORT apart", []),
 )
 

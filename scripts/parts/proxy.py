@@ -17,8 +17,8 @@ import time
 import unittest.mock
 
 import support
-from support import (DEAD_SIX, FOUR, OPTIONS, TIMEOUT, WIDE_FOUR, NotTried, comes, greet, must, needs, serving,
-                     set_to_reset, silent, timed, unused_port)
+from support import (DEAD_SIX, FOUR, NXDOMAIN, OPTIONS, TIMEOUT, WIDE_FOUR, NameServer, NotTried, comes, greet, message,
+                     must, needs, serving, set_to_reset, silent, timed, unused_port)
 
 HE = OPTIONS.program
 SETUP = support.NETWORK
@@ -46,15 +46,22 @@ class Proxy:
             path = self.records / name
             path.parent.mkdir(parents=True, exist_ok=True)
             path.write_text("race 1\nend\n")
+        is_up = self.starts()
+        if not is_up and "Address already in use" in self.said():  # (another program took the port meanwhile)
+            self.port = unused_port(self.at)
+            is_up = self.starts()
+        must(is_up, f"the proxy does not listen: {self.said()!r}")
+        return self
+
+    def starts(self):
+        """Starts it, and gives whether it listens."""
         kept = ["--record", self.records] if self.keeps else []
         at = f"[{self.at}]" if ":" in self.at else self.at
         words = [HE, "proxy", "--listen", f"{at}:{self.port}", *kept, *self.words]
         with open(self.told, "wb") as told:
             self.running = subprocess.Popen([str(word) for word in words], stdin=subprocess.DEVNULL,
                                             stdout=subprocess.DEVNULL, stderr=told, preexec_fn=self.limits)
-        must(support.is_up(self.running, lambda: support.is_listening(self.port, self.at)),
-             f"the proxy does not listen: {self.said()!r}")
-        return self
+        return support.is_up(self.running, lambda: support.is_listening(self.port, self.at))
 
     def __exit__(self, *_):
         self.running.kill()
@@ -274,6 +281,7 @@ def check_refusals():
             (b"\5\1\2", rb"\x05\xff"),
             (b"\5\1\0\5\2\0" + destination(FOUR, 80), rb"\x05\x00\x05\x07.{8}"),
             (b"\5\1\0\5\1\0\x09\0\0\0\0\0\x50", rb"\x05\x00\x05\x08.{8}"),
+            (b"\5\1\0\5\1\7" + destination(FOUR, 80), rb"\x05\x00\x05\x08.{8}"),
             (b"\5\1\0\5\1\0" + destination(FOUR, proxy.port), rb"\x05\x00\x05\x02.{8}"),
             (b"CONNECT 127.0.0.1:%d HTTP/1.1\r\n\r\n" % proxy.port, rb"HTTP/1\.1 403 .*"),
             (b"CONNECT no.port HTTP/1.1\r\n\r\n", rb"HTTP/1\.1 400 .*"),
@@ -287,19 +295,32 @@ def check_refusals():
             must(re.fullmatch(wanted, got, re.S), f"{given!r}: {got!r}")
 
 
+class NoNames(NameServer):
+    """A name server that knows no name."""
+
+    def replies(self, query, _):
+        return [(0, message(query, (), NXDOMAIN))]
+
+
 def check_failures():
-    """Where nothing connects, the code says why; HTTP has the reason as a text."""
+    """Where nothing connects, the code says why; HTTP has the reason as a text, and what was tried."""
     refused = unused_port()
-    with Proxy("--set", "limit=400") as proxy, serving(greet) as port, silent(DEAD_SIX, refused):
+    all_refused = b"each address of the host refused the connection: "
+    none = b"the host has no address that could be reached: "
+    with NoNames(FOUR) as names, Proxy("--resolver", names.at, "--set", "limit=400") as proxy, serving(greet) as port, \
+            silent(DEAD_SIX, refused):
         for host, at, code, status, reason in [
-            ("four.test", refused, 5, 502, rb"refused"), ("dead.test", port, 4, 504, rb"in time"),
-            ("no.such.name.test", port, 4, 502, rb"no address|name"), ("-bad-.test", port, 4, 502, rb"."),
+            ("four.test", refused, 5, 502, all_refused + b"127.0.0.1"),
+            ("both.test", refused, 5, 502, all_refused + b"2001:db8:1e::1, 127.0.0.1"),
+            ("dead.test", port, 4, 504, b"no address of the host answered in time: 2001:db8:1e::9, 127.0.0.9"),
+            ("no.such.name.test", port, 4, 502, none + b"no such name"),
+            ("-bad-.test", port, 4, 502, none + b"no such name"), ("127.1", port, 4, 502, none + b"not a host name"),
         ]:
-            found, _ = proxy.ask(host, at)
             answer = proxy.answer(b"CONNECT %s:%d HTTP/1.1\r\n\r\n" % (host.encode(), at))
+            found, _ = proxy.ask(host, at)
             is_right = found == code and answer.startswith(b"HTTP/1.1 %d " % status)
             must(is_right, f"{host}: {found}, {answer!r}, {proxy.said()!r}")
-            must(re.search(reason, answer.split(b"\r\n\r\n", 1)[1]), f"{host}: no reason in {answer!r}")
+            must(answer.split(b"\r\n\r\n", 1)[1] == reason + b"\n", f"{host}: {answer!r}")
 
 
 @timed

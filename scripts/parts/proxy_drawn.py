@@ -30,6 +30,7 @@ CHECKED = {"ASAN_OPTIONS": "quarantine_size_mb=1"}
 NAME, HOST = "drawn.test", "four.test"  # of the name server, and of the file of hosts; both are FOUR
 ANSWER = b"HTTP/1.1 200 OK\r\nContent-Length: 3\r\nConnection: close\r\n\r\nyes"
 HEAD = b"HTTP/1.1 200 OK\r\nContent-Length: 3\r\nVia: 1.1 he\r\nConnection: close\r\n\r\n"
+OWN = b"a connection of this check's own"
 RETURNED = (HEAD + b"yes", HEAD)  # as a client gets it whose request was forwarded, or was HEAD
 
 # What the proxy may answer
@@ -45,6 +46,7 @@ CONNECTED = b"HTTP/1.1 200 Connection established\r\n\r\n"
 SOCKS = re.compile(rb"\x05\x00\x05([\x00-\x05\x07\x08])\x00(\x01.{6}|\x04.{18})", re.S)
 OLD_GRANTED = b"\x00\x5a" + bytes(6)  # by SOCKS 4
 KINDS = ("none", "short", "forwarded", "page", "refused", "tunnel", "SOCKS 4", "SOCKS", "refused by SOCKS")
+SERVED = ("forwarded", "tunnel", "SOCKS 4", "SOCKS")  # (the server's answer comes with these)
 SHORT = (b"", b"\x05\xff", b"\x05\x00", b"\x00\x5b" + bytes(6))  # no reply, one to a greeting, one to SOCKS 4
 
 
@@ -224,6 +226,12 @@ class Server:
     def __init__(self):
         self.number, self.got, self.ended = None, [], 0
 
+    def take_all(self, port):
+        """Waits until each connection that was made before is taken: they are taken one after the other."""
+        with socket.create_connection((FOUR, port), timeout=SOON) as last:
+            last.sendall(OWN)
+            must(all_of(last) == ANSWER, "the server is late")
+
     def __call__(self, connection):
         came = [self.number, b""]
         self.got.append(came)
@@ -277,11 +285,14 @@ def must_serve(proxy, port):
         must(code == wanted and got == ANSWER, ask.__name__, code, got, proxy.said()[-300:])
 
 
-def wrong_of(given, port, came):
-    """What is wrong with octets that came to the server at this port from the client that began so."""
+def wrong_of(given, is_served, port, came):
+    """What is wrong with octets that came to the server at this port from the client that began so, and was served or
+    not; to one that was not, the proxy may have connected, and sent nothing."""
     target = target_of(given)
     if not target or not is_here(target[0]) or target[1] != port:
         return "it does not name the server"
+    if not came and not is_served:
+        return None
     if re.match(rb"[\4\5]|CONNECT ", given):
         return None if came == target[2] else "not what follows its request"
     return wrong_with(came, authority_of(given))
@@ -306,20 +317,23 @@ class Told:
             raise ValueError(f"{named(number, given)}: {reply[:400]!r}{end}, {used:.3f} s of processor time")
         self.kinds[kind] += 1
         self.longest = max(self.longest, used)
+        return kind in SERVED
 
 
 def send_all(proxy, server, port, told):
-    """Sends all beginnings, one after the other; gives those that ask for the server's port, and the memory after each
-    tenth."""
+    """Sends all beginnings, one after the other; gives those that ask for the server's port, each with whether it was
+    served, and the memory after each tenth."""
     draw, known, asking, memories = random.Random(OPTIONS.seed), list(seeds(proxy, port)), {}, []
     for number in range(DRAWN):
         given, parts = drawn(draw, known)
-        target = target_of(given)
-        if target and target[1] == port:
-            asking[number] = given
         server.number, before = number, proxy.seconds_used()
         reply, is_reset = reply_to(proxy, parts, draw)
-        told.add(number, given, reply, is_reset, proxy.seconds_used() - before)
+        is_served = told.add(number, given, reply, is_reset, proxy.seconds_used() - before)
+        target = target_of(given)
+        if target and target[1] == port:
+            asking[number] = given, is_served
+            if not is_served:
+                server.take_all(port)
         if number % (DRAWN // 10) == DRAWN // 10 - 1:
             server.number = None
             must_serve(proxy, port)
@@ -352,8 +366,8 @@ def check_drawn():
     print(f"    {DRAWN} from seed {OPTIONS.seed} in {took:.0f} s, {1000 * mean:.2f} ms of processor each, at most"
           f" {1000 * told.longest:.0f}; {memories} kB after each tenth; {dict(told.kinds)}")
     for number, came in server.got:
-        given = asking.get(number, b"")
-        wrong = number is not None and wrong_of(given, port, came)
+        given, is_served = asking.get(number, (b"", False))
+        wrong = number is not None and came != OWN and wrong_of(given, is_served, port, came)
         must(not wrong, named(number, given), wrong, came[:400])
     must(not other.got, other.got[:3])
     must(mean <= MOST_IN_MEAN, f"{1000 * mean:.2f} ms of processor each")

@@ -381,15 +381,15 @@ def check_lost():
     refused = unused_port()
     with serving(Origin()) as port, Proxy("--set", "limit=400") as proxy, silent(DEAD_SIX, refused):
         for target, status, reason in [
-            (f"four.test:{refused}", 502, rb"refused"), (f"no.such.name.test:{refused}", 502, rb"no address|name"),
-            (f"dead.test:{port}", 504, rb"in time"), (f"{FOUR}:{proxy.port}", 403, rb"no connection to that target"),
+            (f"four.test:{refused}", 502, b"each address of the host refused the connection: 127.0.0.1\n"),
+            (f"dead.test:{port}", 504, b"no address of the host answered in time: 2001:db8:1e::9, 127.0.0.9\n"),
+            (f"{FOUR}:{proxy.port}", 403, b"this proxy makes no connection to that target\n"),
         ]:
             got = sent(proxy, f"GET http://{target}/secret?key HTTP/1.1\r\nHost: x\r\n\r\n".encode())
-            must(got.startswith(b"HTTP/1.1 %d " % status) and re.search(reason, got.split(b"\r\n\r\n", 1)[1]), target,
-                 got)
-        comes(lambda: len(proxy.lines()) == 4, SOON)
+            must(got.startswith(b"HTTP/1.1 %d " % status) and got.split(b"\r\n\r\n", 1)[1] == reason, target, got)
+        comes(lambda: len(proxy.lines()) == 3, SOON)
         lines = proxy.lines()
-        must(len(lines) == 4 and all(" method=GET " in line and " fault=" in line for line in lines), lines)
+        must(len(lines) == 3 and all(" method=GET " in line and " fault=" in line for line in lines), lines)
         must("secret" not in proxy.said(), proxy.said())
 
 
@@ -522,7 +522,8 @@ def wrong_with(got, at):
         return None if is_cut and MARK not in wrong.lines else str(wrong)
     _, fields, body, rest = found
     hosts = [value for name, value in fields if name.lower() == b"host"]
-    if rest or MARK in got.replace(body, b"") or hosts != [at] or b"\n" in got.replace(b"\r\n", b""):
+    head = got.partition(b"\r\n\r\n")[0]
+    if rest or MARK in got.replace(body, b"") or hosts != [at] or b"\n" in head.replace(b"\r\n", b""):
         return f"{found!r}"
     return None
 
@@ -570,7 +571,7 @@ CODED = [(b"gzip, chunked", 501), (b"identity, chunked", 501), (b"x;a=b ,gzip,\t
 
 def check_codings():
     """A body with another transfer coding before chunked gets 501, and any other one that isn't chunked alone 400; no
-    server gets the request, and the log has its method."""
+    server gets the request, and the log has its method and its fault."""
     origin = Origin()
     with serving(origin) as port, Proxy("--log-json") as proxy:
         for value, status in CODED:
@@ -580,7 +581,8 @@ def check_codings():
             must(answer.startswith(b"HTTP/1.1 %d " % status), value, answer)
             must(comes(lambda: len(proxy.said().splitlines()) > before, SOON), value, "no line")
             said = json.loads(proxy.said().splitlines()[-1])
-            must((said["end"], said["method"]) == ("refused", "POST"), value, said)
+            fault = {400: "address-kind", 501: "coding"}[status]
+            must((said["end"], said["method"], said["fault"]) == ("refused", "POST", fault), value, said)
         for lines in (b"Transfer-Encoding: gzip\r\nTransfer-Encoding: chunked",
                       b"Content-Length: 5\r\nTransfer-Encoding: gzip, chunked"):
             given = b"POST http://%s:%d/ HTTP/1.1\r\nHost: a\r\n%s\r\n\r\n" % (HOST.encode(), port, lines)

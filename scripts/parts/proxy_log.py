@@ -214,7 +214,7 @@ def check_begin_lines():
 @timed
 def check_priorities():
     """With --log-journal each line begins with its priority, and is otherwise as without: a race without a connection is
-    a warning, what cannot be kept is an error."""
+    a warning, and so is a refused request; what cannot be kept is an error."""
     refused = unused_port()
     for words in ((), ("--log-json",)):
         with Proxy("--log-journal", *words) as proxy, serving(greet) as port:
@@ -231,7 +231,7 @@ def check_priorities():
             places = [f"<6>he: listening at {FOUR}:{proxy.port}"] if not words else []
             must([line for line in lines if "listening" in line] == places, lines)
             sessions = [line for line in lines if not line[3:].startswith("he: ")]
-            must([line[:3] for line in sessions] == ["<6>", "<4>", "<6>", "<6>", "<6>"], sessions)
+            must([line[:3] for line in sessions] == ["<6>", "<4>", "<4>", "<6>", "<6>"], sessions)
             must([line[:3] for line in lines if "cannot keep records" in line] == ["<3>"], lines)
             for line in sessions:
                 must((json.loads if words else facts)(line[3:])["end"] in ("closed", "refused", "page"), line)
@@ -251,20 +251,24 @@ REQUESTS = (
 
 
 def check_target():
-    """A page that is asked for, and a request that is refused, has its line with the method and the target."""
+    """A page that is asked for, and a request that is refused, has its line with the method and the target; a refusal
+    has its fault, by its status."""
     for words in ((), ("--log-json",)):
         with Proxy(*words) as proxy:
             for line, status, *_ in REQUESTS:
                 got = proxy.answer(line + b"\r\nHost: %s:%d\r\n\r\n" % (FOUR.encode(), proxy.port))
                 must(got.split(b" ", 2)[1] == status, line, got[:80])
             must(comes(lambda: len(log_lines(proxy)) == len(REQUESTS), SOON), proxy.said())
-            for line, (_, _, method, target, end) in zip(log_lines(proxy), REQUESTS):
+            for line, (_, status, method, target, end) in zip(log_lines(proxy), REQUESTS):
+                fault = {b"400": "address-kind", b"501": "command"}[status] if end == "refused" else None
                 if words:
                     read = json.loads(line)
                     must((read["method"], read["target"], read["end"]) == (method, target, end), line)
+                    must(read.get("fault") == fault, line)
                 else:
                     plain = json.dumps(target) if re.search(r'["\\]', target) else target
-                    must(f" method={method} target={plain} " in line and line.endswith(f" end={end}"), line)
+                    said = f" fault={fault}" if fault else ""
+                    must(f" method={method} target={plain}{said} sent=" in line and line.endswith(f" end={end}"), line)
 
 
 # The records

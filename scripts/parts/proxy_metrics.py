@@ -30,7 +30,7 @@ ENDS = ("closed client_broke server_broke idle client_left displaced too_late re
         "no_memory").split()
 LOSSES = ("client_left forbidden all_failed timed_out unreachable no_network no_descriptor not_a_name no_such_name "
           "no_address no_answer dns_refused dns_failed proxy_failed").split()
-OF_NO_RACE = ("command", "address-kind")  # the log's faults of refused requests
+OF_NO_RACE = ("command", "address-kind", "coding", "no-user")  # the log's faults of refused requests
 NUMBER = r"0|[1-9][0-9]*"
 SAMPLE = re.compile(rf'([a-z_]+)(?:\{{([a-z]+="[^"\\\n]*"(?:,[a-z]+="[^"\\\n]*")*)\}})? (({NUMBER})(?:\.[0-9]{{3}})?)')
 LABEL = re.compile(r'([a-z]+)="([^"]*)"')
@@ -193,7 +193,8 @@ def check_counts():
             serving(greet, SIX) as six:
         ends, losses = ask_all(proxy, port, six, refused)
         must(comes(lambda: len(log_lines(proxy)) == sum(ends.values()), SOON), ends, proxy.said())
-        metrics, (of_ends, of_losses, of_families, sums) = metrics_of(proxy), of_log(proxy)
+        of_ends, of_losses, of_families, sums = of_log(proxy)  # (the session that asks for the metrics has a line too)
+        metrics = metrics_of(proxy)
         for name, label, wanted, logged in (("he_sessions_ended", "end", ends, of_ends),
                                             ("he_races", "result", losses, of_losses)):
             found = {key: int(value) for key, value in metrics.counts(name, label).items() if value}
@@ -218,7 +219,8 @@ def check_buckets():
         for host in ("four.test", "dead6.test") * 2:
             proxy.ask(host, port, ALL)
         must(comes(lambda: len(log_lines(proxy)) == 4, SOON), proxy.said())
-        metrics, said = metrics_of(proxy), [facts(line) for line in log_lines(proxy)]
+        said = [facts(line) for line in log_lines(proxy)]  # (the session that asks for the metrics has a line too)
+        metrics = metrics_of(proxy)
         for name, key in (("he_connect_seconds", "ms"), ("he_names_seconds", "names"), ("he_lost_seconds", "lost")):
             for (found, *labels), value in metrics.of(name).items():
                 if found == name + "_bucket":
@@ -264,16 +266,22 @@ def check_lookups():
 def check_refused_clients():
     """Clients that are not served are counted, each one, and are no sessions."""
     with Stranger() as stranger, Proxy("--allow", "11.0.9.0/24", "--max-per-client", 2, at="0.0.0.0") as proxy:
+        idle = proxy.descriptors()
         for _ in range(3):
             with stranger.made(lambda: socket.create_connection((NEAR, proxy.port), TIMEOUT)) as client, \
                     contextlib.suppress(ConnectionError):
                 client.recv(1)
+        has_one = lambda: comes(lambda: proxy.descriptors() == idle + 1, SOON)  # (a session ends a little later)
         with proxy.connect(SOON):
-            why = lambda: metrics_of(proxy).counts("he_clients_refused", "why")
-            must(why()["turned_away"] == 3, why())
+            must(has_one(), proxy.descriptors(), idle)
+            counts = metrics_of(proxy).counts("he_clients_refused", "why")
+            must(counts == {"turned_away": 3, "too_many": 0}, counts)
+            must(has_one(), proxy.descriptors(), idle)
             with proxy.connect(SOON), proxy.connect(SOON) as third:
                 must(third.recv(1) == b"", "a third session is served")
-            must(comes(lambda: why() == {"turned_away": 3, "too_many": 1}, SOON), why())
+            must(has_one(), proxy.descriptors(), idle)
+            counts = metrics_of(proxy).counts("he_clients_refused", "why")
+            must(counts == {"turned_away": 3, "too_many": 1}, counts)
 
 
 @timed

@@ -1,20 +1,24 @@
 """Connects through a built program's `he proxy` by the programs that people use.
 
-needs: curl, wget, apt, git, npm, node, pip, Python with requests, Go, a JDK, Chromium, nc, ssh, sshd, openssl: what is
-missing is reported
+needs: curl, wget, apt, git, npm, node, pip, Python with requests, Go, a JDK, Chromium, Firefox, nc, ssh, sshd, openssl:
+what is missing is reported
 """
+import contextlib
 import io
+import json
 import pathlib
 import re
 import shutil
+import socket
 import ssl
+import subprocess
 import tarfile
 import tempfile
 import zipfile
 
 import support
 from parts.proxy import SOON, Proxy
-from support import FOUR, TIMEOUT, NotTried, comes, greet, must, needs, serving
+from support import FOUR, TIMEOUT, NotTried, comes, greet, must, needs, serving, unused_port
 
 SETUP = support.NETWORK
 
@@ -135,7 +139,8 @@ def check_programs():
                          for word in line.split(" ")]
                 words = [word.replace("\t", " ") for word in words]
                 program = next(word for word in words if word != "env" and not re.match(r"\w+=", word))
-                if not shutil.which(program):
+                has_all = "requests" not in line or not support.run(program, "-c", "import requests").returncode
+                if not shutil.which(program) or not has_all:
                     missing.append(name)
                     continue
                 before = len(proxy.lines())
@@ -166,6 +171,79 @@ def check_node():
         at = f"http_proxy=http://{FOUR}:{proxy.port}"
         done = support.run("env", at, "node", "-e", code, f"http://four.test:{port}/page.txt", timeout=TIMEOUT)
         must(done.stdout == "page\n" and not proxy.lines(), done, proxy.said())
+
+
+class Firefox:
+    """A Firefox of its own with these settings, whose pages are loaded by Marionette, its interface for tests."""
+
+    def __init__(self, folder, settings):
+        port = unused_port()
+        settings = {**settings, "marionette.port": port, "network.captive-portal-service.enabled": False,
+                    "datareporting.policy.dataSubmissionEnabled": False}
+        lines = (f'user_pref("{name}", {json.dumps(value)});\n' for name, value in settings.items())
+        pathlib.Path(folder).mkdir()
+        pathlib.Path(folder, "user.js").write_text("".join(lines))
+        self.running = subprocess.Popen(["firefox", "--headless", "--marionette", "--profile", folder, "about:blank"],
+                                        env={"HOME": folder, "PATH": "/usr/bin:/bin"}, stdin=subprocess.DEVNULL,
+                                        stdout=subprocess.DEVNULL, stderr=subprocess.DEVNULL)
+        self.came = self.talk = None
+        must(comes(lambda: self.connect(port), 3 * TIMEOUT), "Firefox does not listen")
+        self.read()
+        self.ask("WebDriver:NewSession", acceptInsecureCerts=True)
+
+    def __enter__(self):
+        return self
+
+    def __exit__(self, *_):
+        if self.talk:
+            self.talk.close()
+        self.running.kill()
+        self.running.wait()
+
+    def connect(self, port):
+        with contextlib.suppress(OSError):
+            self.talk = socket.create_connection((FOUR, port), timeout=3 * TIMEOUT)
+            self.came = self.talk.makefile("rb")
+        return bool(self.talk)
+
+    def read(self):
+        """A message: its length, a colon, and JSON."""
+        length = b"".join(iter(lambda: self.came.read(1), b":"))
+        return json.loads(self.came.read(int(length)))
+
+    def ask(self, name, **given):
+        text = json.dumps([0, 1, name, given]).encode()
+        self.talk.sendall(b"%d:%s" % (len(text), text))
+        _, _, fault, result = self.read()
+        must(not fault, name, fault)
+        return result
+
+    def page(self, url):
+        """The text of a page."""
+        self.ask("WebDriver:Navigate", url=url)
+        return self.ask("WebDriver:ExecuteScript", script="return document.body.textContent", args=[])["value"]
+
+
+def check_firefox():
+    """Firefox gets a page, which it asks the proxy for, by SOCKS 5 and by HTTP, without TLS and with it."""
+    needs("firefox")
+    with tempfile.TemporaryDirectory() as folder, Proxy() as proxy, support.web_server(folder) as port, \
+            support.web_server(folder, own_tls(folder)) as tls:
+        pathlib.Path(folder, "page.txt").write_text("page\n")
+        common = {"network.proxy.type": 1, "network.proxy.no_proxies_on": ""}
+        by_socks = {"network.proxy.socks": FOUR, "network.proxy.socks_port": proxy.port,
+                    "network.proxy.socks_remote_dns": True}
+        by_http = {"network.proxy.http": FOUR, "network.proxy.http_port": proxy.port,
+                   "network.proxy.ssl": FOUR, "network.proxy.ssl_port": proxy.port}
+        for way, settings in (("socks", by_socks), ("http", by_http)):
+            before = len(proxy.lines())
+            with Firefox(f"{folder}/{way}", {**common, **settings}) as firefox:
+                for scheme, at in (("http", port), ("https", tls)):
+                    got = firefox.page(f"{scheme}://both.test:{at}/page.txt")
+                    must(got == "page\n", way, scheme, got, proxy.said()[-300:])
+            for at in (port, tls):  # (it keeps its connections until it ends)
+                is_seen = lambda: any(f" host=both.test port={at} " in line for line in proxy.lines()[before:])
+                must(comes(is_seen, SOON), way, at, "not by the proxy", proxy.said()[-300:])
 
 
 GIT = """

@@ -89,13 +89,16 @@ LONG = b"a" * 255  # as many octets as a user and a name may have
 
 
 def rejected(port, own):
-    """What is refused, and the word for it in the log: none for a request that cannot be read or is not CONNECT."""
+    """What is refused, and the word for it in the log: one for another command, one for a request that cannot be read or
+    names no host."""
+    commands = [old(FOUR, port, command=2), old("four.test", port, command=2), b"\4\2", b"\4\0"]
+    unread = [
+        named("", port, USER), named("four .test", port), named("four\x7f.test", port), old("four.test", 0), old(FOUR, 0),
+        named("a" * 256, port), named("a" * 256, port)[:-1], old(FOUR, port, LONG + b"a"),
+        old(FOUR, port, LONG + b"a")[:-1], old("four.test", port, LONG + b"a"),
+    ]
     return [
-        (old(FOUR, port, command=2), None), (old("four.test", port, command=2), None), (b"\4\2", None), (b"\4\0", None),
-        (named("", port, USER), None), (named("four .test", port), None), (named("four\x7f.test", port), None),
-        (old("four.test", 0), None), (old(FOUR, 0), None), (named("a" * 256, port), None),
-        (named("a" * 256, port)[:-1], None), (old(FOUR, port, LONG + b"a"), None),
-        (old(FOUR, port, LONG + b"a")[:-1], None), (old("four.test", port, LONG + b"a"), None),
+        *((given, "command") for given in commands), *((given, "address-kind") for given in unread),
         (named("a" * 255, port), "not-a-name"), (old(FOUR, own), "forbidden"), (named(FOUR, own), "forbidden"),
     ]
 
@@ -110,7 +113,7 @@ def check_rejected():
             must(got == REJECTED, given, got)
             must(comes(lambda: len(proxy.said().splitlines()) > before, SOON), given, "no line")
             said = json.loads(proxy.said().splitlines()[-1])
-            must((said["end"], said.get("fault")) == ("refused", word), given, said)
+            must((said["end"], said["fault"]) == ("refused", word), given, said)
         must(not came, "a server was connected to")
 
 
@@ -159,7 +162,8 @@ def check_user():
             for given in (old(FOUR, port, USER), old("both.test", port, USER), old(FOUR, port, USER, command=2),
                           named("", port, USER), old(FOUR, unused_port(), USER), old(FOUR, port, USER * 24)):
                 proxy.answer(given)
-            must(comes(lambda: proxy.said().count("client") == 6, SOON), proxy.said())
+            key = '"client":' if words else "client="
+            must(comes(lambda: proxy.said().count(key) == 6, SOON), proxy.said())
             texts = [proxy.said(), *(path.read_text() for path in proxy.files())]
             must(len(texts) == 4, proxy.files())
             for text in texts:

@@ -197,7 +197,8 @@ def check_log():
             proxy.answer(connect_head(port, basic(NAME, b"wrong-password")))
             with proxy.connect() as client:
                 by_socks(client, message(NAME, b"wrong-password"), "four.test", port)
-            must(comes(lambda: proxy.said().count("client") == 4, SOON), proxy.said())
+            key = '"client":' if words else "client="
+            must(comes(lambda: proxy.said().count(key) == 4, SOON), proxy.said())
             said = proxy.said()
         must("s3cret" not in said and "wrong-password" not in said and "a:b" not in said, said)
         must(base64.b64encode(NAME + b":" + PASSWORD).decode()[:8] not in said, said)
@@ -208,6 +209,20 @@ def check_log():
         else:
             must(said.count(" user=me ") == 1 and said.count(" user=Zoë ") == 1 and said.count("fault=no-user") == 2,
                  said)
+
+
+def check_begin_lines():
+    """The line of a race that begins has the name too, and the method of a request that is forwarded, as the line of its
+    session has them."""
+    with proxy_of("--log-begin", "--log-json") as proxy, serving(greet) as port:
+        with proxy.connect() as client:
+            by_socks(client, message(NAME, PASSWORD), "four.test", port)
+        proxy.answer(get_head(port, basic(OTHER, OTHERS_PASSWORD)))
+        must(comes(lambda: proxy.said().count('"end":') == 2, SOON), proxy.said())
+        lines = [json.loads(line) for line in proxy.said().splitlines() if line.startswith("{")]
+    for key in ("begin", "end"):
+        said = {it["user"]: it.get("method") for it in lines if key in it}
+        must(said == {NAME.decode(): None, OTHER.decode(): "GET"}, key, lines)
 
 
 def check_without_users():
