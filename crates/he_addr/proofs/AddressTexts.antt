@@ -10,7 +10,7 @@ use Rattle.he_addr.proofs.AddressBytes.{address_bytes, bytes_lack, no_slash}
 use Rattle.he_addr.proofs.NetTexts.{ip_in_some, ip_in-spelled}
 use Rattle.he_addr.proofs.Numbers.{numeral_in_some, numeral_in-spelled}
 use Rattle.he_addr.proofs.Options.{bind_some, allowed}
-use Rattle.he_addr.proofs.PartLaws.{cut_some, cut_joined}
+use Rattle.he_addr.proofs.Cuts.{cut_some, cut_joined}
 
 pub source_in_some : (text : List ℕ) (ip : Ip) (len : ℕ) → source_in text ≡ Some (ip, len) → SpellsSource text ip len
 unfolding source_in

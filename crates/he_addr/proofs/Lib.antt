@@ -3,13 +3,13 @@ mod AddressTexts
 mod Between
 mod Bounds
 pub mod Common_bits
+pub mod Cuts
 mod HexDigits
 mod JoinedTexts
 mod NetTexts
-mod OctetTexts
 mod Numbers
+mod OctetTexts
 mod Options
-mod PartLaws
 pub mod Prepended
 mod PrintedTexts
 pub mod ReadLaws

@@ -17,7 +17,7 @@ use Rattle.he_addr.proofs.ReadLaws.{read_address_spells, read_number_spells, spe
 use Rattle.he_front.specs.Authority.{IsAuthority, IsHostText, IsNoAuthority, SpellsPort, is_name, is_name_octet}
 use Rattle.he_front.specs.Reading.{after, authority_in, bracketed_in, named_in, port_in}
 use Rattle.he_front.proofs.AddressOctets.{address_is_ascii, address_lacks_bracket}
-use Rattle.he_front.proofs.Cuts.{cut_joined, cut_some}
+use Rattle.he_addr.proofs.Cuts.{cut_joined, cut_some}
 
 port_found : (text : List ℕ) (port : ℕ) → port_in text ≡ Some port → SpellsPort text port
 unfolding port_in
@@ -46,7 +46,7 @@ named_found text host port h =
     subst P both.1 (record {
       host_text = cut.0;
       port_text = cut.1;
-      parts = cut_some 58 text cut is_cut;
+      parts = (cut_some 58 text cut is_cut).joined;
       is_host = inr (refl, both.0);
       is_port = port_found cut.1 number is_port;
     })))
@@ -91,7 +91,7 @@ bracketed_found text host port h =
     option_and_then_some _ (after 58 cut.1) (host, port) h2 (λ rest is_rest h3.
     option_and_then_some _ (port_in rest) (host, port) h3 (λ number is_port h4.
     let P : List ℕ × ℕ → Type 0 = λ named. IsAuthority (91 ∷ text) named.0 named.1 in
-    let parts : text ≡ cut.0 ++ 93 ∷ 58 ∷ rest = cut_some 93 text cut is_cut ∙ ap (λ more. cut.0 ++ 93 ∷ more) (after_found 58 cut.1 rest is_rest) in
+    let parts : text ≡ cut.0 ++ 93 ∷ 58 ∷ rest = (cut_some 93 text cut is_cut).joined ∙ ap (λ more. cut.0 ++ 93 ∷ more) (after_found 58 cut.1 rest is_rest) in
     subst P (same_Some (cut.0, number) (host, port) h4) (record {
       host_text = 91 ∷ cut.0 ++ 93 ∷ [];
       port_text = rest;

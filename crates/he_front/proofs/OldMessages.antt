@@ -13,7 +13,7 @@ use Rattle.he_addr.specs.declared.ip.Ip.TheVariants.{V4, V6}
 use Rattle.he_addr.specs.Reading.{cut_in}
 use Rattle.he_addr.specs.Text.{Lacks}
 use Rattle.he_front.proofs.Begun.{wanted-there}
-use Rattle.he_front.proofs.Cuts.{cut_joined}
+use Rattle.he_addr.proofs.Cuts.{cut_joined}
 use Rattle.he_front.specs.declared.socks.Target.{Target}
 use Rattle.he_front.specs.declared.socks.Target.TheVariants as targets
 use Rattle.he_front.specs.Messages.{HasNone, MayBecome}

@@ -1,4 +1,3 @@
-pub mod Cuts
 pub mod Pairs
 pub mod Reading
 pub mod Same

@@ -4,7 +4,7 @@ use Rattle.std.specs.declared.alloc.Global.{Global}
 use Rattle.std.specs.declared.vec.Vec.{Vec}
 use Rattle.base64.specs.GeneralPurpose.{encode_of}
 use Rattle.base64.specs.Engines.{standard}
-use Rattle.he_users.proofs.Cuts.{cut_joined, cut_some}
+use Rattle.he_addr.proofs.Cuts.{cut_joined, cut_some}
 use Rattle.he_addr.specs.Reading.{cut_in}
 use Rattle.he_users.specs.Basic.{AdmitsBasic, IsNamed, IsTextOf, IsTextOfNone, LacksBasic, token_in}
 use Rattle.he_users.specs.declared.users.Users.{Users}
