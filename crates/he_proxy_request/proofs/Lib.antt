@@ -1,3 +1,4 @@
 mod Named
 mod Ports
+mod Refusing
 mod Ruled

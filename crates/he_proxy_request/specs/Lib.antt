@@ -1,3 +1,4 @@
 pub mod Listening
 pub mod Proxies
+pub mod Refused
 pub mod Rules

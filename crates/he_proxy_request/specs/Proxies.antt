@@ -2,6 +2,7 @@
 use Rattle.std.specs.Prelude.{◌≡◌, ◌+◌, ◌-◌, ◌/◌, Bool, true, false, List, [], ◌∷◌, ℕ, Result, codes, option_map}
 use Rattle.clap.specs.Matches.{first_value}
 use Rattle.clap.specs.declared.parser.matches.Found.{Found}
+use Rattle.he_addr.specs.Prefix.{PrefixBits}
 use Rattle.he_addr.specs.Text.{SpellsPrefix}
 use Rattle.he_timeline.specs.Changes.{ChangeValues}
 use Rattle.he_options.specs.Families.{AsksFamily}
@@ -20,6 +21,9 @@ abbrev pub AreNamed : {X : Type 0} → (List ℕ → X → Type 0) → List (Lis
 AreNamed names [] [] = Unit {0}
 AreNamed names (text ∷ texts) (x ∷ xs) = names text x × AreNamed names texts xs
 AreNamed names _ _ = ⊥
+
+abbrev pub SpellsNoPrefix : List ℕ → Type 0
+SpellsNoPrefix text = (prefix : PrefixBits) → SpellsPrefix text prefix → ⊥
 
 -- -q before --log-json
 abbrev pub log_of : Bool → Bool → SessionLog

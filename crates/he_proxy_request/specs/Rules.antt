@@ -1,7 +1,7 @@
 -- The rules for what clients of a proxy may reach, by the words of the line.
-use Rattle.std.specs.Prelude.{◌≡◌, ◌⊎◌, ◌≤◌, ◌<◌, ◌++◌, ◌==◌, ◌&&◌, ◌||◌, Bool, true, false, List, [], ◌∷◌, ℕ, codes, if◌then◌else◌, length, map, slice_get, slice_index_or}
+use Rattle.std.specs.Prelude.{◌≡◌, ◌⊎◌, ◌≤◌, ◌<◌, ◌++◌, ◌==◌, ◌&&◌, ◌||◌, Bool, true, false, List, [], ◌∷◌, ℕ, codes, if◌then◌else◌, length, map, nat_eq, not, slice_get, slice_index_or}
 use Rattle.std.specs.Char.{is_ascii_alphabetic, is_ascii_alphanumeric}
-use Rattle.std.specs.List.{All, AllZip, list_all, list_any}
+use Rattle.std.specs.List.{All, AllZip, list_all, list_any, starts_with}
 use Rattle.std.specs.List.Sorted.{IsNonDecreasingBy, IsPermutation}
 use Rattle.std.specs.Option.{option_map_or, unwrap_or}
 use Rattle.clap.specs.Matches.{matched_of}
@@ -16,7 +16,11 @@ use Rattle.he_access.specs.declared.rules.Targets.{Targets}
 use Rattle.he_access.specs.declared.rules.Targets.TheVariants as kinds
 use Rattle.he_options.specs.declared.limits.TheConstants.{LEAST_PORT, MOST_PORT}
 use Rattle.he_options.specs.Words.{values_of}
+use Rattle.he_options.specs.declared.refusal.OptionFault.TheVariants as faults
+use Rattle.he_options.specs.declared.refusal.Refusal.{Refusal}
+use Rattle.he_options.specs.declared.refusal.Refusal.TheVariants as refusals
 use Rattle.he_proxy_request.specs.Listening.{SpellsPort}
+use Rattle.he_proxy_request.specs.Refused.{IsRefusalOf}
 use Rattle.he_proxy_request.specs.declared.rules.RuleWord.{RuleWord}
 
 -- ---- names
@@ -44,6 +48,13 @@ NamesPrefix text prefix =
 abbrev pub NamesNetwork : List ℕ → Network → Type 0
 NamesNetwork text network = NamesPrefix text (record { bits = network.bits; len = network.len })
 
+abbrev pub NamesInBrackets : List ℕ → Network → Type 0
+NamesInBrackets text network =
+    (inner : List ℕ) × (text ≡ 91 ∷ (inner ++ 93 ∷ [])) × NamesNetwork inner network
+
+abbrev pub NamesAnyNetwork : List ℕ → Network → Type 0
+NamesAnyNetwork text network = NamesNetwork text network ⊎ NamesInBrackets text network
+
 -- a text                                     names
 -- 192.0.2.0/24, 2001:db8::/32, 192.0.2.1     the addresses of that network, or that one
 -- [2001:db8::/32], [2001:db8::1]             also with brackets
@@ -51,28 +62,55 @@ NamesNetwork text network = NamesPrefix text (record { bits = network.bits; len 
 -- .example.com                               that host and all below it
 abbrev pub NamesTargets : List ℕ → Targets → Type 0
 NamesTargets text kinds.All = ⊥
-NamesTargets text (kinds.Network network) =
-    NamesNetwork text network
-    ⊎ ((inner : List ℕ) × (text ≡ 91 ∷ (inner ++ 93 ∷ [])) × NamesNetwork inner network)
+NamesTargets text (kinds.Network network) = NamesAnyNetwork text network
 NamesTargets text (kinds.Host name) = (name.now ≡ text) × (is_name text ≡ true)
 NamesTargets text (kinds.Domain name) = (text ≡ 46 ∷ name.now) × (is_name name.now ≡ true)
 
--- a port, as 443, or the first and the last of some, as 8000-8999
+-- neither a name, nor a dot before one
+pub record LacksName (text : List ℕ) : Type 0 where
+  pub host : is_name text ≡ false
+  pub domain : (name : List ℕ) → text ≡ 46 ∷ name → is_name name ≡ false
+
+-- the first and the last of some ports, as 8000-8999
+abbrev pub NamesRange : List ℕ → Ports → Type 0
+NamesRange text ports =
+    (first : List ℕ) × (last : List ℕ) × (text ≡ first ++ 45 ∷ last) × SpellsPort first ports.first
+    × SpellsPort last ports.last × (ports.first ≤ ports.last)
+
+-- a port, as 443, or such a range
 abbrev pub NamesPorts : List ℕ → Ports → Type 0
-NamesPorts text ports =
-    (SpellsPort text ports.first × (ports.last ≡ ports.first))
-    ⊎ ((first : List ℕ) × (last : List ℕ) × (text ≡ first ++ 45 ∷ last) × SpellsPort first ports.first
-    × SpellsPort last ports.last × (ports.first ≤ ports.last))
+NamesPorts text ports = (SpellsPort text ports.first × (ports.last ≡ ports.first)) ⊎ NamesRange text ports
 
 abbrev pub AreAllPorts : Ports → Type 0
 AreAllPorts ports = (ports.first ≡ LEAST_PORT) × (ports.last ≡ MOST_PORT)
 
--- a rule's text: targets, at all ports; or targets, or nothing, which is all targets, before a colon and ports
+-- a colon is in it, and no bracket at its front
+abbrev pub is_bare : List ℕ → Bool
+is_bare text = list_any (λ byte. byte == 58) text && not (starts_with nat_eq text (codes "["))
+
+-- targets before ports: nothing is all of them, and an IPv6 network has brackets
+abbrev pub NamesFront : List ℕ → Targets → Type 0
+NamesFront text targets =
+    ((text ≡ []) × (targets ≡ kinds.All)) ⊎ ((is_bare text ≡ false) × NamesTargets text targets)
+
+-- targets, a colon and ports
+pub record HasPorts (text : List ℕ) (targets : Targets) (ports : Ports) : Type 0 where
+  pub front : List ℕ
+  pub digits : List ℕ
+  pub parts : text ≡ front ++ 58 ∷ digits
+  pub named : NamesFront front targets
+  pub at : NamesPorts digits ports
+
+abbrev pub NamesNoTargets : List ℕ → Type 0
+NamesNoTargets text = (targets : Targets) → NamesTargets text targets → ⊥
+
+-- a rule's text: targets, at all ports; or, where it is no text of targets, targets with ports
 abbrev pub NamesRule : List ℕ → Targets → Ports → Type 0
 NamesRule text targets ports =
-    (NamesTargets text targets × AreAllPorts ports)
-    ⊎ ((front : List ℕ) × (digits : List ℕ) × (text ≡ front ++ 58 ∷ digits) × NamesPorts digits ports
-    × (((front ≡ []) × (targets ≡ kinds.All)) ⊎ NamesTargets front targets))
+    (NamesTargets text targets × AreAllPorts ports) ⊎ (NamesNoTargets text × HasPorts text targets ports)
+
+abbrev pub NamesNoRule : List ℕ → Type 0
+NamesNoRule text = (targets : Targets) (ports : Ports) → NamesRule text targets ports → ⊥
 
 -- the rule of a word: --to allows, --not-to refuses
 pub record IsRuleOf (word : RuleWord) (rule : Rule) : Type 0 where
@@ -114,3 +152,10 @@ pub record AreWords (found : Found) (words : List RuleWord) : Type 0 where
 -- the rules of these words
 abbrev pub AsksRules : Found → List Rule → Type 0
 AsksRules found rules = (words : List RuleWord) × AreWords found words × AllZip IsRuleOf words rules
+
+-- a line is refused for a word that names no rule, or for want of memory
+abbrev pub LacksRules : Found → Refusal → Type 0
+LacksRules found refusal =
+    (refusal ≡ refusals.Memory)
+    ⊎ ((words : List RuleWord) × AreWords found words
+    × IsRefusalOf (λ word. NamesNoRule word.text.now) faults.Rule words refusal)

@@ -1,10 +1,12 @@
 //! `he proxy`.
-ghost use Rattle.std.specs.Prelude.{◌≡◌, ◌≤◌, IfOk, codes, map, option_map};
+ghost use Rattle.std.specs.Prelude.{◌≡◌, ◌≤◌, IfErr, IfOk, codes, map, option_map};
 ghost use Rattle.clap.specs.Matches.{first_value, found_of};
 ghost use Rattle.he_addr.specs.Text.{SpellsPrefix};
-ghost use Rattle.he_proxy_request.specs.Proxies.{AreNamed, AsksProxy, log_of, whole_seconds};
+ghost use Rattle.he_proxy_request.specs.Proxies.{AreNamed, AsksProxy, SpellsNoPrefix, log_of, whole_seconds};
+ghost use Rattle.he_proxy_request.specs.Refused.{IsRefusalOf};
 ghost use Rattle.he_options.specs.Times.{time_of};
 ghost use Rattle.he_options.specs.declared.limits.TheConstants.{MOST_IDLE, SECOND};
+ghost use Rattle.he_options.specs.declared.refusal.OptionFault.TheVariants as faults;
 
 use crate::listen::{Listen, words_in};
 use crate::rules::rules_of;
@@ -274,9 +276,10 @@ fn log_of(is_quiet: bool, is_json: bool) -> SessionLog
     }
 }
 
-// The networks from where clients may come, one for each of these texts.
+// The networks from where clients may come, one for each of these texts. It refuses only a text that is no prefix.
 fn networks_in(alloc: Global, texts: &[&str]) -> Result<Vec<Prefix>, Refusal>
-    ensures { IfOk result (λ allow. AreNamed SpellsPrefix (map (λ text. text.now) texts.now) allow.items) }
+    ensures ok { IfOk result (λ allow. AreNamed SpellsPrefix (map (λ text. text.now) texts.now) allow.items) }
+    ensures err { IfErr result (IsRefusalOf (λ text. SpellsNoPrefix text.now) faults.Network texts.now) }
 {
     let mut allow = Vec::new(alloc);
     for text in texts {
