@@ -4,7 +4,7 @@ use Rattle.std.specs.List.{Contains}
 use Rattle.he_addr.specs.declared.ip.Family.{Family}
 use Rattle.he_cache.specs.Keeping.{kept_of}
 use Rattle.he_cache.specs.declared.cache.Kept.{Kept}
-use Rattle.he_kept.specs.Answers.{Serves}
+use Rattle.he_kept.specs.Answers.{IsCopy, Serves}
 use Rattle.he_kept.specs.declared.answer.KeptAnswer.{KeptAnswer}
 use Rattle.he_kept.specs.declared.table.KeptTable.{KeptTable}
 
@@ -17,3 +17,7 @@ Explains past table =
 -- the answer was kept, for this family of the host, less than its TTL ago
 abbrev pub WasKept : List KeptAnswer → ℕ → List ℕ → Family → KeptAnswer → Type 0
 WasKept past now host family answer = Contains past answer × Serves answer now host family
+
+-- the copy of an answer that was kept so: it has that one's addresses, or its reason that there are none
+abbrev pub IsOfPast : List KeptAnswer → ℕ → List ℕ → Family → KeptAnswer → Type 0
+IsOfPast past now host family copy = (kept : KeptAnswer) × WasKept past now host family kept × IsCopy kept copy

@@ -1,8 +1,9 @@
 //! Questions to name servers, and their answers.
 ghost use Rattle.std.specs.Prelude.{◌≡◌, ◌++◌, IfOk, IsTrue, OnOk, string_bytes};
-ghost use Rattle.he_kept.specs.Answers.{IsAbout, IsCopy, ips_in};
+ghost use Rattle.he_kept.specs.Answers.{IsAbout, IsCopy, IsCopied, answer_of, fault_in, ips_in};
 
 use he_addr::{Family, Ip, Memory};
+use he_settings::NamesFault;
 use std::alloc::Global;
 
 /// A question: a family of a host's addresses.
@@ -45,11 +46,11 @@ pub struct Lifetime {
     pub ttl: Option<u32>,
 }
 
-/// An answer of name servers: the addresses, of which there may be none.
+/// An answer of name servers: the addresses, or why there are none.
 #[derive(Drop)]
 pub struct KeptAnswer {
     pub question: Question,
-    pub ips: Vec<Ip>,
+    pub told: Result<Vec<Ip>, NamesFault>,
     pub life: Lifetime,
 }
 
@@ -64,17 +65,34 @@ impl KeptAnswer {
     {
         Ok(KeptAnswer {
             question: Question::of(alloc, self.question.host.as_str(), self.question.family)?,
-            ips: Vec::from_slice(alloc, &self.ips)?,
+            told: copy_of(alloc, &self.told)?,
             life: self.life,
         })
     }
 
-    /// The addresses.
-    pub fn into_ips(self) -> Vec<Ip>
-        ensures { result ≡ self.ips }
+    /// The addresses, or why there are none.
+    pub fn into_told(self) -> Result<Vec<Ip>, NamesFault>
+        ensures { result ≡ self.told }
     {
-        self.ips
+        self.told
     }
+}
+
+/// A copy of the addresses, or of the reason that there are none.
+///
+/// # Errors
+///
+/// `Memory` if an allocation failed.
+pub fn copy_of(
+    alloc: Global,
+    told: &Result<Vec<Ip>, NamesFault>,
+) -> Result<Result<Vec<Ip>, NamesFault>, Memory>
+    ensures { IfOk result (IsCopied told.now) }
+{
+    Ok(match told {
+        Ok(ips) => Ok(Vec::from_slice(alloc, ips)?),
+        Err(fault) => Err(*fault),
+    })
 }
 
 /// The answers kept for a host: one for each family that is tried.
@@ -98,13 +116,31 @@ impl KeptHost {
         add_ips(&self.four, &mut ips)?;
         Ok(ips)
     }
+
+    /// Why the family has no address, if that is its answer.
+    pub fn fault(&self, family: Family) -> Option<NamesFault>
+        ensures { result ≡ fault_in (answer_of self.now family) }
+    {
+        let answer = match family {
+            Family::V6 => &self.six,
+            Family::V4 => &self.four,
+        };
+        if let Some(answer) = answer
+            && let Err(fault) = &answer.told
+        {
+            return Some(*fault);
+        }
+        None
+    }
 }
 
 fn add_ips(answer: &Option<KeptAnswer>, ips: &mut Vec<Ip>) -> Result<(), Memory>
     ensures { OnOk result (ips.new.items ≡ ips.old.items ++ ips_in answer.now) }
 {
-    if let Some(answer) = answer {
-        ips.extend_from_slice(&answer.ips)?;
+    if let Some(answer) = answer
+        && let Ok(kept) = &answer.told
+    {
+        ips.extend_from_slice(kept)?;
     }
     Ok(())
 }

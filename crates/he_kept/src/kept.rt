@@ -1,6 +1,8 @@
 //! The answers that races share, and the questions that name servers are being asked.
-ghost use Rattle.std.specs.Prelude.{IfOk, IfSome};
+ghost use Rattle.std.specs.Prelude.{IfOk, IfSome, List};
 ghost use Rattle.he_kept.specs.Answers.{IsAbout, IsOfHost, Serves};
+ghost use Rattle.he_kept.specs.Past.{Explains, IsOfPast};
+ghost use Rattle.he_kept.specs.declared.answer.KeptAnswer.{KeptAnswer};
 
 use crate::answer::{KeptAnswer, KeptHost, Question};
 use crate::table::KeptTable;
@@ -147,7 +149,9 @@ fn known_in(
     host: &str,
     family: Family,
 ) -> Option<KeptAnswer>
-    ensures { IfSome result (λ answer. Serves answer now host.now family) }
+    ensures serves { IfSome result (λ answer. Serves answer now host.now family) }
+    ensures law { (past : List KeptAnswer) → Explains past table.now
+        → IfSome result (IsOfPast past now host.now family) }
 {
     match table.answer(now, host, family) {
         Ok(Some(kept)) => kept.copied(alloc).ok(),

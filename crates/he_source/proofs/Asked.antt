@@ -12,10 +12,21 @@ use Rattle.he_resolver.specs.Begins.{BeginsFor}
 use Rattle.he_resolver.specs.declared.lookup.Lookup.{Lookup}
 use Rattle.he_resolver.specs.declared.lookup.Source.{Source}
 use Rattle.he_settings.specs.Known.{FindsKnown, IsKnown, items_of}
-use Rattle.he_source.specs.Kept.{AreKeptOf, BeginsBy, BeginsKnown}
+use Rattle.he_kept.specs.declared.answer.KeptHost.{KeptHost}
+use Rattle.he_source.specs.Kept.{AreKeptOf, BeginsBy, BeginsKnown, IsKeptOf, ips_kept}
 use Rattle.he_source.specs.Sources.{IsAsked}
 use Rattle.he_source.specs.declared.lookups.HostLookup.{HostLookup}
 use Rattle.he_source.specs.declared.source.RaceSource.{RaceSource}
+
+-- the addresses of the cached answers of the host
+pub are_kept : (request : ConnectRequest) (kept : Option KeptHost) (found : Option (Vec Ip))
+    → IfSome kept (λ known. IsKeptOf request.host.now (only_of request.families) known)
+    → items_of found ≡ option_map ips_kept kept
+    → IfSome found (λ ips. AreKeptOf request.host.now (only_of request.families) ips.items)
+are_kept request None None is same = tt
+are_kept request (Some known) None is same = tt
+are_kept request None (Some ips) is same = absurd (cc same)
+are_kept request (Some known) (Some ips) is same = (known, is, cc same)
 
 module _ {R : Type 0} (request : ConnectRequest) where
   -- the look-up of a host whose known addresses these are

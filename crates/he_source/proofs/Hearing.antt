@@ -1,7 +1,10 @@
 -- What a source that hears another one owes of that one.
-use Rattle.std.proofs.Common.{◌≡◌, ◌⊎◌, ℕ, List, [], ◌∷◌, inl, inr, refl}
-use Rattle.std.specs.Prelude.{Option, None, Some}
+use Rattle.std.proofs.Common.{◌≡◌, ◌⊎◌, ◌∙◌, ℕ, Bool, List, [], ◌∷◌, ap, inl, inr, refl, subst, sym}
+use Rattle.std.specs.Prelude.{Option, None, Some, is_some}
 use Rattle.he_addr.specs.declared.ip.Family.{Family}
+use Rattle.he_resolver.specs.Heard.{IsSound, Told, origin_of}
+use Rattle.he_resolver.specs.Heard.{Tells as TellsLookup}
+use Rattle.he_setup.specs.Answers.{HearsLookup, IsToldOf}
 use Rattle.he_setup.specs.declared.source.HostAnswers.{HostAnswers}
 use Rattle.he_live.specs.declared.steps.Quiet.{Quiet}
 use Rattle.futures.specs.Poll.{IfReady, OnPending}
@@ -10,7 +13,7 @@ use Rattle.futures.specs.declared.task.context.Context.{Context}
 use Rattle.futures.specs.declared.task.Poll.{Poll}
 use Rattle.futures.specs.declared.task.Poll.TheVariants.{Pending, Ready}
 use Rattle.he_turns.specs.Heard.{AnswerLists, IsSilent, StaysSilent, Tells}
-use Rattle.he_source.specs.Sources.{Asks, HearsAt, HearsBy, HearsOwn, IsToldWith, needs_at}
+use Rattle.he_source.specs.Sources.{Asks, HearsAt, HearsBy, HearsOwn, IsToldHere, IsToldWith, needs_at}
 use Rattle.he_source.specs.declared.source.RaceSource.{RaceSource}
 use Rattle.he_source.specs.declared.source.Turn.{Turn}
 use Rattle.he_source.specs.declared.source.Turn.TheVariants as turns
@@ -41,6 +44,34 @@ module _ {R : Type 0} (own : Tells (HostAnswers R Quiet)) where
   pub silent_by : (s : RaceSource R) (family : Family) → Asks s.turn → IsSilent own s.answers family
       → IsSilent (HearsBy own) s family
   silent_by s family asks silent = record { at = λ polls. stays polls s family asks (silent.at polls) }
+
+-- ---- what its look-up tells
+
+module _ {R : Type 0} (old new : HostAnswers R Quiet) (family : Family) where
+  -- nothing yet
+  pub heard_none : is_some new.machine ≡ is_some old.machine → origin_of new.lookup.source ≡ origin_of old.lookup.source
+      → (IsSound old.lookup.source → IsSound new.lookup.source) → HearsLookup old family None new
+  heard_none brings origin sound = record { brings = brings; origin = origin; sound = sound; tells = λ so. tt }
+
+module _ {R : Type 0} (old new later : HostAnswers R Quiet) (family : Family) (told : Told) (answer : AnswerLists) where
+  -- a result, of which the race's answer is made
+  pub heard_told : later ≡ new → is_some new.machine ≡ is_some old.machine
+      → origin_of new.lookup.source ≡ origin_of old.lookup.source
+      → (IsSound old.lookup.source → IsSound new.lookup.source)
+      → (IsSound old.lookup.source → TellsLookup new.lookup.source family told)
+      → IsToldHere (is_some later.machine) told answer
+      → (bare : Option AnswerLists) × IsToldWith bare (Some answer) × HearsLookup old family bare later
+  heard_told same brings origin sound tells (bare, is, alike) =
+      let here : IsToldOf (is_some old.machine) told bare =
+      subst (λ (b : Bool). IsToldOf b told bare)
+      (ap (λ (a : HostAnswers R Quiet). is_some a.machine) same ∙ brings) is in
+      let heard : HearsLookup old family (Some bare) new = record {
+        brings = brings;
+        origin = origin;
+        sound = sound;
+        tells = λ so. (told, tells so, here);
+      } in
+      (Some bare, alike, subst (λ (a : HostAnswers R Quiet). HearsLookup old family (Some bare) a) (sym same) heard)
 
 -- ---- what it waits for
 

@@ -1,4 +1,4 @@
--- The start of a host's look-up, and the cached addresses of a host.
+-- The start of a host's look-up, and the cached answers of a host.
 use Rattle.std.specs.Prelude.{◌≡◌, ◌⊎◌, ◌++◌, ℕ, List, Option, Some, None, option_map}
 use Rattle.std.specs.Global.{Vec}
 use Rattle.he_addr.specs.declared.ip.Family.{Family}
@@ -9,19 +9,26 @@ use Rattle.he_kept.specs.Answers.{IsOfHost, Serves, ips_in}
 use Rattle.he_kept.specs.declared.answer.KeptAnswer.{KeptAnswer}
 use Rattle.he_kept.specs.declared.answer.KeptHost.{KeptHost}
 use Rattle.he_resolver.specs.Begins.{BeginsFor}
+use Rattle.he_resolver.specs.Heard.{Told}
 use Rattle.he_resolver.specs.declared.lookup.Source.{Source}
 use Rattle.he_resolver.specs.declared.lookup.Source.TheVariants as sources
 use Rattle.he_source.specs.declared.lookups.Sought.{Sought}
 
--- the addresses of a cached answer for this family of the host, valid in some second
-abbrev pub AreKeptFor : List ℕ → Family → List Ip → Type 0
-AreKeptFor host family ips =
-    (answer : KeptAnswer) × (now : ℕ) × Serves answer now host family × (ips ≡ answer.ips.items)
+-- the addresses of a cached answer for this family of the host, valid in some second, or why there are none
+abbrev pub IsKeptFor : List ℕ → Family → Told → Type 0
+IsKeptFor host family told =
+    (answer : KeptAnswer) × (now : ℕ) × Serves answer now host family × (told ≡ answer.told)
 
--- those of each family of the host that is tried
+-- the cached answers of each family of the host that is tried, valid in some second
+abbrev pub IsKeptOf : List ℕ → Option Family → KeptHost → Type 0
+IsKeptOf host only known = (now : ℕ) × IsOfHost only known now host
+
+-- their addresses
+abbrev pub ips_kept : KeptHost → List Ip
+ips_kept known = ips_in known.six ++ ips_in known.four
+
 abbrev pub AreKeptOf : List ℕ → Option Family → List Ip → Type 0
-AreKeptOf host only ips =
-    (known : KeptHost) × (now : ℕ) × IsOfHost only known now host × (ips ≡ ips_in known.six ++ ips_in known.four)
+AreKeptOf host only ips = (known : KeptHost) × IsKeptOf host only known × (ips ≡ ips_kept known)
 
 -- the look-up begins like the host's own, or answers with the host's cached addresses
 abbrev pub BeginsBy : {R : Type 0} → ConnectRequest → Source R → Type 0

@@ -1,15 +1,13 @@
 -- The answers that a race of the proxy gets for its host, and the events that its source waits for.
-use Rattle.std.specs.Prelude.{ℕ, ◌≡◌, ⊤, Bool, List, Option, Some, None, Ok, is_some, string_bytes}
-use Rattle.std.specs.Global.{Vec}
+use Rattle.std.specs.Prelude.{ℕ, ◌≡◌, ⊤, Bool, List, Option, Some, None, is_some, string_bytes}
 use Rattle.he_addr.specs.declared.ip.Family.{Family}
-use Rattle.he_addr.specs.declared.ip.Ip.{Ip}
 use Rattle.he_setup.specs.Answers.{IsToldOf}
 use Rattle.he_setup.specs.declared.source.HostAnswers.{HostAnswers}
 use Rattle.he_live.specs.declared.steps.Quiet.{Quiet}
 use Rattle.he_resolver.specs.Heard.{Told}
 use Rattle.he_turns.specs.Heard.{AnswerLists, Tells, ips_of}
 use Rattle.tokio.specs.Locks.{notified_source}
-use Rattle.he_source.specs.Kept.{AreKeptFor}
+use Rattle.he_source.specs.Kept.{IsKeptFor}
 use Rattle.he_source.specs.declared.lookups.HostLookup.{HostLookup}
 use Rattle.he_source.specs.declared.source.RaceSource.{RaceSource}
 use Rattle.he_source.specs.declared.source.Turn.{Turn}
@@ -31,11 +29,12 @@ IsToldWith bare told = ⊥
 abbrev pub IsToldHere : Bool → Told → AnswerLists → Type 0
 IsToldHere brings told answer = (bare : AnswerLists) × IsToldOf brings told bare × HasSameLines bare answer
 
--- no answer, or the cached addresses for this family of the host, as from the look-up
+-- no answer, or that of the cached addresses for this family of the host, or of why there are none, as from the
+-- look-up
 abbrev pub IsOfKept : Bool → List ℕ → Family → Option AnswerLists → Type 0
 IsOfKept brings host family None = ⊤
-IsOfKept brings host family (Some told) =
-    (ips : Vec Ip) × AreKeptFor host family ips.items × IsToldHere brings (Ok ips) told
+IsOfKept brings host family (Some answer) =
+    (told : Told) × IsKeptFor host family told × IsToldHere brings told answer
 
 -- the race does the look-up of its host itself
 abbrev pub Asks : Turn → Type 0

@@ -8,8 +8,9 @@ ghost use Rattle.he_turns.specs.Heard.{ips_of, lists_of};
 ghost use Rattle.he_source.specs.Answers.{After, AfterFour, AfterPrefixes, AfterSix, BeginsIn, IsSourceFor};
 ghost use Rattle.he_source.specs.Answers.{asked_in, is_host};
 
-use crate::lookups::{HostLookup, Sought, kept_ips, look_up};
+use crate::lookups::{HostLookup, Sought, kept_host, kept_ips, look_up};
 use crate::source::{Earlier, RaceSource, ips_of};
+use crate::system::RaceSystem;
 use futures::task::{Context, Poll};
 use he_addr::{Family, Ip};
 use he_loop::SharedLoop;
@@ -75,7 +76,7 @@ pub fn answers_of<'h, R>(
     why: &LookupFaults,
 ) -> Result<SessionAnswers<'h, R>, ConnectFault>
 where
-    R: Clock + RandomSource + AllocGlobal + Net + Files + Copy,
+    R: RaceSystem,
     ensures { KnowsHost setup.now → IfOk result (IsSourceFor setup.now) }
 {
     if setup.embeds {
@@ -93,14 +94,15 @@ fn answers_of_host<'h, R>(
     why: &LookupFaults,
 ) -> Result<SessionAnswers<'h, R>, ConnectFault>
 where
-    R: Clock + RandomSource + AllocGlobal + Net + Files + Copy,
+    R: RaceSystem,
     ensures { KnowsHost setup.now → IfOk result (λ answers. BeginsIn false setup.now.request answers.source
         answers.stage) }
 {
     let request = &setup.request;
-    let kept = kept_ips(shared, request, earlier.kept)?;
+    let kept = kept_host(shared, request, earlier.kept);
     earlier.count(kept.is_some(), Lookup::Kept);
-    let shown = kept.as_deref();
+    let ips = kept_ips(shared.alloc, &kept)?;
+    let shown = ips.as_deref();
     let own = setup.known.as_deref();
     let known = shown.or(own);
     let sought = Sought {
@@ -109,6 +111,7 @@ where
         known,
     };
     let lookup = look_up(shared, setup, sought, why)?;
+    lookup.note(&kept);
     let source = RaceSource::new(shared.rt, lookup, earlier, why, &setup.asked)?;
     Ok(SessionAnswers {
         source,
@@ -125,7 +128,7 @@ fn answers_by_family<'h, R>(
     why: &LookupFaults,
 ) -> Result<SessionAnswers<'h, R>, ConnectFault>
 where
-    R: Clock + RandomSource + AllocGlobal + Net + Files + Copy,
+    R: RaceSystem,
     ensures { KnowsHost setup.now → IfOk result (λ answers. BeginsIn true setup.now.request answers.source
         answers.stage) }
 {

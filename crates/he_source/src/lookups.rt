@@ -1,19 +1,18 @@
 //! The look-ups of a race, in the event loop.
-ghost use Rattle.std.specs.Prelude.{◌≡◌, IfOk, IfSome, string_bytes};
+ghost use Rattle.std.specs.Prelude.{◌≡◌, IfOk, IfSome, option_map, string_bytes};
 ghost use Rattle.he_setup.specs.Races.{only_of};
-ghost use Rattle.he_source.specs.Kept.{AreKeptOf, BeginsSought};
+ghost use Rattle.he_settings.specs.Known.{items_of};
+ghost use Rattle.he_source.specs.Kept.{BeginsSought, IsKeptOf, ips_kept};
 
+use crate::system::RaceSystem;
 use he_addr::{Family, Ip, Memory};
-use he_kept::KeptAnswers;
+use he_kept::{KeptAnswers, KeptHost};
 use he_live::Quiet;
 use he_loop::SharedLoop;
 use he_resolver::Lookup;
 use he_settings::Wanted;
 use he_setup::{ConnectFault, ConnectRequest, HostAnswers, LookupFaults, OwnMachine, Setup};
-use std::alloc::AllocGlobal;
-use std::net::Net;
-use std::random::RandomSource;
-use std::rt::Files;
+use std::alloc::Global;
 use std::time::Clock;
 
 /// A host whose addresses are sought: of the only family, if there is one.
@@ -35,6 +34,23 @@ pub struct HostLookup<'h, R> {
     pub answers: HostAnswers<'h, R, Quiet>,
 }
 
+impl<'h, R> HostLookup<'h, R>
+where
+    R: RaceSystem,
+{
+    // Notes why the cached answers have no address.
+    pub(crate) fn note(&self, kept: &Option<KeptHost>) {
+        let Some(kept) = kept else {
+            return;
+        };
+        for family in [Family::V6, Family::V4] {
+            if let Some(fault) = kept.fault(family) {
+                self.answers.note(family, fault);
+            }
+        }
+    }
+}
+
 // The look-up of a host in the race that is set up, and its answers.
 pub(crate) fn look_up<'h, R>(
     shared: SharedLoop<'h, R>,
@@ -43,7 +59,7 @@ pub(crate) fn look_up<'h, R>(
     why: &LookupFaults,
 ) -> Result<HostLookup<'h, R>, ConnectFault>
 where
-    R: Clock + RandomSource + AllocGlobal + Net + Files + Copy,
+    R: RaceSystem,
     ensures host { IfOk result (λ made. string_bytes made.host ≡ sought.entry.host.now) }
     ensures begins { IfOk result (λ made. BeginsSought setup.now.request sought.entry made.answers.lookup.source) }
 {
@@ -65,7 +81,7 @@ fn begin_lookup<'h, R>(
     sought: Sought<'_>,
 ) -> Result<Lookup<'h, R>, ConnectFault>
 where
-    R: Clock + RandomSource + AllocGlobal + Net + Files + Copy,
+    R: RaceSystem,
     ensures { IfOk result (λ lookup. BeginsSought request.now sought.entry lookup.source) }
 {
     let SharedLoop { rt, alloc, handle } = shared;
@@ -83,20 +99,24 @@ where
     Ok(Lookup::by_servers(rt, alloc, handle, wanted)?)
 }
 
-// The cached addresses of the host, if the answer of each family that is tried is cached.
-pub(crate) fn kept_ips<R: Clock>(
+// The cached answers of the host, if that of each family that is tried is cached.
+pub(crate) fn kept_host<R: Clock>(
     shared: SharedLoop<'_, R>,
     request: &ConnectRequest<'_>,
     kept: &KeptAnswers,
-) -> Result<Option<Vec<Ip>>, Memory>
-    ensures { IfOk result (λ found. IfSome found (λ ips. AreKeptOf request.now.host.now
-        (only_of request.now.families) ips.items)) }
+) -> Option<KeptHost>
+    ensures { IfSome result (IsKeptOf request.now.host.now (only_of request.now.families)) }
 {
-    let Some(now) = kept.second(shared.rt) else {
-        return Ok(None);
-    };
-    match kept.known(now, request.host, request.families.only()) {
-        Some(known) => Ok(Some(known.ips(shared.alloc)?)),
+    let now = kept.second(shared.rt)?;
+    kept.known(now, request.host, request.families.only())
+}
+
+// The addresses of cached answers.
+pub(crate) fn kept_ips(alloc: Global, kept: &Option<KeptHost>) -> Result<Option<Vec<Ip>>, Memory>
+    ensures { IfOk result (λ found. items_of found ≡ option_map ips_kept kept.now) }
+{
+    match kept {
+        Some(kept) => Ok(Some(kept.ips(alloc)?)),
         None => Ok(None),
     }
 }

@@ -1,11 +1,11 @@
 //! The source of a race's answers: its own look-up, or that of another race for this host.
-ghost use Rattle.std.specs.Prelude.{◌≡◌, ◌≤◌, ◌⊎◌, IfOk, IfSome, None, Some, is_some, map, string_bytes};
+ghost use Rattle.std.specs.Prelude.{◌≡◌, ◌⊎◌, IfOk, IfSome, None, Some, is_some, map, string_bytes};
 ghost use Rattle.futures.specs.Poll.{IfReady, OnPending};
 ghost use Rattle.futures.specs.Task.{Covers, Keeps};
 ghost use Rattle.he_addr.specs.declared.ip.Family.{Family};
 ghost use Rattle.he_turns.specs.Heard.{IsSilent, lists_of};
-ghost use Rattle.he_turns.specs.declared.limits.TheConstants.{MAX_POLL_TICK};
-ghost use Rattle.he_source.specs.Kept.{AreKeptFor};
+ghost use Rattle.he_kept.specs.Answers.{IsCopied};
+ghost use Rattle.he_source.specs.Kept.{IsKeptFor};
 ghost use Rattle.he_source.specs.Sources.{Asks, HasSameLines, HearsOwn, IsAsked, IsOfKept, IsToldHere, needs_by};
 
 use crate::lookups::HostLookup;
@@ -13,7 +13,7 @@ use futures::Future;
 use futures::task::{Context, Poll};
 use he_addr::{Family, Ip, Memory};
 use he_history::KnownAddresses;
-use he_kept::{Asking, KeptAnswer, KeptAnswers, Lifetime, Question};
+use he_kept::{Asking, KeptAnswer, KeptAnswers, Lifetime, Question, copy_of};
 use he_kernel::asked::AskedWays;
 use he_live::Quiet;
 use he_loop::Prefixes;
@@ -194,7 +194,6 @@ where
 
     // The look-up's answer, which is cached.
     fn poll_own(&mut self, family: Family, now: u64, cx: &mut Context<'_>) -> Poll<Answer>
-        requires in_time { now ≤ MAX_POLL_TICK }
         ensures pending { OnPending result (HearsOwn ⟦<HostAnswers<'h, R, Quiet> as AnswerSource>⟧.hears self.old
             family now None self.new) }
         ensures ready { IfReady result (λ answer. HearsOwn ⟦<HostAnswers<'h, R, Quiet> as AnswerSource>⟧.hears
@@ -208,12 +207,12 @@ where
         ensures kept { Keeps cx.old cx.new }
         ensures asks { Asks self.old.turn → Asks self.new.turn }
     {
-        match self.answers.poll_answer(family, now, cx) {
+        match self.answers.poll_told(family, now, cx) {
             Poll::Pending => Poll::Pending,
-            Poll::Ready(answer) => {
-                self.keep(family, &answer);
+            Poll::Ready(told) => {
+                self.keep(family, &told);
                 self.answered(family);
-                Poll::Ready(self.with_known(answer))
+                Poll::Ready(self.answer_of(family, told))
             }
         }
     }
@@ -229,8 +228,8 @@ where
     {
         let kept = self.earlier.kept;
         let mut answered = kept.answered.notified();
-        if let Some(ips) = self.kept_of(family) {
-            return Poll::Ready(self.answer_of(family, Ok(ips)));
+        if let Some(told) = self.kept_of(family) {
+            return Poll::Ready(self.answer_of(family, told));
         }
         if kept.asked(self.host.as_str(), family).is_some() {
             match answered.poll(cx) {
@@ -245,13 +244,13 @@ where
         cx.yield_now()
     }
 
-    // The cached addresses of the host's family, of which there may be none.
-    fn kept_of(&self, family: Family) -> Option<Vec<Ip>>
-        ensures { IfSome result (λ ips. AreKeptFor (string_bytes self.now.host) family ips.items) }
+    // The cached addresses of the host's family, or why there are none.
+    fn kept_of(&self, family: Family) -> Option<Result<Vec<Ip>, NamesFault>>
+        ensures { IfSome result (IsKeptFor (string_bytes self.now.host) family) }
     {
         let kept = self.earlier.kept;
         let now = kept.second(self.rt)?;
-        Some(kept.known_of(now, self.host.as_str(), family)?.into_ips())
+        Some(kept.known_of(now, self.host.as_str(), family)?.into_told())
     }
 
     // Others need not wait for the family any more.
@@ -264,32 +263,39 @@ where
         }
     }
 
-    // Caches a name server's answer for the family: its addresses, or that there are none, unless that is cached.
-    fn keep(&self, family: Family, answer: &Answer) {
+    // Caches a name server's answer for the family: its addresses; or why there are none, unless that is cached.
+    fn keep(&self, family: Family, told: &Result<Vec<Ip>, NamesFault>) {
         let ttl = self.answers.ttl(family);
-        let fault = self.why.families().of(family);
-        let is_new = fault.is_some_and(is_said) && self.kept_of(family).is_none();
-        if ttl.is_none() && !is_new {
+        let is_new = match told {
+            Ok(_) => ttl.is_some(),
+            Err(fault) => fault.is_absence() && self.kept_of(family).is_none(),
+        };
+        if !is_new {
             return;
         }
         let kept = self.earlier.kept;
         if let Some(at) = kept.second(self.rt)
-            && let Ok(answer) = self.to_keep(family, answer, Lifetime { at, ttl })
+            && let Ok(answer) = self.to_keep(family, told, Lifetime { at, ttl })
         {
             kept.keep(answer);
         }
     }
 
-    // The cache entry for an answer: its host has these addresses of the family.
-    fn to_keep(&self, family: Family, answer: &Answer, life: Lifetime) -> Result<KeptAnswer, Memory>
+    // The cache entry for a look-up's answer: its host has these addresses of the family, or none for this reason.
+    fn to_keep(
+        &self,
+        family: Family,
+        told: &Result<Vec<Ip>, NamesFault>,
+        life: Lifetime,
+    ) -> Result<KeptAnswer, Memory>
         ensures host { IfOk result (λ kept. string_bytes kept.question.host ≡ string_bytes self.now.host) }
         ensures family { IfOk result (λ kept. kept.question.family ≡ family) }
-        ensures ips { IfOk result (λ kept. kept.ips.items ≡ map (λ known. known.ip) answer.now.known.items) }
+        ensures told { IfOk result (λ kept. IsCopied told.now kept.told) }
         ensures life { IfOk result (λ kept. kept.life ≡ life) }
     {
         Ok(KeptAnswer {
             question: Question::of(self.alloc, self.host.as_str(), family)?,
-            ips: ips_of(self.alloc, &answer.known)?,
+            told: copy_of(self.alloc, told)?,
             life,
         })
     }
@@ -327,11 +333,6 @@ fn turn_for<'h>(kept: &'h KeptAnswers, host: &str, only: Option<Family>) -> Turn
             None
         },
     })
-}
-
-// Whether it is a name server's answer: no such name, or no address.
-fn is_said(fault: NamesFault) -> bool {
-    matches!(fault, NamesFault::NoAddress | NamesFault::NoSuchName)
 }
 
 pub(crate) fn ips_of(alloc: Global, known: &[Known]) -> Result<Vec<Ip>, Memory>

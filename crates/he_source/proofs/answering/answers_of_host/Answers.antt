@@ -3,7 +3,7 @@ use Rattle.std.specs.Prelude.{option_map}
 use Rattle.he_settings.specs.Known.{FindsKnown}
 use Rattle.he_setup.specs.Races.{only_of}
 use Rattle.he_source.specs.Kept.{BeginsBy, BeginsKnown}
-use Rattle.he_source.proofs.Asked.{begins_kept, source_for}
+use Rattle.he_source.proofs.Asked.{are_kept, begins_kept, source_for}
 use Rattle.he_source.proofs.answering.answers_of_host.Goals as goal
 
 pub returns : goal.returns
@@ -17,5 +17,6 @@ returns g c = λ knows.
     let begins = subst (λ known. BeginsKnown request host (only_of request.families) (option_map (λ known. known.now) known) made.answers.lookup.source)
     c.or-known.ensures asks in
     source_for request (λ source. BeginsBy request source) host made c.in_ok-source.source c.in_ok-source.ensures c.in_ok-lookup.ensures.host
-    (begins_kept request c.in_ok-kept.kept c.as_deref-shown.result c.as_deref-own.result made.answers.lookup.source
-    c.as_deref-shown.ensures.value c.in_ok-kept.ensures finds begins)
+    (begins_kept request c.in_ok-ips.ips c.as_deref-shown.result c.as_deref-own.result made.answers.lookup.source
+    c.as_deref-shown.ensures.value
+    (are_kept request c.kept_host-kept.result c.in_ok-ips.ips c.kept_host-kept.ensures c.in_ok-ips.ensures) finds begins)
