@@ -69,22 +69,25 @@ unfoldable pub section_facts : {A : Type 0} → List RecordSaid → Course A →
 section_facts said course = flat_map (page_row_facts (end_of course)) (rows_of said course)
 
 -- a race's part of a page: its links, the heading of its story, its rows, and its story; nothing of the heading and
--- the story is read as a tag
-pub record IsSection {A : Type 0} (said : List RecordSaid) (course : Course A) (file : ℕ) (text : List ℕ) : Type 0 where
+-- the story is read as a tag. The heading has the name of the race's text, if it has one
+pub record IsSection {A : Type 0} (said : List RecordSaid) (course : Course A) (file : ℕ) (name : Option (List ℕ))
+    (text : List ℕ) : Type 0 where
   pub links : List ℕ
   pub heading : List ℕ
   pub rows : List ℕ
   pub story : List ℕ
   pub last : List ℕ
   pub opened : States (opening_facts course file) links
-  pub headed : States (race_facts said None course) heading
+  pub headed : States (race_facts said name course) heading
   pub drawn : States (section_facts said course) rows
   pub told : Tells said None course [] story
   pub parts : text ≡ links ++ (flat_map escaped heading ++ (rows ++ (flat_map escaped story ++ last)))
 
 -- it has been appended
-abbrev pub WritesSection : {A : Type 0} → List RecordSaid → Course A → ℕ → List ℕ → List ℕ → Type 0
-WritesSection said course file old new = (text : List ℕ) × IsSection said course file text × (new ≡ old ++ text)
+abbrev pub WritesSection : {A : Type 0} → List RecordSaid → Course A → ℕ → Option (List ℕ) → List ℕ → List ℕ
+    → Type 0
+WritesSection said course file name old new =
+    (text : List ℕ) × IsSection said course file name text × (new ≡ old ++ text)
 
 -- a text's name is a heading above its races; nothing of it is read as a tag
 abbrev pub name_text : List ℕ → List ℕ

@@ -11,9 +11,9 @@ use he_print::write_parts;
 use std::alloc::Allocator;
 
 // The beginning of a page, up to its first text. Totals are known last but shown first, and races are written as they
-// come but shown by their end: `order` sorts them. Bars are as long as their ticks, on one scale for all races, by
-// whose end 99 of 100 have ended, or on their race's own. A bar that goes on after the end of its scale is cut there,
-// and ends in dots.
+// come but shown by their end: `order` sorts those of all texts, and only in the order read each text has a box of its
+// own. Bars are as long as their ticks, on one scale for all races, by whose end 99 of 100 have ended, or on their
+// race's own. A bar that goes on after the end of its scale is cut there, and ends in dots.
 const HEAD: &[u8] = b"<!DOCTYPE html>\n<html lang='en'>\n<head>\n<meta charset='utf-8'>\n\
 <meta name='viewport' content='width=device-width,initial-scale=1'>\n<title>Races</title>\n<style>\n\
 :root{color-scheme:light dark;--bg:#fff;--fg:#222;--dim:#666;--line:#ddd;--won:#171;--failed:#b22;--stopped:#767676;\
@@ -26,8 +26,11 @@ header{order:-1}h1{margin:0}header p{display:flex;flex-wrap:wrap;gap:.5rem 1.5re
 header b{display:block;color:var(--fg);font-size:1.6rem}\n\
 nav{display:flex;flex-wrap:wrap;gap:.3rem 1.2rem;margin-bottom:1rem;color:var(--dim);font-size:.85rem}\n\
 nav i{display:inline-block;width:1.2rem;height:.7rem;border-radius:2px}nav .dot{width:6px}\n\
-article{display:flex;flex-flow:row wrap;gap:0 .8rem}h2{flex:0 0 100%;order:-9999999;margin:.6rem 0}\n\
-article>a{display:none;order:-9999998;color:inherit}body:has(#index:checked) article>a{display:block}\n\
+main,article{display:flex;flex-flow:row wrap;gap:0 .8rem}article{flex:0 0 100%}\n\
+body:not(:has(#turn:checked)) article{display:contents}\n\
+h2,article>a{order:-9999999}h2{margin:.6rem 0;font-size:1.1rem}article>a{color:inherit;padding:.6rem 0}\n\
+body:has(#turn:checked) h2{flex:0 0 100%}body:not(:has(#turn:checked,#index:checked)) h2,\
+body:not(:has(#index:checked)) article>a{display:none}\n\
 section{flex:0 0 100%;min-width:0;order:calc(0 - var(--t));--e:max(1,var(--end,1));padding:.6rem 0;\
 border-top:1px solid var(--line);content-visibility:auto;contain-intrinsic-size:auto 10rem}\n\
 body:has(#bad:checked) .connected,body:has(#slow:checked) .unlost{display:none}\n\

@@ -3,7 +3,7 @@
 ghost use Rattle.std.specs.Prelude.{◌≡◌, ◌++◌, [], None, IfOk, OnOk};
 ghost use Rattle.std.specs.List.{flat_map};
 ghost use Rattle.he_print.specs.Parts.{States, fact_of};
-ghost use Rattle.he_story.specs.Story.{Tells, race_facts};
+ghost use Rattle.he_story.specs.Story.{Tells, name_of, race_facts};
 ghost use Rattle.he_draw.specs.Picture.{Prints, told};
 ghost use Rattle.he_draw.specs.Page.{WritesSection, anchor_facts, index_facts, opening_facts, page_row_facts, section_facts, track_facts};
 
@@ -20,18 +20,21 @@ use std::alloc::Allocator;
 
 /// Appends the race to a page: the heading of its story, its rows, with bars on one scale or on its own, and its
 /// story, folded. `file` is the place of its text among those of the page, counted from 0: the race's anchor is
-/// `race-7`, or, from the second text on, `race-7-of-2`. After `Memory` the vector holds a first part of it too.
+/// `race-7`, or, from the second text on, `race-7-of-2`. The heading has the name of the text, if it has one. After
+/// `Memory` the vector holds a first part of it too.
 pub fn write_section<A: Allocator + Copy, B: Allocator, C: Allocator>(
     course: &Course<B>,
     recorded: &Record<'_, C>,
     file: usize,
+    name: Option<&str>,
     text: &mut Vec<u8, A>,
 ) -> Result<(), Memory>
-    ensures { OnOk result (WritesSection recorded.now course.now file text.old.items text.new.items) }
+    ensures { OnOk result (WritesSection recorded.now course.now file (name_of name.entry) text.old.items
+        text.new.items) }
 {
     let alloc = *text.allocator();
     write_links(alloc, course, file, text)?;
-    let heading = heading(alloc, course, recorded)?;
+    let heading = heading(alloc, name, course, recorded)?;
     write_escaped(&heading, text)?;
     write_rows(alloc, course, recorded, text)?;
     let story = story(alloc, course, recorded)?;
@@ -42,12 +45,14 @@ pub fn write_section<A: Allocator + Copy, B: Allocator, C: Allocator>(
 
 fn heading<A: Allocator + Copy, B: Allocator, C: Allocator>(
     alloc: A,
+    name: Option<&str>,
     course: &Course<B>,
     recorded: &Record<'_, C>,
 ) -> Result<Vec<u8, A>, Memory>
-    ensures { IfOk result (λ heading. States (race_facts recorded.now None course.now) heading.items) }
+    ensures { IfOk result (λ heading. States (race_facts recorded.now (name_of name.entry) course.now)
+        heading.items) }
 {
-    let parts = heading_parts(alloc, None, course, recorded)?;
+    let parts = heading_parts(alloc, name, course, recorded)?;
     let mut heading = Vec::new(alloc);
     write_parts(&parts, &mut heading)?;
     Ok(heading)

@@ -67,7 +67,7 @@ fn svg<A: Allocator + Copy, B: Allocator, C: Allocator>(
     Ok(text)
 }
 
-const OPENING: &[u8] = b"<svg xmlns='http://www.w3.org/2000/svg' viewBox='-8 0 1056 ";
+const OPENING: &[u8] = b"<svg xmlns='http://www.w3.org/2000/svg' role='img' viewBox='-8 0 1056 ";
 
 const TITLE: &[u8] = b"' font-family='monospace' font-size='12'>\n<title>";
 

@@ -58,14 +58,19 @@ impl Recent {
     }
 }
 
+// The races are shown in the order written, each with its name above it, and the browser reloads the page.
+const NEWEST_FIRST: &[u8] =
+    b"<style>article{display:flex!important}h2{display:block!important;flex:0 0 100%}</style>\
+<meta http-equiv='refresh' content='5'>\n";
+
 fn write_races(alloc: Global, races: &[Shown], out: &mut Vec<u8>) -> Result<(), Memory> {
     let mut counts = Counts::new(alloc);
     write_head(out)?;
-    out.extend_from_slice(b"<meta http-equiv='refresh' content='5'>\n")?;
+    out.extend_from_slice(NEWEST_FIRST)?;
     for (place, race) in races.iter().rev().enumerate() {
         let course = Course::of(alloc, &race.recorded, place.saturating_add(1), 1)?;
         write_name(race.name.as_str(), out)?;
-        write_section(&course, &record_of(alloc, race)?, 0, out)?;
+        write_section(&course, &record_of(alloc, race)?, 0, None, out)?;
         counts.add(&course)?;
     }
     write_tail(counts.totals()?, out)

@@ -50,7 +50,7 @@ IsPrinted printers.Json file said course text =
 IsPrinted (printers.Picture look width) file said course text =
     (columns : ℕ) × (LEAST_COLUMNS ≤ columns) × States (picture_facts columns said file course) text
 IsPrinted printers.Image file said course text = States (svg_facts said course) text
-IsPrinted (printers.Section place) file said course text = IsSection said course place text
+IsPrinted (printers.Section place) file said course text = IsSection said course place file text
 
 -- the text of the printer for the race's record and course
 abbrev pub IsOfCourse : Printer → Spot → List ℕ → List Said → Race → Type 0

@@ -263,7 +263,9 @@ impl Printer {
                 write_picture(file, course, recorded, screen, text)
             }
             Printer::Image => write_svg(course, recorded, text),
-            Printer::Section { text: place } => write_section(course, recorded, place, text),
+            Printer::Section { text: place } => {
+                write_section(course, recorded, place, file, text)
+            }
         }
     }
 }
