@@ -198,26 +198,26 @@ IsKeptBy fault = IsKept (Err fault)
 abbrev pub IsLost : Result (Unit {0}) StreamFault → Type 0
 IsLost result = IsKept result → ⊥
 
-module _ {I O : Type 0} (input : inputs.Ghosts I) (output : outputs.Ghosts O) (changes : ChangeValues) (first last : I) (before after : O) (place : ℕ) (sums : Option Sums) (old new : Sums) (some : sums ≡ Some old)
+module _ {I O : Type 0} (input : inputs.Ghosts I) (output : outputs.Ghosts O) (changes : ChangeValues) (name : Option (List ℕ)) (first last : I) (before after : O) (place : ℕ) (sums : Option Sums) (old new : Sums) (some : sums ≡ Some old)
   where
     abbrev Puts : Result (Unit {0}) StreamFault → Type 0
-    Puts = PutsParts input output place (IsPart place changes) first last before after old new
+    Puts = PutsParts input output place (IsPart place changes name) first last before after old new
 
     -- there were sums
-    there_were : (later : Option Sums) (result : Result (Unit {0}) StreamFault) → PutsSections input output changes first last (before, Some old) (after, later) result
-        → PutsSections input output changes first last (before, sums) (after, later) result
+    there_were : (later : Option Sums) (result : Result (Unit {0}) StreamFault) → PutsSections input output changes name first last (before, Some old) (after, later) result
+        → PutsSections input output changes name first last (before, sums) (after, later) result
     there_were later result puts =
-        let Here : Option Sums → Type 0 = λ s. PutsSections input output changes first last (before, s) (after, later) result in
+        let Here : Option Sums → Type 0 = λ s. PutsSections input output changes name first last (before, s) (after, later) result in
         subst Here (sym some) puts
 
-    pub sections_kept : (result : Result (Unit {0}) StreamFault) → Puts result → IsKept result → PutsSections input output changes first last (before, sums) (after, Some new) result
+    pub sections_kept : (result : Result (Unit {0}) StreamFault) → Puts result → IsKept result → PutsSections input output changes name first last (before, sums) (after, Some new) result
     sections_kept (Ok done) puts kept = there_were (Some new) (Ok done) (place, puts)
     sections_kept (Err (streams.Text fault)) puts kept = there_were (Some new) (Err (streams.Text fault)) (place, puts)
     sections_kept (Err streams.Read) puts kept = there_were (Some new) (Err streams.Read) (place, puts)
     sections_kept (Err streams.Write) puts kept = absurd kept
     sections_kept (Err streams.Memory) puts kept = absurd kept
 
-    lost_by : (result : Result (Unit {0}) StreamFault) → Puts result → IsLost result → PutsSections input output changes first last (before, sums) (after, None) result
+    lost_by : (result : Result (Unit {0}) StreamFault) → Puts result → IsLost result → PutsSections input output changes name first last (before, sums) (after, None) result
     lost_by (Ok done) puts lost = absurd (lost tt)
     lost_by (Err (streams.Text fault)) puts lost = absurd (lost tt)
     lost_by (Err streams.Read) puts lost = absurd (lost tt)
@@ -225,7 +225,7 @@ module _ {I O : Type 0} (input : inputs.Ghosts I) (output : outputs.Ghosts O) (c
     lost_by (Err streams.Memory) puts lost = there_were None (Err streams.Memory) (place, (new, puts))
 
     pub sections_lost : (later : Option Sums) → later ≡ None → (result : Result (Unit {0}) StreamFault) → Puts result → IsLost result
-        → PutsSections input output changes first last (before, sums) (after, later) result
+        → PutsSections input output changes name first last (before, sums) (after, later) result
     sections_lost later none result puts lost =
-        let Here : Option Sums → Type 0 = λ s. PutsSections input output changes first last (before, sums) (after, s) result in
+        let Here : Option Sums → Type 0 = λ s. PutsSections input output changes name first last (before, sums) (after, s) result in
         subst Here (sym none) (lost_by result puts lost)

@@ -75,9 +75,9 @@ PutsParts input output file IsText first last before after =
     PutsRaces file IsText (Gave input first last) (GaveSoFar input first last) (TookRounds output before after)
     (TookRoundsPart output before after)
 
--- a race's part of a page, for the text of this place
-abbrev pub IsPart : ℕ → ChangeValues → TextRelation
-IsPart place changes = IsTextWith (contents.Course (printers.Section place)) changes None
+-- a race's part of a page, for the text of this place and this name, if it has one
+abbrev pub IsPart : ℕ → ChangeValues → Option (List ℕ) → TextRelation
+IsPart place changes name = IsTextWith (contents.Course (printers.Section place)) changes name
 
 -- there are sums of the races, unless the output failed or memory was refused: then there are none from then on
 abbrev pub KeepsSums : (Sums → Type 0) → Option Sums → Result (Unit {0}) StreamFault → Type 0
@@ -90,13 +90,14 @@ KeepsSums Put (Some new) result = Put new
 
 -- the parts of the races of a text were put, and the races added; or there were no sums any more, and nothing was
 -- done
-abbrev pub PutsSections : {I O : Type 0} → inputs.Ghosts I → outputs.Ghosts O → ChangeValues → I → I → O × Option Sums
-    → O × Option Sums → Result (Unit {0}) StreamFault → Type 0
-PutsSections input output changes first last (before, None) after result =
+abbrev pub PutsSections : {I O : Type 0} → inputs.Ghosts I → outputs.Ghosts O → ChangeValues → Option (List ℕ) → I → I
+    → O × Option Sums → O × Option Sums → Result (Unit {0}) StreamFault → Type 0
+PutsSections input output changes name first last (before, None) after result =
     (after ≡ (before, None)) × (last ≡ first) × (result ≡ Err Memory)
-PutsSections input output changes first last (before, Some old) after result =
+PutsSections input output changes name first last (before, Some old) after result =
     (place : ℕ)
-    × KeepsSums (λ new. PutsParts input output place (IsPart place changes) first last before after.0 old new result)
+    × KeepsSums
+    (λ new. PutsParts input output place (IsPart place changes name) first last before after.0 old new result)
     after.1 result
 
 -- Mirrors the code: the races that a stream gave are added, and of their text all but the end is put

@@ -55,10 +55,11 @@ file_of name = option_map (λ n. n.path) name
 abbrev pub shown_of : Option Naming → Option (List ℕ)
 shown_of name = option_map (λ n. n.shown) name
 
--- the name in content of this kind: as it is shown in stories and pictures, as it is in JSON
+-- the name in content of this kind: as it is shown in stories, pictures and pages, as it is in JSON
 abbrev pub named_for : Asked → Option Naming → Option (List ℕ)
 named_for asked.Story name = shown_of name
 named_for (asked.Picture ascii width) name = shown_of name
+named_for asked.Section name = shown_of name
 named_for _ name = file_of name
 
 -- a text was checked, and the numbers of its races and lines were written, or the findings as JSON
@@ -77,7 +78,8 @@ ChecksText true input output is_all file first last before after =
 abbrev pub RunsTask : {I O : Type 0} → inputs.Ghosts I → outputs.Ghosts O → Task → ChangeValues → Option Naming → I
     → I → O × Option Sums → O × Option Sums → Result (Unit {0}) StreamFault → Type 0
 RunsTask input output (Write content workers) changes name first last before after =
-    λ result. ((is_section content ≡ true) × PutsSections input output changes first last before after result)
+    λ result. ((is_section content ≡ true)
+    × PutsSections input output changes (named_for content name) first last before after result)
     ⊎ ((is_section content ≡ false) × (place : ℕ) × Replays (content_of place content) changes (named_for content name) (Gave input first last)
     (GaveSoFar input first last) (TookToTheEnd output before.0 after.0) (TookRoundsPart output before.0 after.0)
     (TookRounds output before.0 after.0) result)

@@ -14,6 +14,9 @@ use std::io;
 // The names of timelines in a directory end so.
 const ENDING: &str = ".timeline";
 
+// In place of a name that is not UTF-8.
+const NOT_UTF8: &str = "(a name that is not UTF-8)";
+
 // Directories are read in directories down to this depth.
 const MOST_DEPTH: usize = 8;
 
@@ -95,11 +98,17 @@ fn add(alloc: Global, path: &str, files: &mut Vec<String>) -> Result<(), Memory>
     Ok(())
 }
 
-// The paths of a directory's entries.
+// The paths of a directory's entries. One whose name is not UTF-8 can't be opened: its reader reports that.
 fn entries_of<R: TaskSystem>(rt: &R, alloc: Global, path: &str) -> io::Result<Vec<String>> {
     let mut paths = Vec::new(alloc);
     for entry in read_dir(rt, path)? {
-        paths.push(String::from_str(alloc, entry?.path().as_str())?)?;
+        paths.push(match entry {
+            Ok(entry) => String::from_str(alloc, entry.path().as_str())?,
+            Err(error) if error.kind() == io::ErrorKind::InvalidFilename => {
+                format!(in alloc; "{path}/{NOT_UTF8}{ENDING}")?
+            }
+            Err(error) => return Err(error),
+        })?;
     }
     Ok(paths)
 }

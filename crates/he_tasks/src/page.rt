@@ -1,5 +1,6 @@
 //! A page: its head, the parts of its texts, and the totals that end it.
 ghost use Rattle.std.specs.Prelude.{ℕ, ◌≡◌, ◌⊎◌, map, IfOk, List, OnErr, OnOk};
+ghost use Rattle.he_json.specs.Documents.{name_of};
 ghost use Rattle.he_streaming.specs.Rounds.{IsAsked};
 ghost use Rattle.he_tasks.specs.Pages.{ArePageTotals, IsTail, PutsParts, PutsSections, PutsTail, end_of, p99_of, page_times};
 ghost use Rattle.he_tasks.specs.Streams.{TookAll, TookPart};
@@ -37,16 +38,17 @@ pub(crate) fn put_head<O: OutputStream>(alloc: Global, output: &mut O) -> Result
     put_text(&head, output)
 }
 
-// Puts the parts of a page for the races of a text, and adds these races to those whose totals end the page. After a
+// Puts the parts of a page for the races of the text of this name, and adds these races to those whose totals end the page. After a
 // fault of the output, or without memory for a race, there are no sums, and so no totals.
 pub(crate) fn put_sections<R, I: InputStream, O: OutputStream, F>(
     session: &mut Session<'_, '_, R, O, F>,
     changes: Changes,
+    name: Option<&str>,
     input: &mut I,
     sums: &mut Option<Races<Global>>,
 ) -> Result<(), StreamFault>
-    ensures { PutsSections I.InputStream O.OutputStream changes input.old input.new (session.old.output, sums.old)
-        (session.new.output, sums.new) result }
+    ensures { PutsSections I.InputStream O.OutputStream changes (name_of name.entry) input.old input.new
+        (session.old.output, sums.old) (session.new.output, sums.new) result }
 {
     let Some(mut races) = sums.take() else {
         return Err(StreamFault::Memory);
@@ -55,7 +57,7 @@ pub(crate) fn put_sections<R, I: InputStream, O: OutputStream, F>(
     let asked = TextRequest {
         content: Content::Course(Printer::Section { text: place }),
         changes,
-        file: None,
+        file: name,
     };
     let end = put_parts(session, place, &asked, input, &mut races);
     match end {

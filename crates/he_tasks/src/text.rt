@@ -136,7 +136,8 @@ fn run_task<R: TaskSystem, I: InputStream, O: OutputStream, F>(
     let alloc = session.alloc;
     match text.texts.task {
         Task::Write { content, .. } if is_section(content) => {
-            put_sections(session, text.texts.changes, input, sums)
+            let name = named_for(content, text.name);
+            put_sections(session, text.texts.changes, name, input, sums)
         }
         Task::Write { content, workers } => {
             let asked = TextRequest {
@@ -170,12 +171,12 @@ fn is_section(content: Content) -> bool
     matches!(content, Content::Section)
 }
 
-// The name of the file for content of this kind: as it is shown in stories and pictures, as it is in JSON.
+// The name of the file for content of this kind: as it is shown in stories, pictures and pages, as it is in JSON.
 fn named_for<'n>(content: Content, name: Option<Name<'n>>) -> Option<&'n str>
     ensures { name_of result ≡ named_for content (naming name.entry) }
 {
     match content {
-        Content::Story | Content::Picture { .. } => shown_of(name),
+        Content::Story | Content::Picture { .. } | Content::Section => shown_of(name),
         _ => file_of(name),
     }
 }
