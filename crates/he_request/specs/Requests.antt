@@ -1,5 +1,5 @@
 -- What a line asks for, by what clap found of its words.
-use Rattle.std.specs.Prelude.{◌≡◌, ℕ, Bool, true, false, List, [], Option, Some, None, Result, codes, if◌then◌else◌, is_some, map, max, min, option_map, string_bytes}
+use Rattle.std.specs.Prelude.{◌≡◌, ℕ, Bool, true, false, List, [], Option, Some, None, Result, codes, if◌then◌else◌, is_some, map, max, min, option_map, string_bytes, ◌||◌}
 use Rattle.std.specs.Option.{unwrap_or}
 use Rattle.std.specs.Str.{bytes_eq}
 use Rattle.clap.specs.Matches.{first_value}
@@ -17,6 +17,7 @@ use Rattle.he_options.specs.Families.{AsksFamily}
 use Rattle.he_request.specs.Probes.{IsProbe}
 use Rattle.he_request.specs.declared.request.Request.{Request}
 use Rattle.he_request.specs.declared.request.Request.TheVariants as requests
+use Rattle.he_request.specs.declared.terminal.Terminal.{Terminal}
 use Rattle.he_options.specs.declared.texts.By.{By}
 use Rattle.he_options.specs.declared.texts.By.TheVariants as by
 use Rattle.he_options.specs.declared.texts.Content.{Content}
@@ -89,21 +90,22 @@ abbrev pub page_of : Option (List ℕ) → Option (List ℕ)
 page_of None = None
 page_of (Some path) = if bytes_eq path (codes "-") then None else Some path
 
--- what is drawn of each race, on a terminal of so many columns: a part of a page, or what the flags say
-abbrev pub drawn : Bool → Bool → Bool → Option ℕ → ℕ → Content
-drawn true svg ascii width columns = contents.Section
-drawn false true ascii width columns = contents.Image
-drawn false false ascii width columns = contents.Picture ascii (unwrap_or width columns)
+-- what is drawn of each race for a terminal: a part of a page, or what the flags say
+abbrev pub drawn : Bool → Bool → Bool → Option ℕ → Terminal → Content
+drawn true svg ascii width terminal = contents.Section
+drawn false true ascii width terminal = contents.Image
+drawn false false ascii width terminal =
+    contents.Picture (ascii || terminal.is_ascii) (unwrap_or width terminal.columns)
 
-abbrev pub IsDrawn : {E : Type 0} → (List ℕ → Result ℕ E → Type 0) → Found → Bool → ℕ → Content → Type 0
-IsDrawn gives found is_page columns content =
+abbrev pub IsDrawn : {E : Type 0} → (List ℕ → Result ℕ E → Type 0) → Found → Bool → Terminal → Content → Type 0
+IsDrawn gives found is_page terminal content =
     (svg ascii : Bool) × (width : Option ℕ) × HasFlag found (codes "svg") svg × HasFlag found (codes "ascii") ascii
-    × HasNumber gives found (codes "width") width × (content ≡ drawn is_page svg ascii width columns)
+    × HasNumber gives found (codes "width") width × (content ≡ drawn is_page svg ascii width terminal)
 
 -- that is drawn of the texts; a page goes to the file that --html names, or to the output by `-`
-abbrev pub AsksDrawing : {D : Type 0} → (List ℕ → Result ℕ D → Type 0) → Found → ℕ → Texts → Type 0
-AsksDrawing gives found columns texts =
-    (content : Content) × IsDrawn gives found (is_some (first_value found (codes "html"))) columns content
+abbrev pub AsksDrawing : {D : Type 0} → (List ℕ → Result ℕ D → Type 0) → Found → Terminal → Texts → Type 0
+AsksDrawing gives found terminal texts =
+    (content : Content) × IsDrawn gives found (is_some (first_value found (codes "html"))) terminal content
     × AsksTexts found (Write content 1) (page_of (first_value found (codes "html"))) texts
 
 -- the file, the port and the settings of the line

@@ -30,8 +30,8 @@ const EXAMPLE: &str = "\
 Reads timelines, as `he replay` does. Standard output has one table of the races
 of all files: a row for the recorded settings, and one for each setting given.
 It has the times to connect (the median, and the 90th and the 99th
-percentile); the mean number of attempts; the share of won races that IPv6 won;
-and how many races were won sooner, later, at the same time, only with these
+percentile); the mean number of attempts; the share of connections by IPv6; and
+how many races connected sooner, later, at the same time, only with these
 settings, only without them, and of how many this is unknown, since they try an
 address of a line `record untried`. Nothing is written before the end of the
 last file. In a file with a fault the races before it are compared.

@@ -4,6 +4,7 @@ ghost use Rattle.clap.specs.Matches.{found_of};
 ghost use Rattle.he_request.specs.Requests.{AsksDrawing, IsDrawn, page_of};
 ghost use Rattle.he_options.specs.Texts.{IsTexts};
 
+use crate::terminal::Terminal;
 use clap::{Arg, ArgMatches, Command, value_parser};
 use he_addr::Memory;
 use he_options::arguments::{
@@ -81,24 +82,24 @@ fn alone_of(option: Arg<'_>) -> Result<Arg<'_>, Memory> {
     option.conflicts_with("ascii")?.conflicts_with("width")
 }
 
-// The task that the line asks for, at this width of a terminal.
+// The task that the line asks for, for this terminal.
 pub(crate) fn drawing_of<'a>(
     alloc: Global,
-    columns: u16,
+    terminal: Terminal,
     matches: &ArgMatches<'a>,
 ) -> Result<Texts<'a>, Refusal>
     ensures is { IfOk result IsTexts }
     ensures asks { IfOk result (AsksDrawing ⟦<u16 as FromStr>⟧.from_str_gives
-        (found_of matches.now) columns) }
+        (found_of matches.now) terminal) }
 {
     let html = matches.get_str("html");
     let page = page_of(html)?;
-    let task = alone(content_of(columns, html.is_some(), matches));
+    let task = alone(content_of(terminal, html.is_some(), matches));
     texts_of(alloc, task, page, matches)
 }
 
-fn content_of(columns: u16, is_page: bool, matches: &ArgMatches<'_>) -> Content
-    ensures { IsDrawn ⟦<u16 as FromStr>⟧.from_str_gives (found_of matches.now) is_page columns result }
+fn content_of(terminal: Terminal, is_page: bool, matches: &ArgMatches<'_>) -> Content
+    ensures { IsDrawn ⟦<u16 as FromStr>⟧.from_str_gives (found_of matches.now) is_page terminal result }
 {
     let (svg, is_ascii) = (flag_of(matches, "svg"), flag_of(matches, "ascii"));
     let width = number_of(matches, "width");
@@ -108,8 +109,8 @@ fn content_of(columns: u16, is_page: bool, matches: &ArgMatches<'_>) -> Content
         Content::Image
     } else {
         Content::Picture {
-            is_ascii,
-            width: width.unwrap_or(columns),
+            is_ascii: is_ascii || terminal.is_ascii,
+            width: width.unwrap_or(terminal.columns),
         }
     }
 }

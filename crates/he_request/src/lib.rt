@@ -31,6 +31,7 @@ pub mod probe;
 mod replay;
 pub mod request;
 mod summary;
+pub mod terminal;
 
 pub use connect::Connection;
 pub use he_proxy_request::{Listen, Proxy, SessionLog, SixUse, listen};
@@ -39,3 +40,4 @@ pub use live::Live;
 pub use names::Names;
 pub use probe::{Probe, ProbeForm};
 pub use request::{Request, read_words, takes_text};
+pub use terminal::Terminal;

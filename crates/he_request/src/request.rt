@@ -9,6 +9,7 @@ use crate::live::Live;
 use crate::meant::or_meant;
 use crate::names::Names;
 use crate::probe::Probe;
+use crate::terminal::Terminal;
 use crate::{
     check, compare, connect, draw, explain, host, live, names, order, probe, replay, summary,
 };
@@ -109,7 +110,7 @@ fn command_of<'a>(alloc: Global, name: &str) -> Result<Option<Command<'a>>, Memo
 }
 
 /// Reads the words of a command line, of which the first is the program's name; the version is what `--version`
-/// prints, and a terminal has this many columns.
+/// prints. Pictures are drawn for the terminal.
 ///
 /// # Errors
 ///
@@ -118,14 +119,14 @@ pub fn read_words<'a>(
     alloc: Global,
     words: &'a [&'a str],
     version: &'a str,
-    columns: u16,
+    terminal: Terminal,
 ) -> Result<Request<'a>, Refusal>
     ensures { IfOk result IsRequest }
 {
     let first = words.get(1).copied().unwrap_or("");
     let commands = commands_for(alloc, first)?;
     match command(alloc, version, commands)?.try_get_matches_from(words) {
-        Ok(matches) => request_of(alloc, &matches, columns),
+        Ok(matches) => request_of(alloc, &matches, terminal),
         Err(error) => Err(refusal_of(alloc, first, words, error)),
     }
 }
@@ -144,7 +145,7 @@ fn refusal_of(alloc: Global, first: &str, words: &[&str], error: Error) -> Refus
 fn request_of<'a>(
     alloc: Global,
     matches: &ArgMatches<'a>,
-    columns: u16,
+    terminal: Terminal,
 ) -> Result<Request<'a>, Refusal>
     ensures { IfOk result IsRequest }
 {
@@ -170,7 +171,7 @@ fn request_of<'a>(
             Ok(live) => Ok(Request::Live(live)),
             Err(fault) => Err(Refusal::Option(fault)),
         },
-        "draw" => draw::drawing_of(alloc, columns, matches).map(Request::Texts),
+        "draw" => draw::drawing_of(alloc, terminal, matches).map(Request::Texts),
         "compare" => compare::comparison_of(alloc, matches).map(Request::Texts),
         _ => texts_of(alloc, task_of(name, matches), None, matches).map(Request::Texts),
     }

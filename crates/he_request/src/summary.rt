@@ -19,7 +19,7 @@ const JSON_HELP: &str = "Write the sums as one JSON object, on one line";
 
 const METRICS_HELP: &str = "Write the counts and times as OpenMetrics text";
 
-const SLOWEST_HELP: &str = "Add the N slowest races that were won, each with its\nfile and line";
+const SLOWEST_HELP: &str = "Add the N slowest races that connected, each with\nits file and line";
 
 const BY_HELP: &str = "Write a row for each file, hour, family or host;\n\
 hours are those in the names by `he proxy --record`,\n\

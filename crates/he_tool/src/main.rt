@@ -5,11 +5,12 @@
 #![tactic(auto)]
 
 mod build;
+mod terminal;
 
 use build::VERSION;
 use he_command::{
-    Session, System, Variables, columns_of, read_words, report, report_not_text, report_path,
-    run_line, takes_text, tell_short_timeout, tell_waiting,
+    Session, System, Variables, read_words, report, report_not_text, report_path, run_line,
+    takes_text, tell_short_timeout, tell_waiting,
 };
 use he_inputs::{RaceStream, StreamFault};
 use he_relay::{NULL_DEVICE, Waiting, open_standard};
@@ -17,6 +18,7 @@ use he_stream::{FromReader, ToWriter};
 use std::io::IsTerminal;
 use std::process::ExitCode;
 use std::{env, io};
+use terminal::terminal_of;
 
 fn main(rt: HostRuntime) -> ExitCode {
     ExitCode::from(run_program(&rt, &rt))
@@ -68,7 +70,7 @@ where
         place: 0,
         unread: 0,
     };
-    let line = read_words(session.alloc, words, VERSION, columns_of(system));
+    let line = read_words(session.alloc, words, VERSION, terminal_of(system));
     tell_short_timeout(words, &line, &mut session.faults);
     if takes_text(&line) && rt.stdin().is_terminal() {
         tell_waiting(&mut session.faults);
