@@ -20,14 +20,12 @@ use he_record::{ClientEnd, Moment};
 use he_recording::{Facts as RecordFacts, Target, text_of};
 use he_sessions::{Winner, Won};
 use he_setup::{Families, KnownFacts, Nat64, facts_for, nat64_prefixes};
+use he_source::RaceSystem;
 use he_timeline::Timeline;
 use he_turns::Raced;
-use std::alloc::{AllocGlobal, Global};
+use std::alloc::Global;
 use std::mem::drop;
-use std::net::{Net, SocketAddr};
-use std::random::RandomSource;
-use std::rt::Files;
-use std::time::Clock;
+use std::net::SocketAddr;
 use tokio::net::TcpStream;
 
 /// The parts that a race needs at its end.
@@ -51,7 +49,7 @@ pub struct Keeping<'h, R> {
     pub embeds: bool,
 }
 
-impl<'h, R: Clock + Files + RandomSource + AllocGlobal + Net + Copy> Keeping<'h, R> {
+impl<'h, R: RaceSystem> Keeping<'h, R> {
     /// If the race's client has left, has the race end at its next poll.
     pub fn hear_leaving(&self) {
         if self.state.left.get() == Some(self.client) {

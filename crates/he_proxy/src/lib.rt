@@ -5,8 +5,8 @@
 //! session's race is that of `he connect`: it starts as set up by `he_setup`, its ticks are from `he_live`, and its
 //! turns are those of `he_turns`. Its record is a file in the records' directory, for `he replay`. Name servers'
 //! answers are shared with other races to the host: those that begin while the name servers are asked, and those
-//! within the TTL (`he_source`). The history of an address counts in later races for a day (`he_history`). A race whose
-//! client leaves ends at its next poll, and is recorded up to then. Each session is a line on standard error
+//! within the TTL (`he_source`). The history of an address counts in later races for a day (`he_history`). A race
+//! whose client leaves ends at its next poll, and is recorded up to then. Each session is a line on standard error
 //! (`he_log`); `GET /` is a page of the last hundred races, and `GET /proxy.pac` the proxy's auto-config file. Its
 //! counts are `GET /metrics` (`he_metrics`), and `GET /healthz` says that it serves.
 //!

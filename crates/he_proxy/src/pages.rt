@@ -7,6 +7,9 @@ use he_history::Recent;
 use he_metrics::{Metrics, Now};
 use std::alloc::Global;
 
+// The port of an http:// URL that has none (RFC 9110 section 4.2.1).
+const URL_PORT: u16 = 80;
+
 /// A GET to answer: its target, and the value of its field Host.
 #[derive(Clone, Copy)]
 pub struct Asked<'a> {
@@ -38,8 +41,8 @@ pub fn write_answer(
     asked: Asked<'_>,
     out: &mut Vec<u8>,
 ) -> Result<(), Memory> {
-    let (path, at) = (without_query(asked.path), asked.at);
-    if let Some(page) = page_asked(path, asked.host, at.ip, at.port)
+    let at = asked.at;
+    if let Some(page) = named_page(alloc, asked)?
         && (asked.is_near || is_for_all(page))
     {
         return write_own(alloc, at, shown, page, out);
@@ -47,6 +50,21 @@ pub fn write_answer(
     let mut advice = Vec::new(alloc);
     write_advice(at.ip, at.port, &mut advice)?;
     Ended::Command.write_response(&advice, out)
+}
+
+// The page that the request names. At the port of http:// URLs its field Host has no port (RFC 9110 section 7.2).
+fn named_page(alloc: Global, asked: Asked<'_>) -> Result<Option<Page>, Memory> {
+    let (path, at) = (without_query(asked.path), asked.at);
+    let page = page_asked(path, asked.host, at.ip, at.port);
+    match asked.host {
+        Some(host) if page.is_none() && at.port == URL_PORT => {
+            let mut authority = Vec::from_slice(alloc, host)?;
+            authority.extend_from_slice(b":80")?;
+            let named = Some(authority.as_slice());
+            Ok(page_asked(path, named, at.ip, at.port))
+        }
+        _ => Ok(page),
+    }
 }
 
 // Whether the page is for all clients: it says nothing of others' sessions.

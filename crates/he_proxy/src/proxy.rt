@@ -22,6 +22,7 @@ use he_loop::{Prefixes, SharedLoop};
 use he_metrics::Metrics;
 use he_sessions::{Limits, Racer};
 use he_setup::{ConnectFault, Lines, read_lines, start_race};
+use he_source::RaceSystem;
 use he_users::Users;
 use std::alloc::{AllocGlobal, Global};
 use std::cell::Cell;
@@ -29,7 +30,6 @@ use std::convert::Infallible;
 use std::io;
 use std::io::Write;
 use std::mem::drop;
-use std::net::Net;
 use std::random::RandomSource;
 use std::rt::Files;
 use std::sync::Wait;
@@ -51,7 +51,7 @@ pub fn serve<'a, R, F>(
 ) -> Result<Infallible, ProxyFault>
 where
     F: Write + Drop,
-    R: Wait + Clock + RandomSource + AllocGlobal + Net + Files + Copy,
+    R: RaceSystem + Wait,
 {
     let lines = read_lines_of(rt, alloc, request)?;
     serve_read(rt, alloc, &request.with_lines(lines.as_deref()), faults)
@@ -66,7 +66,7 @@ fn serve_read<'a, R, F>(
 ) -> Result<Infallible, ProxyFault>
 where
     F: Write + Drop,
-    R: Wait + Clock + RandomSource + AllocGlobal + Net + Files + Copy,
+    R: RaceSystem + Wait,
 {
     let users = read_users_of(rt, alloc, request.users)?;
     let mut runtime = LocalRuntime::new(rt)?;

@@ -7,12 +7,8 @@ use futures::task::{Context, Poll};
 use he_front::Ended;
 use he_loop::Joined;
 use he_sessions::Won;
+use he_source::RaceSystem;
 use he_turns::{RaceFault, Raced};
-use std::alloc::AllocGlobal;
-use std::net::Net;
-use std::random::RandomSource;
-use std::rt::Files;
-use std::time::Clock;
 use tokio::net::TcpStream;
 use tokio::time::Sleep;
 
@@ -39,7 +35,7 @@ impl<'h, R, F: Drop> LoopRace<'h, R, F> {
     }
 }
 
-impl<'h, R: Clock + Files + RandomSource + AllocGlobal + Net + Copy, F: Drop> LoopRace<'h, R, F> {
+impl<'h, R: RaceSystem, F: Drop> LoopRace<'h, R, F> {
     /// When it began, as in the name of its record.
     pub fn began(&self) -> &str {
         self.keeping.began.as_str()
@@ -48,7 +44,7 @@ impl<'h, R: Clock + Files + RandomSource + AllocGlobal + Net + Copy, F: Drop> Lo
 
 impl<'h, R, F> Future for LoopRace<'h, R, F>
 where
-    R: Clock + Files + RandomSource + AllocGlobal + Net + Copy,
+    R: RaceSystem,
     F: Future<Output = Result<Raced<Joined>, RaceFault>>,
 {
     type Output = Result<Won<TcpStream>, Ended>;

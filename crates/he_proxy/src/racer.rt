@@ -25,16 +25,13 @@ use he_metrics::{Event, Now};
 use he_recording::moment_now;
 use he_sessions::{PageAsked, RaceAsked, Racer, SessionEnd};
 use he_setup::{ConnectFault, ConnectRequest, Setup, set_up_any};
-use he_source::Earlier;
+use he_source::{Earlier, RaceSystem};
 use he_users::Users;
-use std::alloc::AllocGlobal;
 use std::io;
 use std::io::Write;
 use std::mem::drop;
 use std::net::{Net, SocketAddr};
-use std::random::RandomSource;
-use std::rt::Files;
-use std::time::{Clock, Instant};
+use std::time::Instant;
 use tokio::net::TcpStream;
 
 /// Races for the sessions, and reports on them.
@@ -48,7 +45,7 @@ pub struct LoopRacer<'h, R, F: Drop> {
 
 impl<'h, R, F> LoopRacer<'h, R, F>
 where
-    R: Clock + RandomSource + AllocGlobal + Net + Files + Copy,
+    R: RaceSystem,
     F: Write + Drop,
 {
     // The reach of the client's races.
@@ -176,7 +173,7 @@ where
 
 impl<'h, R, F> LoopRacer<'h, R, F>
 where
-    R: Clock + RandomSource + AllocGlobal + Net + Files + Copy,
+    R: RaceSystem,
     F: Write + Drop,
 {
     // Notes for the log why no race began for the client, and returns the reply to the client.
@@ -213,7 +210,7 @@ where
 
 impl<'h, R, F> Racer for LoopRacer<'h, R, F>
 where
-    R: Clock + RandomSource + AllocGlobal + Net + Files + Copy,
+    R: RaceSystem,
     F: Write + Drop,
 {
     type Stream = TcpStream;

@@ -10,26 +10,22 @@ use he_kernel::asked::AskedWays;
 use he_live::{LiveTicker, Quiet, Steps};
 use he_loop::{Joined, LoopConnector, Progress, RaceTicker, Reach, SharedLoop, Target};
 use he_setup::{ConnectFault, LookupFaults, Setup};
-use he_source::{Earlier, SessionAnswers, answers_of};
+use he_source::{Earlier, RaceSystem, SessionAnswers, answers_of};
 use he_turns::{RaceFault, Raced, ResolvingRace};
-use std::alloc::{AllocGlobal, Global};
-use std::net::Net;
-use std::random::RandomSource;
-use std::rt::Files;
-use std::time::Clock;
+use std::alloc::Global;
 
 /// The race on the sockets of the event loop.
 #[derive(Drop)]
 pub struct SocketRace<'h, R>
 where
-    R: Clock + RandomSource + AllocGlobal + Net + Files + Copy,
+    R: RaceSystem,
 {
     race: ResolvingRace<LoopConnector<'h, R>, SessionAnswers<'h, R>, RaceTicker<'h, R>>,
 }
 
 impl<'h, R> Future for SocketRace<'h, R>
 where
-    R: Clock + RandomSource + AllocGlobal + Net + Files + Copy,
+    R: RaceSystem,
 {
     type Output = Result<Raced<Joined>, RaceFault>;
 
@@ -84,7 +80,7 @@ pub fn socket_race<'h, R>(
     noted: &Noted,
 ) -> Result<SocketRace<'h, R>, ConnectFault>
 where
-    R: Clock + RandomSource + AllocGlobal + Net + Files + Copy,
+    R: RaceSystem,
     ensures can { IfOk result ⟦<SocketRace<'h, R> as Future>⟧.can_poll }
     ensures runs { KnowsHost setup.now → IfOk result (λ race. (raced : _)
         → ⟦<SocketRace<'h, R> as Future>⟧.gives race (Ok raced) → RunsFrom R setup.now reach.entry raced) }
