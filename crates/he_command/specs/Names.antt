@@ -21,8 +21,8 @@ abbrev pub names_output : Bool → List ℕ → Answers → List ℕ
 names_output true host found = names_text host (answer_of families.V6 found) (answer_of families.V4 found)
 names_output false host found = answers_text found
 
--- The addresses are written: names are found if all of that is. The status is FAULT also if one family's look-up failed
--- and the other's addresses were written.
+-- The addresses are written: names are found if all of that is. The status is FAULT also if one family's look-up
+-- failed and the other's addresses were written.
 abbrev pub ShowsNames : {O : Type 0} → outputs.Ghosts O → Names → Answers → O → O → NamesEnd → Type 0
 ShowsNames output names found before after end =
     (shown : ℕ) × ShowsSuch output (λ text. text ≡ names_output names.is_json names.host.now found) before after shown

@@ -25,7 +25,8 @@
 //!   writes nothing to the output, and the status is 2, or 1 if an allocation failed, or 3 if it is that of a check.
 //!
 //! Tested only: which files are opened and when they get their names, which answers and which machine are found, the
-//! tables and the metrics of `he probe`, the file of its records, the line of a check, and the text of help and faults.
+//! tables and the metrics of `he probe`, the file of its records, the line of a check, and the text of help and
+//! faults.
 #![tactic(auto)]
 
 mod check;
@@ -44,9 +45,9 @@ pub mod run;
 pub mod system;
 pub mod words;
 
-pub use he_request::{read_words, takes_text};
+pub use he_request::{Terminal, read_words, takes_text};
 pub use he_tasks::Session;
 pub use he_tasks::reports::{report, report_path};
 pub use run::{run_line, run_words};
-pub use system::{System, Variables, columns_of};
+pub use system::{System, Variables};
 pub use words::{report_not_text, tell_short_timeout, tell_waiting};

@@ -214,12 +214,17 @@ fn table_of(
 ) -> Result<Vec<u8>, Memory> {
     let heading = heading(alloc, probe, request, round)?;
     let table = table(alloc, &heading, request, round)?;
-    if !is_later {
-        return Ok(table);
+    if is_later {
+        after_empty_line(alloc, &table)
+    } else {
+        Ok(table)
     }
+}
+
+fn after_empty_line(alloc: Global, table: &[u8]) -> Result<Vec<u8>, Memory> {
     let mut text = Vec::new(alloc);
     text.push(b'\n')?;
-    text.extend_from_slice(&table)?;
+    text.extend_from_slice(table)?;
     Ok(text)
 }
 
@@ -341,8 +346,5 @@ fn show_closing<R, O: OutputStream, F: Write>(
 
 fn closing_text(alloc: Global, rows: &[AddressRow]) -> Result<Vec<u8>, Memory> {
     let table = totals_table(alloc, rows)?;
-    let mut text = Vec::new(alloc);
-    text.push(b'\n')?;
-    text.extend_from_slice(&table)?;
-    Ok(text)
+    after_empty_line(alloc, &table)
 }

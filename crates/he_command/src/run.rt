@@ -12,13 +12,13 @@ use crate::live::run_live;
 use crate::names::run_names;
 use crate::probe::run_probe;
 use crate::proxy::run_proxy;
-use crate::system::{System, Variables, columns_of};
+use crate::system::{System, Variables};
 use crate::words::tell_short_timeout;
 use he_inputs::StreamFault;
 use he_names::Environment;
 use he_options::Refusal;
 use he_options::shown::shown_lines;
-use he_request::{Request, read_words};
+use he_request::{Request, Terminal, read_words};
 use he_stream::{FromReader, InputStream, OutputStream, ToWriter};
 use he_tasks::reports::report;
 use he_tasks::session::put_all;
@@ -40,7 +40,7 @@ pub fn run_words<'a, R: System, I: InputStream, O: OutputStream + Send, F: Write
         × RunsLine I.InputStream ⟦<FromReader<R::File> as InputStream>⟧ ⟦<ToWriter<R::File> as OutputStream>⟧
         O.OutputStream environment words.now line input.old input.new session.old.output session.new.output result }
 {
-    let line = read_words(session.alloc, words, VERSION, columns_of(session.system));
+    let line = read_words(session.alloc, words, VERSION, Terminal::USUAL);
     tell_short_timeout(words, &line, &mut session.faults);
     let variables = Variables::read(session.system);
     run_line(session, words, line, variables.environment(), input)

@@ -1,7 +1,6 @@
 //! The system that a run of the program uses.
 
 use he_names::Environment;
-use he_options::limits::{DEFAULT_WIDTH, LEAST_WIDTH, MOST_WIDTH};
 use he_resolver::SystemResolver;
 use he_tasks::TaskSystem;
 use std::env;
@@ -17,17 +16,6 @@ impl<R> System for R
 where
     R: TaskSystem + Env + Net + SystemResolver + Wait + Clock + Copy + Send + 'static,
 {}
-
-/// The columns of the terminal, by COLUMNS: 40 to 1,000, and 80 if it is not a number.
-pub fn columns_of<R: System>(rt: &R) -> u16 {
-    let Ok(text) = env::var(rt, "COLUMNS") else {
-        return DEFAULT_WIDTH;
-    };
-    match text.parse::<u16>() {
-        Ok(columns) => columns.max(LEAST_WIDTH).min(MOST_WIDTH),
-        Err(_) => DEFAULT_WIDTH,
-    }
-}
 
 /// The environment variables that change the resolver configuration.
 #[derive(Drop)]
