@@ -61,8 +61,8 @@ fn is_of_words(kind: TextKind) -> bool
     }
 }
 
-// The likely meaning of the first word of the line that has one. The host of a record line has none, and so has what is
-// no text.
+// The likely meaning of the first word of the line that has one. The host of a record line has none, and so has what
+// is no text.
 #[tactic(auto, unfolding(crate::specs::Clauses::line_meant))]
 fn line_meant(line: &[u8]) -> Option<Meant>
     ensures { result ≡ line_meant line.now }

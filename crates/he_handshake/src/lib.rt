@@ -1,8 +1,8 @@
 //! A client's handshake with a proxy: the message or the request with which its octets begin, and the replies.
 //!
 //! A client of SOCKS 5 greets, shows a name and a password if it is asked for them, and requests (RFC 1928, RFC 1929);
-//! one of SOCKS 4 or HTTP requests at once. A [`Stage`] is how far it has come. This crate reads and writes octets, and
-//! has no sockets: `he_front` and `he_forward` parse the single messages.
+//! one of SOCKS 4 or HTTP requests at once. A [`Stage`] is how far it has come. This crate reads and writes octets,
+//! and has no sockets: `he_front` and `he_forward` parse the single messages.
 //!
 //! Proved, for all octets, users and stages:
 //!

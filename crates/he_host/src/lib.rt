@@ -1,8 +1,8 @@
 //! This machine's own sources and routes, by Linux's `/proc/net` and the interfaces' files in `/sys/class/net`.
 //!
 //! [`machine::read_machine`] returns the sources and routes of the machine that it runs on, and appends a remark for
-//! each thing that a race leaves out or that is a guess. [`host::find_routes`] and [`host::find_host`] find them in the
-//! bytes of the files. For questions that the files leave open, the kernel is asked (`he_kernel`).
+//! each thing that a race leaves out or that is a guess. [`host::find_routes`] and [`host::find_host`] find them in
+//! the bytes of the files. For questions that the files leave open, the kernel is asked (`he_kernel`).
 //!
 //! Proved, for all bytes: each line of a file is read by the kernel's columns and flags (`specs/Ipv6Route`,
 //! `Ipv4Route`, `FibTrie`, and those of `he_kernel`); routes are sorted by prefix length (0 to 32 for IPv4), then by

@@ -239,8 +239,8 @@ fn ask_host<R: Net + AllocGlobal>(
     Ok(found)
 }
 
-/// The sources and routes of this machine. Appends a remark for each thing that is left out or is a guess, and for each
-/// file that exists but can't be read.
+/// The sources and routes of this machine. Appends a remark for each thing that is left out or is a guess, and for
+/// each file that exists but can't be read.
 ///
 /// # Errors
 ///

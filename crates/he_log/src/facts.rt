@@ -91,8 +91,8 @@ impl SessionFacts {
         self.noted.set(noted);
     }
 
-    /// Appends what the lost race of this client tried, or why there was nothing to try: `: 2001:db8::1, 198.51.100.1`,
-    /// `: no such name`. Nothing if the client may not reach its target.
+    /// Appends what the lost race of this client tried, or why there was nothing to try: `: 2001:db8::1,
+    /// 198.51.100.1`, `: no such name`. Nothing if the client may not reach its target.
     ///
     /// # Errors
     ///
