@@ -115,7 +115,7 @@ complete -c he -n '__fish_seen_subcommand_from summary' -F
 complete -c he -n '__fish_seen_subcommand_from summary' -l files0-from -r -F -d 'Read the files named in FILE (- is standard input), each name ended by a NUL byte'
 complete -c he -n '__fish_seen_subcommand_from summary' -l json -d 'Write the sums as one JSON object, on one line'
 complete -c he -n '__fish_seen_subcommand_from summary' -l openmetrics -d 'Write the counts and times as OpenMetrics text'
-complete -c he -n '__fish_seen_subcommand_from summary' -l slowest -x -d 'Add the N slowest races that were won, each with its file and line'
+complete -c he -n '__fish_seen_subcommand_from summary' -l slowest -x -d 'Add the N slowest races that connected, each with its file and line'
 complete -c he -n '__fish_seen_subcommand_from summary' -l by -x -a 'file hour family host' -d 'Write a row for each file, hour, family or host'
 complete -c he -n '__fish_seen_subcommand_from summary' -l keep-going -d 'Go on to the next file after a faulty one'
 complete -c he -n '__fish_seen_subcommand_from summary' -l set -x -a 'attempt= resolution= count= limit= floor=' -d 'Override a setting in every race'

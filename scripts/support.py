@@ -36,6 +36,7 @@ KEPT = pathlib.Path("fuzz-found")  # where a text is kept that was drawn, and is
 TIMEOUT = 60  # seconds, of a run that never ends
 ALONE = 0.1  # seconds in which this machine answers itself
 os.environ["PATH"] += ":/usr/sbin:/sbin"  # where dnsmasq, sshd and ip may be
+os.environ["LC_ALL"] = "C.UTF-8"  # in which pictures are not drawn in ASCII
 # The parts of each harness, scripts/parts/NAME.py, in their order.
 PARTS = {
     "examples": "examples lines page documents documents_parallel manual installed architecture edits "

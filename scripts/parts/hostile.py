@@ -193,7 +193,8 @@ def check_full_disk():
 
 def check_names():
     """Files: as many names as a line takes; a fault of a pipe, which gives its bytes once, is reported at once with -v
-    too; names and words that would control a terminal are shown."""
+    too; names and words that would control a terminal are shown; of a directory, a name that is not UTF-8 is reported,
+    and the other files are read."""
     most = resource.getrlimit(resource.RLIMIT_STACK)[1]
     ran = he("replay", *["-"] * 130_000, timeout=600, **limited("STACK", most))
     ends("replay, 130,000 names", ran)
@@ -214,6 +215,13 @@ def check_names():
     ends("replay, such a name without a file", ran, 1, f"he: {shown}.no: {NO_FILE}")
     ends("replay, a word that controls a terminal", he("replay", "--\033[2J"), 2,
          "he: unexpected argument '--\\x1b[2J' found", is_first=True)
+    folder = OPTIONS.folder / "not-utf8"
+    folder.mkdir()
+    (folder / "a.timeline").write_bytes(RACE)
+    (pathlib.Path(os.fsdecode(os.fsencode(folder) + b"/\xff.timeline"))).write_bytes(RACE)
+    fault = f"he: {folder}/(a name that is not UTF-8).timeline: {NO_FILE}"
+    ends("summary of a directory, a name that is not UTF-8", he("summary --keep-going", folder), 1,
+         f"{fault}\nhe: 1 file not read to its end", he("summary", FILE).stdout)
 
 
 def check_faults():

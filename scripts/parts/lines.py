@@ -3,6 +3,7 @@
 A line that begins with `$` has the words of a run, in which `\\x1b` is such a byte. The lines after it, up to an empty
 one, may be:
   < FILE     its input, a file beside it: one-race.timeline where no line says otherwise
+  env A=TEXT a variable of its environment, which has COLUMNS and the locale from these lines alone
   reset      the input breaks off after its bytes
   room N     the output takes N bytes and no more
   = N        the status: 0 where no line says otherwise
@@ -11,6 +12,7 @@ one, may be:
 These lines are all that is written. Where the last of them ends with `…`, anything may follow in its place. Each run is
 repeated with a full device as standard error: status and output stay as they are.
 """
+import os
 import pathlib
 import re
 import resource
@@ -23,6 +25,7 @@ from support import DATA, OPTIONS, set_to_reset, tell
 
 LINES = pathlib.Path(__file__).parent.parent / "lines"
 SECONDS = 30
+TERMINAL = "COLUMNS", "LC_ALL", "LC_CTYPE", "LANG"
 ESCAPED = re.compile(r"\\x([0-9a-f]{2})")
 
 
@@ -35,6 +38,7 @@ class Row:
 
     def __init__(self, block):
         self.input, self.breaks_off, self.room, self.status = "one-race.timeline", False, None, 0
+        self.environment = {name: text for name, text in os.environ.items() if name not in TERMINAL}
         self.written = {"1>": [], "2>": []}
         for line in block.split("\n"):
             mark, _, rest = line.partition(" ")
@@ -42,6 +46,8 @@ class Row:
                 self.words = [ESCAPED.sub(byte_of, word) for word in shlex.split(rest)[1:]]
             elif mark == "<":
                 self.input = rest
+            elif mark == "env":
+                self.environment.update([rest.split("=", 1)])
             elif mark == "reset":
                 self.breaks_off = True
             elif mark == "room":
@@ -89,7 +95,7 @@ def run_of(row, errors=subprocess.PIPE):
     bound = None if row.room is None else lambda: resource.setrlimit(resource.RLIMIT_FSIZE, (row.room, row.room))
     with input_of(row) as given, output.open("wb") as written:
         ran = subprocess.run([OPTIONS.program, *row.words], stdin=given, stdout=written, stderr=errors, cwd=DATA,
-                             preexec_fn=bound, restore_signals=False, timeout=SECONDS)
+                             preexec_fn=bound, restore_signals=False, timeout=SECONDS, env=row.environment)
     return ran.returncode, output.read_bytes(), ran.stderr
 
 

@@ -101,9 +101,9 @@ def bars(row, end):
     return [] if row.first == " " else [("dot", row.start)]
 
 
-def section(file, number, race):
+def section(file, name, number, race):
     end = race.report.result.tick
-    heading = f"{end} ms {plain_story.heading(number, race)}{plain_story.result(race, race.report)}"
+    heading = f"{end} ms {plain_story.heading(number, race, name)}{plain_story.result(race, race.report)}"
     anchor = f"race-{number}" + (f"-of-{file + 1}" if file else "")
     rows = [[row.label, row.words, bars(row, end)] for row in plain_drawn.rows(race)]
     # (a line end after the tag is none of the text)
@@ -142,7 +142,8 @@ def faults_of(words, texts):
     shown = Page(page.read_text(encoding="utf-8"))
     files = [read(text, plain.changes_of(words[1:])) for text in texts]
     races = [race for file in files for race in file]
-    wanted = [section(place, number, race) for place, file in enumerate(files) for number, race in enumerate(file, 1)]
+    wanted = [section(place, texts[place], number, race) for place, file in enumerate(files)
+              for number, race in enumerate(file, 1)]
     shown.sections = [one._replace(story=[one.story[0].removeprefix("\n")]) for one in shown.sections]
     faults = shown.faults
     if shown.sections != wanted:

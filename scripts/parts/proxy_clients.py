@@ -312,6 +312,21 @@ def check_where_it_came():
                 must(wanted in got, wide, at, path, got)
 
 
+def check_port_of_urls():
+    """At port 80, which clients leave out of the field Host (RFC 9110 section 7.2), the pages are served with the port
+    in it and without, and under no other name."""
+    listens = ["--listen", f"{FOUR}:80"] + (["--listen", "[::1]:80"] if support.has_six() else [])
+    with Proxy(*listens):
+        for at in [FOUR, "::1"][:len(listens) // 2]:
+            must(comes(lambda: is_reached(at, 80), SOON), "does not listen at port 80")
+            name = f"[{at}]" if ":" in at else at
+            for host, status in ((name, 200), (f"{name}:80", 200), (f"{name}:81", 501), ("other.test", 501)):
+                with socket.create_connection((at, 80), SOON) as client:
+                    client.sendall(f"GET /proxy.pac HTTP/1.1\r\nHost: {host}\r\n\r\n".encode())
+                    got = all_of(client).decode()
+                must(got.startswith(f"HTTP/1.1 {status} "), host, got)
+
+
 # Where it listens
 
 

@@ -11,6 +11,7 @@ from concurrent.futures import ThreadPoolExecutor
 
 import support
 from parts.proxy import HE, SOON, Proxy, destination, socks
+from parts.proxy_log import facts, record_lines_of
 from support import FOUR, SIX, Zone, comes, greet, must, serving, timed, unused_port
 
 SETUP = support.NETWORK
@@ -35,6 +36,52 @@ def check_kept_answers():
         time.sleep(5.5)
         reach("lacks", 4, 4)
     must("exhausted" in support.run(HE, "replay", input=last).stdout, f"a record: {last!r}")
+
+
+class Lacking(Zone):
+    """A zone that answers after 300 ms; `lacks` is no name, `empty` has no address, and `four` none for IPv6."""
+
+    def replies(self, query, stream):
+        label, is_six = support.labels_of(query)[0], support.kind_of(query) == support.AAAA
+        is_empty = label == "empty" or label == "four" and is_six
+        replies = [(0, support.message(query, []))] if is_empty else super().replies(query, stream)
+        return [(0.3, reply) for _, reply in replies]
+
+
+NONE = b"the host has no address that could be reached: "
+LACKS = [  # a name, how the reply ends, the word of the log and of the record, and the families that lack an address
+    ("lacks", NONE + b"no such name\n", "no-such-name", ["aaaa", "a"]),
+    ("empty", NONE + b"the name has no address\n", "no-address", ["aaaa", "a"]),
+    ("four", b"hello\n", "no-address", ["aaaa"]),
+]
+
+
+def must_give_reasons(proxy, port, tried, rows):
+    """A race that asks for each name, one that waits for it, and a later one all give the reason of this row, and that
+    a family was not asked for."""
+    for name, end, word, lacking in rows:
+        begun, request = len(proxy.lines()), f"CONNECT {name}.test.:{port} HTTP/1.1\r\n\r\n".encode()
+        with ThreadPoolExecutor(2) as pool:
+            answers = list(pool.map(proxy.answer, [request] * 2))
+        answers.append(proxy.answer(request))
+        must(all(answer.endswith(end) for answer in answers), f"{name}: {answers}")
+        must(comes(lambda: len(proxy.lines()) == begun + 3, SOON), f"{name}: {proxy.said()!r}")
+        for said in map(facts, proxy.lines()[begun:]):
+            must(said.get("fault") == (word if end.startswith(NONE) else None), f"{name}: {said}")
+            lines = [line for line in record_lines_of(proxy, said) if line.startswith("lookup ")]
+            must(lines == [f"lookup {family} {word if family in tried else 'not-asked'}" for family in ("aaaa", "a")
+                           if family in lacking or family not in tried], f"{name}: {lines}")
+
+
+@timed
+def check_kept_reasons():
+    """Why a name has no address is kept like an address, and is in the reply, in the log and in the record of each
+    client that asks for the name meanwhile, also if only one family is tried."""
+    for options, tried, rows in ((), ["aaaa", "a"], LACKS), (["-6"], ["aaaa"], LACKS[:2]), (["-4"], ["a"], LACKS[:2]):
+        with Lacking() as zone, Proxy("--resolver", zone.at, *options) as proxy, serving(greet) as port:
+            must_give_reasons(proxy, port, tried, rows)
+            asked = [zone.asked(name) for name, *_ in rows]
+            must(asked == [len(tried)] * len(rows), f"queries: {asked}")
 
 
 @timed
