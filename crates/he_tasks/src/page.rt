@@ -38,8 +38,8 @@ pub(crate) fn put_head<O: OutputStream>(alloc: Global, output: &mut O) -> Result
     put_text(&head, output)
 }
 
-// Puts the parts of a page for the races of the text of this name, and adds these races to those whose totals end the page. After a
-// fault of the output, or without memory for a race, there are no sums, and so no totals.
+// Puts the parts of a page for the races of the text of this name, and adds these races to those whose totals end the
+// page. After a fault of the output, or without memory for a race, there are no sums, and so no totals.
 pub(crate) fn put_sections<R, I: InputStream, O: OutputStream, F>(
     session: &mut Session<'_, '_, R, O, F>,
     changes: Changes,
